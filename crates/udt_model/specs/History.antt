@@ -1,0 +1,76 @@
+-- Histories of one socket, and what can be read off them.
+use Rattle.std.specs.Prelude.{◌≡◌, ℕ, List, [], ◌∷◌, ◌++◌, take, Result, Ok, Err}
+use Rattle.udt_model.specs.declared.answers.Refusal.{Refusal}
+use Rattle.udt_model.specs.State.{State, Datagram}
+use Rattle.udt_model.specs.Step.{Act, Send, Recv, Pack, Arrive, Event, Reply, Sent, Received, DidPack, DidHear, step}
+
+-- an event with its answer and what it emitted, made by the holder of the pass with this number
+pub record Item : Type 0 where
+  pub pass : ℕ
+  pub event : Event
+  pub reply : Reply
+  pub outs : List Datagram
+
+-- where a socket began, and all that happened to it since
+pub record History : Type 0 where
+  pub opening : State
+  pub items : List Item
+
+-- the state after these items
+unfoldable pub after_items : State → List Item → State
+after_items s [] = s
+after_items s (item ∷ items) = after_items (step s item.event).after items
+
+-- the state that a history leads to
+abbrev pub state_of : History → State
+state_of h = after_items h.opening h.items
+
+-- each item's reply and datagrams are what the machine gives after the items before it
+unfoldable pub AreLegal : State → List Item → Type 0
+AreLegal s [] = Unit {0}
+AreLegal s (item ∷ items) =
+    (item.reply ≡ (step s item.event).reply) × (item.outs ≡ (step s item.event).outs) × AreLegal (step s item.event).after items
+
+abbrev pub IsLegal : History → Type 0
+IsLegal h = AreLegal h.opening h.items
+
+-- the history with one more event, made under this pass
+abbrev pub happened : History → ℕ → Event → History
+happened h pass event = record h {
+  items = h.items ++ record {
+    pass = pass;
+    event = event;
+    reply = (step (state_of h) event).reply;
+    outs = (step (state_of h) event).outs;
+  } ∷ [];
+}
+
+-- the offset at which the directions of the socket begin
+abbrev pub start_of : History → ℕ
+start_of h = h.opening.sending.acked
+
+-- the bytes that an event took
+abbrev pub taken_by : Act → Reply → List ℕ
+taken_by (Send bytes) (Sent (Ok count)) = take count bytes
+taken_by act reply = []
+
+-- the bytes that an event gave
+abbrev pub given_by : Reply → List ℕ
+given_by (Received (Ok bytes)) = bytes
+given_by reply = []
+
+unfoldable pub accepted_by : List Item → List ℕ
+accepted_by [] = []
+accepted_by (item ∷ items) = taken_by item.event.act item.reply ++ accepted_by items
+
+unfoldable pub delivered_by : List Item → List ℕ
+delivered_by [] = []
+delivered_by (item ∷ items) = given_by item.reply ++ delivered_by items
+
+-- the bytes that sends took, joined in order
+abbrev pub accepted : History → List ℕ
+accepted h = accepted_by h.items
+
+-- the bytes that receives gave, joined in order
+abbrev pub delivered : History → List ℕ
+delivered h = delivered_by h.items

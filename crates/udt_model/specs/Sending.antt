@@ -1,0 +1,107 @@
+-- The sending half: what a send takes, and which block is sent next.
+use Rattle.std.specs.Prelude.{◌≡◌, ℕ, zero, suc, ◌+◌, ◌-◌, ◌*◌, ◌/◌, ◌%◌, ◌^◌, ◌==◌, min, Bool, true, false, List, [], ◌∷◌, ◌++◌, length, take, drop, Option, Some, None, Result, Ok, Err, slice_get, nat_lt, if◌then◌else◌}
+use Rattle.udt_model.specs.declared.limits.TheConstants.{PACKET_LIMIT, LAST_MESSAGE}
+use Rattle.udt_model.specs.declared.answers.Refusal.{Refusal}
+use Rattle.udt_model.specs.declared.answers.Refusal.TheVariants as refusal
+use Rattle.udt_model.specs.Numbers.{wire_number}
+use Rattle.udt_model.specs.State.{KeptBlock, Sending}
+
+-- ---- accepting
+
+-- the first offset that no block has yet
+abbrev pub end_of : Sending → ℕ
+end_of s = s.acked + length s.kept
+
+-- how many more blocks the direction may ever carry
+abbrev pub room_of : Sending → ℕ
+room_of s = PACKET_LIMIT - end_of s
+
+-- how many more blocks may be kept now
+abbrev pub free_of : Sending → ℕ
+free_of s = s.blocks - length s.kept
+
+-- how many of so many bytes fit into the free blocks
+abbrev pub fitting : Sending → ℕ → ℕ
+fitting s len = min len (min (free_of s * s.payload) (room_of s * s.payload))
+
+-- what a stream's send answers: how many bytes it takes, or why it takes none
+unfoldable pub send_answer : Sending → ℕ → Result ℕ Refusal
+send_answer s len =
+    if len == 0
+    then Ok 0
+    else (if room_of s == 0 then Err refusal.Spent else (if free_of s == 0 then Err refusal.AgainSend else Ok (fitting s len)))
+
+-- how many blocks of this payload so many bytes fill
+abbrev pub blocks_for : ℕ → ℕ → ℕ
+blocks_for len payload = (len + payload - 1) / payload
+
+-- the bytes cut into so many blocks of one message, the last of which may be shorter
+unfoldable pub cut : ℕ → ℕ → ℕ → Bool → List ℕ → List KeptBlock
+cut zero payload message first bytes = []
+cut (suc more) payload message first bytes =
+    record { flags = record { first = first; last = more == 0; order = false; message = message }; bytes = take payload bytes }
+    ∷ cut more payload message false (drop payload bytes)
+
+-- the number of the message after this one
+abbrev pub message_after : ℕ → ℕ
+message_after message = if message == LAST_MESSAGE then 1 else message + 1
+
+-- the half with one more message, of these bytes
+abbrev pub with_message : Sending → List ℕ → Sending
+with_message s bytes = record s {
+  kept = s.kept ++ cut (blocks_for (length bytes) s.payload) s.payload s.message true bytes;
+  message = message_after s.message;
+}
+
+-- the half after a send of these bytes was so answered. Bytes that are taken are a message
+abbrev pub after_answer : Sending → List ℕ → Result ℕ Refusal → Sending
+after_answer s bytes (Ok zero) = s
+after_answer s bytes (Ok (suc n)) = with_message s (take (suc n) bytes)
+after_answer s bytes (Err why) = s
+
+unfoldable pub after_send : Sending → List ℕ → Sending
+after_send s bytes = after_answer s bytes (send_answer s (length bytes))
+
+-- ---- packing
+
+-- the control's window in packets, and its period between two packets in nanoseconds: no control is asked yet
+abbrev pub window : ℕ
+window = 16
+
+abbrev pub period : ℕ
+period = 0
+
+-- what packing does: it waits until a moment, sends a block, or has nothing to send
+pub data Packing : Type 0 where
+  Waits : (until : ℕ) → Packing
+  Sends : (block : KeptBlock) → Packing
+  Idles : Packing
+
+-- the first block that was never sent, where there is one
+abbrev pub unsent : Sending → Option KeptBlock
+unsent s = slice_get s.kept (s.next - s.acked)
+
+-- a block is sent where fewer are under way than both windows allow
+abbrev pub sends : Sending → Option KeptBlock → Packing
+sends s None = Idles
+sends s (Some block) = if nat_lt (s.next - s.acked) (min s.flow window) then Sends block else Idles
+
+-- what packing does at this moment, in microseconds
+unfoldable pub packing : Sending → ℕ → Packing
+packing s now = if nat_lt (1000 * now) s.due then Waits ((s.due + 999) / 1000) else sends s (unsent s)
+
+-- the moment before which nothing is sent after the block with this wire number. Two packets in a row measure the link
+abbrev pub due_after : ℕ → ℕ → ℕ
+due_after number now = if number % 16 == 0 then 1000 * now else 1000 * now + period
+
+-- the half after its next block was sent
+abbrev pub after_block : Sending → ℕ → Sending
+after_block s now = record s { next = s.next + 1; due = due_after (wire_number s.isn s.next) now }
+
+abbrev pub after_packing : Sending → ℕ → Packing → Sending
+after_packing s now (Waits until) = s
+after_packing s now (Sends block) = after_block s now
+after_packing s now Idles = s
+
+unfoldable pub after_pack : Sending → ℕ → Sending
+after_pack s now = after_packing s now (packing s now)
