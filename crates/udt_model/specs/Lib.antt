@@ -6,3 +6,6 @@ pub mod Sending
 pub mod Receiving
 pub mod Step
 pub mod History
+pub mod Words
+pub mod Lines
+pub mod Script
