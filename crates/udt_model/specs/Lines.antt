@@ -1,7 +1,7 @@
 -- The forms of a script's lines.
 use Rattle.std.specs.Prelude.{ℕ, ◌+◌, ◌-◌, ◌^◌, ◌==◌, ◌&&◌, Bool, false, List, [], ◌∷◌, Option, Some, None, codes, if◌then◌else◌}
 use Rattle.udt_model.specs.declared.limits.TheConstants.{MOST_PAYLOAD, FEWEST_BLOCKS, MOST_BLOCKS, LAST_START, LAST_MOMENT}
-use Rattle.udt_model.specs.Words.{◌>>=◌, words_of, is_word, name_of, number_of, number_within, bytes_of}
+use Rattle.udt_model.specs.Words.{◌>>=◌, words_of, is_word, name_of, number_within, bytes_of}
 
 -- two stream sockets that are to be paired: their names, the bytes and number of their blocks, the initial number and
 -- the offset at which both directions begin
@@ -72,10 +72,10 @@ pack_line name (now ∷ []) = do
   Some (PackLine name now)
 pack_line name words = None
 
--- deliver K T
+-- deliver K T. No script prints 2^64 datagrams
 unfoldable pub deliver_line : List ℕ → List (List ℕ) → Option Line
 deliver_line number (now ∷ []) = do
-  number ← number_of number
+  number ← number_within 0 (2 ^ 64 - 1) number
   now ← moment_of now
   Some (DeliverLine number now)
 deliver_line number words = None

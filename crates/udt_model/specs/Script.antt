@@ -195,9 +195,9 @@ unfoldable pub paired : Network → Pairing → Printed
 paired n p = record {
   network = record n {
     seats = n.seats
-      ++ paired_seat p p.a first_host (length n.seats + 1) second_host (length n.seats + 2)
-      ∷ paired_seat p p.b second_host (length n.seats + 2) first_host (length n.seats + 1)
-      ∷ [];
+        ++ paired_seat p p.a first_host (length n.seats + 1) second_host (length n.seats + 2)
+        ∷ paired_seat p p.b second_host (length n.seats + 2) first_host (length n.seats + 1)
+        ∷ [];
   };
   text = pair_text p (length n.seats);
 }
