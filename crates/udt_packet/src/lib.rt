@@ -1,0 +1,16 @@
+//! The packet numbers and the packets of UDT, and the bytes that spell them.
+#![tactic(auto)]
+
+mod numbers;
+mod packet;
+mod reading;
+
+
+pub use numbers::{near, seq_of};
+pub use packet::Packet;
+pub use reading::{read, target};
+pub use udt_model::{Config, Flags, Kind, Malformed};
+
+
+
+
