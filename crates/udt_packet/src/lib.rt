@@ -4,13 +4,10 @@
 mod numbers;
 mod packet;
 mod reading;
-
+mod writing;
 
 pub use numbers::{near, seq_of};
 pub use packet::Packet;
 pub use reading::{read, target};
 pub use udt_model::{Config, Flags, Kind, Malformed};
-
-
-
-
+pub use writing::{append, size, write};
