@@ -9,6 +9,7 @@ mod sink;
 mod source;
 #[cfg(test)]
 mod tests;
+mod writing;
 
 pub use failed::{Failed, OutOfMemory};
 pub use memory_sink::MemorySink;
@@ -16,3 +17,4 @@ pub use memory_source::MemorySource;
 pub use sink::Sink;
 pub use source::Source;
 pub use udt_model::{Addr, Family, Ip};
+pub use writing::write_addr;
