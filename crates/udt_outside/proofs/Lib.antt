@@ -1,1 +1,4 @@
 pub mod WritingLemmas
+pub mod NumberLemmas
+pub mod ReadingLemmas
+pub mod GroupLemmas
