@@ -1,5 +1,5 @@
 -- The code's packets, as the definitions of the protocol see them.
-use Rattle.std.specs.Prelude.{◌≡◌, ℕ, List, length, drop, Result, Ok, Err}
+use Rattle.std.specs.Prelude.{Result, Ok, Err}
 use Rattle.udt_model.specs.declared.packets.Malformed.{Malformed}
 use Rattle.udt_model.specs.Wire as wire
 use Rattle.udt_packet.specs.declared.packet.Packet.{Packet}

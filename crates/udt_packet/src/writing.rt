@@ -53,6 +53,15 @@ fn put(into: &mut [u8], place: usize, bytes: &[u8]) -> usize
     end
 }
 
+// Adds the bytes behind what is in `into`, within its room.
+fn extend(into: &mut Vec<u8>, bytes: &[u8])
+    requires { length (into.old.items ++ bytes.now) ≤ vec_capacity into.old }
+    ensures items { into.new.items ≡ into.old.items ++ bytes.now }
+    ensures capacity { vec_capacity into.old ≤ vec_capacity into.new }
+{
+    let _ = into.extend_from_slice(bytes);
+}
+
 /// How many bytes spell the packet.
 #[tactic(auto, unfolding(udt_model::specs::Wire::spelling))]
 pub fn size(packet: &Packet) -> usize
@@ -89,9 +98,8 @@ pub fn append(packet: &Packet, into: &mut Vec<u8>)
 {
     match packet {
         Packet::Block { seq, flags, stamp, dest, bytes } => {
-            let header = header(*seq, flags_word(*flags), *stamp, *dest);
-            let _ = into.extend_from_slice(&header);
-            let _ = into.extend_from_slice(bytes);
+            extend(into, &header(*seq, flags_word(*flags), *stamp, *dest));
+            extend(into, bytes);
         }
     }
 }
