@@ -224,6 +224,12 @@ v6_complete text segments none (inr h) =
       lt-ltb (length h.head + length h.tail) 8 h.room,
     ) (ap Some (sym h.value))
 
+-- eight groups are read as they stand
+pub eight_groups : (text segments : List ℕ) → IsGroups false text segments → length segments ≡ 8 → groups_of_v6 text ≡ Some segments
+unfolding groups_of_v6
+eight_groups text segments h eight =
+    rw (no_double text segments h, hex_groups_complete text segments h, eq-eqb (length segments) 8 eight)
+
 -- groups without a dotted tail are groups that may have one
 weaker : (segments lead text : List ℕ) → IsGroupsAfter false lead text segments → IsGroupsAfter true lead text segments
 weaker [] lead text h = h

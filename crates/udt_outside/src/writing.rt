@@ -1,9 +1,9 @@
 // Addresses to text.
 
-ghost use Rattle.std.specs.Prelude.{◌≡◌, ◌+◌, ◌*◌, ◌/◌, ◌%◌, ◌^◌, ◌≤◌, ◌<◌, ◌∷◌, false, length, take, drop, decimal};
+ghost use Rattle.std.specs.Prelude.{◌≡◌, Some, ◌+◌, ◌*◌, ◌/◌, ◌%◌, ◌^◌, ◌≤◌, ◌<◌, ◌∷◌, false, length, take, drop, decimal};
 ghost use Rattle.std.specs.Fmt.{digits, digit_glyph};
-ghost use Rattle.udt_model.specs.Addresses.{dotted, group_of, grouped, ip_text, address_text};
-ghost use Rattle.udt_outside.specs.Writing.{Writes};
+ghost use Rattle.udt_model.specs.Addresses.{dotted, group_of, grouped, ip_text, address_text, addr_of};
+ghost use Rattle.udt_outside.specs.Writing.{Writes, IpFits};
 
 use itoa::Buffer;
 use udt_model::{Addr, Ip};
@@ -28,7 +28,8 @@ fn put_octet(into: &mut [u8], at: usize, octet: u8) -> usize
 
 fn put_port(into: &mut [u8], at: usize, port: u16) -> usize
     requires { at + 6 ≤ length into.old }
-    ensures { Writes into.old into.new at result (58 ∷ decimal port) }
+    ensures text { Writes into.old into.new at result (58 ∷ decimal port) }
+    ensures fits { port < 2 ^ 16 }
 {
     let mut buffer = Buffer::new();
     let at = put(into, at, b":");
@@ -116,6 +117,7 @@ fn put_ip(into: &mut [u8], ip: Ip) -> usize
     requires { 41 ≤ length into.old }
     ensures text { Writes into.old into.new 0 result (ip_text ip) }
     ensures within { result ≤ 41 }
+    ensures fits { IpFits ip }
 {
     match ip {
         Ip::V4(bits) => put_dotted(into, 0, bits),
@@ -133,6 +135,7 @@ pub fn write_addr(addr: Addr, into: &mut [u8]) -> usize
     ensures value { result ≡ length (address_text addr) }
     ensures text { take result into.new ≡ address_text addr }
     ensures rest { drop result into.new ≡ drop result into.old }
+    ensures reads_back { addr_of (take result into.new) ≡ Some addr }
 {
     let at = put_ip(into, addr.ip);
     put_port(into, at, addr.port)
