@@ -1,5 +1,5 @@
 -- Addresses of datagrams.
-use Rattle.std.specs.Prelude.{ℕ, ◌+◌, ◌-◌, ◌*◌, ◌/◌, ◌%◌, ◌^◌, ◌==◌, Bool, false, not, ◌&&◌, List, [], ◌∷◌, ◌++◌, length, take, drop, replicate, nat_lt, nat_le, decimal, codes, Option, Some, None, option_map, option_and_then, if◌then◌else◌}
+use Rattle.std.specs.Prelude.{ℕ, ◌+◌, ◌-◌, ◌*◌, ◌/◌, ◌%◌, ◌^◌, ◌==◌, Bool, false, not, ◌&&◌, List, [], ◌∷◌, ◌++◌, length, take, drop, replicate, nat_lt, nat_le, decimal, codes, Option, Some, None, option_map, if◌then◌else◌}
 use Rattle.std.specs.List.{slice_split, prefix_len, list_all}
 use Rattle.std.specs.Char.{is_digit}
 use Rattle.std.specs.Fmt.{digits}
@@ -76,6 +76,7 @@ abbrev pub is_hex_group : List ℕ → Bool
 is_hex_group text =
     nat_lt 0 (length text) && nat_le (length text) 4 && list_all (λ c. is_digit c 16) text
 
+-- the number that such a group spells
 abbrev pub hex_group : List ℕ → Option ℕ
 hex_group text = if is_hex_group text then Some (digits_value 16 text) else None
 
@@ -84,6 +85,7 @@ abbrev pub hex_groups : List ℕ → Option (List ℕ)
 hex_groups [] = Some []
 hex_groups (c ∷ cs) = each_of hex_group (pieces_of 58 (c ∷ cs))
 
+-- the text begins with this byte
 abbrev pub begins_with : ℕ → List ℕ → Bool
 begins_with byte [] = false
 begins_with byte (c ∷ cs) = c == byte
@@ -102,7 +104,7 @@ filled head tail =
     then Some (head ++ replicate (8 - length head - length tail) 0 ++ tail)
     else None
 
--- a V6 text: eight groups, or fewer with one `::` in the place of the zeros
+-- eight groups where there is no `::`, or those around it with zeros between them
 abbrev pub groups_at : List ℕ → Option (List ℕ × List ℕ) → Option (List ℕ)
 groups_at text None = hex_groups text >>= if_many 8
 groups_at text (Some halves) = do
@@ -110,16 +112,19 @@ groups_at text (Some halves) = do
   tail ← hex_groups halves.1
   filled head tail
 
+-- a V6 text: eight groups, or fewer with one `::` in the place of the zeros
 unfoldable pub groups_of_v6 : List ℕ → Option (List ℕ)
 groups_of_v6 text = groups_at text (around_double text)
 
--- the numbers in their base, the highest first
+-- the V4 address of the four bytes, the highest first
 abbrev pub v4_of : List ℕ → Option Ip
 v4_of text = option_map (λ bytes. V4 (number_from_digits 256 bytes)) (bytes_of_v4 text)
 
+-- the V6 address of the eight groups, the highest first
 abbrev pub v6_of : List ℕ → Option Ip
 v6_of text = option_map (λ groups. V6 (number_from_digits 65536 groups)) (groups_of_v6 text)
 
+-- the first of two that is there
 abbrev pub or_else : Option Ip → Option Ip → Option Ip
 or_else None other = other
 or_else (Some ip) other = Some ip
@@ -128,24 +133,26 @@ or_else (Some ip) other = Some ip
 abbrev pub ip_of : List ℕ → Option Ip
 ip_of text = or_else (v4_of text) (v6_of text)
 
--- what stands before the first byte of this kind, and what stands behind it
+-- how many bytes stand before the first of this kind
 abbrev pub length_before : ℕ → List ℕ → ℕ
 length_before byte text = prefix_len (λ c. not (c == byte)) text
 
+-- what stands before the first byte of this kind
 abbrev pub before : ℕ → List ℕ → List ℕ
 before byte text = take (length_before byte text) text
 
+-- what stands behind the first byte of this kind
 abbrev pub behind : ℕ → List ℕ → List ℕ
 behind byte text = drop (length_before byte text + 1) text
 
--- the address with the port that a decimal number of at most 65,535 spells
+-- the address of both, where both are there
 abbrev pub with_port : Option Ip → Option ℕ → Option Addr
 with_port ip port = do
   i ← ip
   p ← port
   Some (record { ip = i; port = p })
 
--- the port that stands behind a colon
+-- the port behind a colon: a decimal number of at most 65,535
 abbrev pub port_of : List ℕ → Option ℕ
 port_of [] = None
 port_of (c ∷ cs) = if c == 58 then number_within 0 65535 cs else None
