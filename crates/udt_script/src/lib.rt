@@ -5,6 +5,8 @@ mod append;
 mod lines;
 mod printed;
 mod reading;
+#[cfg(test)]
+mod tests;
 mod texts;
 mod words;
 
