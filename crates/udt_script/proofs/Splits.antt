@@ -1,11 +1,11 @@
 -- How a line is cut into words at its spaces.
-use Rattle.std.proofs.Common.{◌≡◌, ℕ, suc, zero, ◌+◌, ◌<◌, List, [], ◌∷◌, ◌++◌, length, take, drop, get_or, refl, sym, ap, arith, rules, add-one, append_assoc, true, false, Bool, Some, None}
-use Rattle.std.proofs.Common.{◌≤◌, cond, Option, nltb→le, ltb}
+use Rattle.std.proofs.Common.{◌≡◌, ℕ, suc, zero, ◌<◌, List, [], ◌∷◌, length, take, drop, get_or, refl, arith, rules, true, false, Bool, Some, None}
+use Rattle.std.proofs.Common.{◌≤◌, cond, nltb→le}
 use Rattle.std.specs.Prelude.{◌==◌, position, nat_lt}
 use Rattle.std.specs.List.{position_or_len}
 use Rattle.std.proofs.lemmas.List.Quantifiers.{position-Some}
 use Rattle.std.proofs.lemmas.List.Sums.{fails_before_first}
-use Rattle.udt_model.specs.Words.{words_of, in_front}
+use Rattle.udt_model.specs.Words.{words_of}
 
 -- a line without a space is one word
 without_space : (line : List ℕ) → ((k : ℕ) → k < length line → (get_or line k 0 == 32) ≡ false) → words_of line ≡ line ∷ []

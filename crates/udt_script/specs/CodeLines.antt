@@ -1,5 +1,5 @@
 -- The code's lines, as the definitions of the script language see them.
-use Rattle.std.specs.Prelude.{◌≡◌, ℕ, ◌≤◌, ◌<◌, ◌^◌}
+use Rattle.std.specs.Prelude.{◌≤◌, ◌<◌, ◌^◌}
 use Rattle.udt_model.specs.declared.limits.TheConstants.{MOST_PAYLOAD, FEWEST_BLOCKS, MOST_BLOCKS, LAST_START, LAST_MOMENT}
 use Rattle.udt_model.specs.Lines as model
 use Rattle.udt_script.specs.declared.lines.Line.{Line}

@@ -126,7 +126,9 @@ pub fn print_pair(out: &mut Vec<u8>, pairing: &Pairing, count: usize) -> Result<
     let second = second.format(count + 2).as_bytes();
     append(
         out,
-        &[b"pair ", pairing.a, b" ", first, b" ", pairing.b, b" ", second, b"\n"],
+        &[
+            b"pair ", pairing.a, b" ", first, b" ", pairing.b, b" ", second, b"\n",
+        ],
     )
 }
 
@@ -144,5 +146,8 @@ pub fn print_refused(out: &mut Vec<u8>, number: u64) -> Result<(), AllocError>
     ensures err { OnErr result (take (vec_len out.old) out.new.items ≡ out.old.items) }
 {
     let mut buffer = Buffer::new();
-    append(out, &[b"line ", buffer.format(number).as_bytes(), b" refused\n"])
+    append(
+        out,
+        &[b"line ", buffer.format(number).as_bytes(), b" refused\n"],
+    )
 }

@@ -130,10 +130,7 @@ fn deliver_line<'a>(number: &'a [u8], words: &[&'a [u8]]) -> Option<Line<'a>>
 }
 
 #[tactic(auto, unfolding(udt_model::specs::Lines::line_by_words))]
-fn line_by_words<'a>(
-    alloc: Global,
-    words: &[&'a [u8]],
-) -> Result<Option<Line<'a>>, AllocError>
+fn line_by_words<'a>(alloc: Global, words: &[&'a [u8]]) -> Result<Option<Line<'a>>, AllocError>
     ensures value { IfOk result (λ found. option_map line_of found
         ≡ spec.line_by_words (map (λ word. word.now) words.now)) }
     ensures within { IfOk result (λ found. IfSome found IsInRange) }

@@ -97,7 +97,11 @@ fn if_within(least: u64, most: u64, number: u64) -> Option<u64>
     ensures value { result ≡ spec.if_within least most number }
     ensures within { IfSome result (λ number. (least ≤ number) × (number ≤ most)) }
 {
-    if least <= number && number <= most { Some(number) } else { None }
+    if least <= number && number <= most {
+        Some(number)
+    } else {
+        None
+    }
 }
 
 /// The number from `least` to `most` that the word spells.

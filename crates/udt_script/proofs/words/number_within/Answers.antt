@@ -1,4 +1,4 @@
-use Rattle.std.proofs.Common.{◌≡◌, ◌∙◌, sym, ap, true, rules, arith}
+use Rattle.std.proofs.Common.{◌≡◌, ◌∙◌, sym, ap, true, arith}
 use Rattle.std.specs.Str.Parse.{ParsesUnsigned}
 use Rattle.udt_model.specs.Words.{is_number, if_within}
 use Rattle.udt_script.proofs.Numerals.{spells_none, spells, is_text, parses, too_great}

@@ -1,6 +1,5 @@
-use Rattle.std.proofs.Common.{◌≡◌, ◌∙◌, ◌++◌, sym, ap, rules, arith, option_map, None, Some, length, ℕ, ◌<◌, append-nil}
+use Rattle.std.proofs.Common.{◌≡◌, ◌∙◌, ◌++◌, sym, ap, arith, option_map, Some, length, ◌<◌, append-nil}
 use Rattle.std.proofs.lemmas.Grind.{common_steps}
-use Rattle.udt_model.specs.Words.{pairs_of}
 use Rattle.udt_script.proofs.HexPairs.{no_high, no_low, no_digits, one_digit, one_more}
 use Rattle.udt_script.proofs.words.pairs.Goals as goal
 

@@ -1,4 +1,4 @@
-use Rattle.std.proofs.Common.{◌≡◌, ◌∙◌, sym, rules, arith, List, ℕ, length, take, drop, ◌-◌, ap, ◌∷◌}
+use Rattle.std.proofs.Common.{◌≡◌, sym, arith, take, drop, ◌∷◌}
 use Rattle.std.proofs.lemmas.Grind.{common_steps}
 use Rattle.udt_model.specs.Words.{words_of}
 use Rattle.udt_script.proofs.Splits.{one_word, first_word}
