@@ -1,0 +1,1 @@
+// Laws of the formulas, in the subject's own words.
