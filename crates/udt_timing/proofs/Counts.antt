@@ -19,7 +19,7 @@ count_by-mono p q h (x ∷ xs) =
 count_by-take_all : (p : ℕ → Bool) (xs : List ℕ) (n : ℕ) → n ≤ length xs → ((i : ℕ) → i < n → p (get_or xs i 0) ≡ true) → count_by p (take n xs) ≡ n
 count_by-take_all p xs zero fits h = refl
 count_by-take_all p xs (suc n) fits h =
-    let more = rw add-one at (count_by_more_yes p xs n 0 (omega arith) (h n (omega arith))) in
+    let more = rw (add-one n) at (count_by_more_yes p xs n 0 (omega arith) (h n (omega arith))) in
     omega (arith, more, count_by-take_all p xs n (omega arith) (λ i l. h i (omega arith)))
 
 -- where the first n pass, at least n do

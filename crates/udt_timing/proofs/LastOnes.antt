@@ -3,12 +3,12 @@ use Rattle.std.proofs.Common.{◌≡◌, ◌≢◌, ℕ, ◌+◌, ◌-◌, ◌<�
 use Rattle.std.specs.List.{All, last_or, suffix_len, before_last, after_last}
 use Rattle.std.proofs.Math.Seq.{take-append_seam, drop-append_seam, drop-length}
 use Rattle.std.proofs.lemmas.Bool.{eq-eqb, ne_eqb}
-use Rattle.std.proofs.lemmas.List.{drop_more, take-append-drop, get_or-drop}
+use Rattle.std.proofs.lemmas.List.{drop_more, take-append-drop, get_or-drop, drop-append-le}
 use Rattle.std.proofs.lemmas.List.Elements.{All-head, All-tail, filter-append}
 use Rattle.std.proofs.lemmas.List.Sums.{suffix_len_is}
 use Rattle.std.proofs.lemmas.Option.{get_or_from_slice_get, slice_get-get_or}
 use Rattle.udt_model.specs.Timing.{Noted, is_under, last_under, without_last_under}
-use Rattle.udt_timing.specs.AckHistories.{TakesLast}
+use Rattle.udt_timing.specs.AckHistories.{TakesLast, KeepsOthers}
 
 -- ---- an entry comes off the front of a turned list, and the list is turned on
 
@@ -110,6 +110,34 @@ module _ (number : ℕ) (es : List Noted) (i : ℕ) (x : Noted) (h : i < length 
         is = is;
         last = none }
 
+-- ---- what comes to the end is the last under its number
+
+pub last_under-pushed : (number most : ℕ) (es : List Noted) (x : Noted) → 0 < most → x.number ≡ number → last_under number (drop (length (es ++ x ∷ []) - most) (es ++ x ∷ [])) ≡ Some x
+last_under-pushed number most es x pos same =
+    let k : ℕ = length (es ++ x ∷ []) - most in
+    let fits : k ≤ length es = omega (arith, length-append es (x ∷ [])) in
+    let p : Noted → Bool = is_under number in
+    ap (λ z. last_or None (filter p z)) (drop-append-le k es (x ∷ []) fits)
+    ∙ ap (last_or None) (filter-append p (drop k es) (x ∷ []))
+    ∙ ap (λ b. last_or None (filter p (drop k es) ++ cond b (x ∷ []) [])) (eq-eqb x.number number same)
+    ∙ last_or-push None (filter p (drop k es)) x
+
+-- ---- taking one out leaves what other numbers find
+
+filter-skip : {X : Type 0} (p : X → Bool) (before : List X) (x : X) (after : List X) → p x ≡ false → filter p (before ++ x ∷ after) ≡ filter p (before ++ after)
+filter-skip p before x after fails =
+    filter-append p before (x ∷ after)
+    ∙ ap (λ b. filter p before ++ cond b (x ∷ filter p after) (filter p after)) fails
+    ∙ sym (filter-append p before after)
+
+pub KeepsOthers-takes : (number ack at : ℕ) (old new : List Noted) → TakesLast number ack at old new → KeepsOthers number old new
+KeepsOthers-takes number ack at old new takes other differs =
+    let x : Noted = record { number = number; ack = ack; at = at } in
+    let p : Noted → Bool = is_under other in
+    ap (λ z. last_or None (filter p z)) takes.is
+    ∙ ap (last_or None) (sym (filter-skip p takes.before x takes.after (ne_eqb number other (λ e. differs (sym e)))))
+    ∙ ap (λ z. last_or None (filter p z)) (sym takes.was)
+
 -- ---- what the turns leave
 
 module _ (number : ℕ) (old turned popped rest : List Noted) (i n : ℕ) (x : Noted) (h : i < length old) (is : turned ≡ drop i old ++ take i old) (front : slice_get turned 0 ≡ Some x) (pop : popped ≡ drop 1 turned) (count : n ≡ length popped - i) (on : rest ≡ drop n popped ++ take n popped) (same : (d : Noted) → (get_or old i d).number ≡ number) (none : All (λ e. e.number ≢ number) (drop (i + 1) old)) where
@@ -117,12 +145,15 @@ module _ (number : ℕ) (old turned popped rest : List Noted) (i n : ℕ) (x : N
     pub entry : last_under number old ≡ Some x
     pub others : rest ≡ without_last_under number old
     pub between : TakesLast number x.ack x.at old rest
+    pub kept : KeepsOthers number old rest
 
   pub took : Took
   took =
       let out = taken_out old turned popped rest i n x h is front pop count on in
       let named : x.number ≡ number = sym (ap (λ e. e.number) (get_or_from_slice_get old i x x out.0)) ∙ same x in
+      let between = TakesLast-found number old i x h out.0 named none rest out.1 in
       record {
         entry = last_under-found number old i x h out.0 named none;
         others = out.1 ∙ sym (without_last_under-found number old i x h out.0 named none);
-        between = TakesLast-found number old i x h out.0 named none rest out.1 }
+        between = between;
+        kept = KeepsOthers-takes number x.ack x.at old rest between }

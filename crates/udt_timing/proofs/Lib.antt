@@ -2,3 +2,4 @@ mod Counts
 pub mod Medians
 mod Turns
 pub mod LastOnes
+pub mod Rates

@@ -1,7 +1,7 @@
 -- What taking an acknowledgement out of the history means.
 use Rattle.std.specs.Prelude.{◌≡◌, ◌≢◌, ℕ, List, ◌∷◌, ◌++◌}
 use Rattle.std.specs.List.{All}
-use Rattle.udt_model.specs.Timing.{Noted}
+use Rattle.udt_model.specs.Timing.{Noted, last_under}
 
 -- the number of an acknowledgement
 abbrev pub number_of : Noted → ℕ
@@ -18,3 +18,7 @@ pub record TakesLast (number ack at : ℕ) (old new : List Noted) : Type 0 where
   pub was : old ≡ before ++ record { number = number; ack = ack; at = at } ∷ after
   pub is : new ≡ before ++ after
   pub last : All (λ note. note.number ≢ number) after
+
+-- what the other numbers find stays
+abbrev pub KeepsOthers : ℕ → List Noted → List Noted → Type 0
+KeepsOthers number old new = (other : ℕ) → other ≢ number → last_under other new ≡ last_under other old

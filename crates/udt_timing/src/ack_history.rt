@@ -47,7 +47,8 @@ impl AckWindow {
     ghost use Rattle.std.specs.Prelude.{◌≡◌, ◌≢◌, ◌+◌, ◌≤◌, ◌<◌, ◌↔◌, [], ◌++◌, length, take, drop, option_map, slice_get, IsNone, IfOk, IfSome, IfNone};
     ghost use Rattle.std.specs.List.{All, HoldsAt};
     ghost use Rattle.udt_model.specs.Timing.{Noted, with_note, last_under, without_last_under};
-    ghost use Rattle.udt_timing.specs.AckHistories.{TakesLast, answer_of, number_of};
+    ghost use Rattle.udt_timing.specs.Windows.{KeepsNewest};
+    ghost use Rattle.udt_timing.specs.AckHistories.{TakesLast, KeepsOthers, answer_of, number_of};
 
     /// An empty history, with the memory that it will ever have.
     pub fn new(alloc: Global) -> Result<AckWindow, OutOfMemory>
@@ -60,6 +61,8 @@ impl AckWindow {
     /// Remembers that an acknowledgement with this number said `ack` at the moment `now`.
     pub fn note(&mut self, number: u32, ack: u64, now: u64)
         ensures next { self.new ≡ with_note self.old (record { number = number; ack = ack; at = now }) }
+        ensures newest { KeepsNewest 1024 self.old (record { number = number; ack = ack; at = now }) self.new }
+        ensures found { last_under number self.new ≡ Some (record { number = number; ack = ack; at = now }) }
         ensures within { length self.new ≤ 1024 }
     {
         self.entries.push_back(Entry {
@@ -76,6 +79,7 @@ impl AckWindow {
         ensures next { self.new ≡ without_last_under number self.old }
         ensures none { IsNone result ↔ All (λ e. e.number ≢ number) self.old }
         ensures some { IfSome result (λ r. TakesLast number r.0 r.1 self.old self.new) }
+        ensures others { KeepsOthers number self.old self.new }
     {
         let at = self.last_place(number)?;
         self.turn(at);

@@ -26,8 +26,8 @@ impl Model for Samples {
 
 impl Samples {
     ghost use Rattle.std.specs.Prelude.{◌≡◌, ◌≤◌, ◌<◌, ℕ, [], length, IfOk, IfSome, IfNone};
-    ghost use Rattle.udt_model.specs.Timing.{with_sample, median, speed_of, capacity_of};
-    ghost use Rattle.udt_timing.specs.Windows.{IsNinthSmallest};
+    ghost use Rattle.udt_model.specs.Timing.{with_sample, near_median, speed_of, capacity_of};
+    ghost use Rattle.udt_timing.specs.Windows.{KeepsNewest, IsBetweenRates, IsOneInNinth};
 
     /// An empty window, with the memory that it will ever have.
     pub fn new(alloc: Global) -> Result<Samples, OutOfMemory>
@@ -40,6 +40,7 @@ impl Samples {
     /// Takes in a sample, in microseconds.
     pub fn push(&mut self, v: u64)
         ensures next { self.new ≡ with_sample self.old v }
+        ensures newest { KeepsNewest 16 self.old v self.new }
         ensures within { length self.new ≤ 16 }
     {
         self.ring.push_back(v);
@@ -48,6 +49,8 @@ impl Samples {
     /// The arrival speed in packets a second, or 0 where the samples tell none.
     pub fn speed(&self) -> u32
         ensures value { result ≡ speed_of self.now }
+        ensures between { length self.now ≡ 16 → 9 ≤ length (near_median self.now) → IsBetweenRates self.now result }
+        ensures short { length self.now < 16 → result ≡ 0 }
     {
         let Some(samples) = self.full() else {
             return 0;
@@ -63,6 +66,8 @@ impl Samples {
     /// The capacity of the link in packets a second, or 0 where the samples tell none.
     pub fn capacity(&self) -> u32
         ensures value { result ≡ capacity_of self.now }
+        ensures ninth { length self.now ≡ 16 → IsOneInNinth self.now result }
+        ensures short { length self.now < 16 → result ≡ 0 }
     {
         let Some(samples) = self.full() else {
             return 0;

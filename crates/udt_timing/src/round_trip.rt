@@ -19,8 +19,8 @@ pub struct Rtt {
 }
 
 impl Rtt {
-    ghost use Rattle.std.specs.Prelude.{◌≡◌, ◌≤◌};
-    ghost use Rattle.udt_model.specs.Timing.{unmeasured, clamped, after_sample, period_of};
+    ghost use Rattle.std.specs.Prelude.{◌≡◌, ◌+◌, ◌*◌, ◌≤◌};
+    ghost use Rattle.udt_model.specs.Timing.{unmeasured, gap, clamped, after_sample, period_of};
     ghost use Rattle.udt_timing.specs.RoundTrips.{round_trip_of, IsBetween};
 
     /// A tenth of a second, give or take half of that.
@@ -37,6 +37,7 @@ impl Rtt {
     pub fn sample(&mut self, s: u64)
         ensures next { round_trip_of self.new ≡ after_sample (round_trip_of self.old) s }
         ensures between { IsBetween self.old.rtt (clamped s) self.new.rtt }
+        ensures spread { IsBetween self.old.var (gap self.old.rtt (clamped s)) self.new.var }
     {
         let sample = s.min(LONGEST_ROUND_TRIP);
         let var = (3 * self.var + self.rtt.abs_diff(sample)) / 4;
@@ -46,7 +47,9 @@ impl Rtt {
 
     /// How long loss and silence are waited for, in microseconds.
     pub fn period(&self) -> u64
-        ensures { result ≡ period_of (round_trip_of self.now) }
+        ensures value { result ≡ period_of (round_trip_of self.now) }
+        ensures within { result ≤ 5 * LONGEST_ROUND_TRIP + SYN }
+        ensures patient { 4 * self.now.rtt + SYN ≤ result }
     {
         4 * self.rtt + self.var + SYN
     }

@@ -28,4 +28,5 @@ returns c =
       value = ap (λ e. Some (answer_of e)) c.entry.view_is ∙ sym (ap (option_map answer_of) out.entry);
       next = out.others;
       none = (λ h. absurd (true≢false h), λ all. absurd (all c.in_ok-at.at entry found.0 (found.1 entry)));
-      some = subst Takes (sym c.entry.view_is) out.between }
+      some = subst Takes (sym c.entry.view_is) out.between;
+      others = out.kept }
