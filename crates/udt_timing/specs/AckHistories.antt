@@ -3,6 +3,10 @@ use Rattle.std.specs.Prelude.{◌≡◌, ◌≢◌, ℕ, List, ◌∷◌, ◌++�
 use Rattle.std.specs.List.{All}
 use Rattle.udt_model.specs.Timing.{Noted, last_under}
 
+-- an acknowledgement by its number, the offset that it said, and its moment
+abbrev pub noted : ℕ → ℕ → ℕ → Noted
+noted number ack at = record { number = number; ack = ack; at = at }
+
 -- the number of an acknowledgement
 abbrev pub number_of : Noted → ℕ
 number_of note = note.number
@@ -15,7 +19,7 @@ answer_of note = (note.ack, note.at)
 pub record TakesLast (number ack at : ℕ) (old new : List Noted) : Type 0 where
   pub before : List Noted
   pub after : List Noted
-  pub was : old ≡ before ++ record { number = number; ack = ack; at = at } ∷ after
+  pub was : old ≡ before ++ noted number ack at ∷ after
   pub is : new ≡ before ++ after
   pub last : All (λ note. note.number ≢ number) after
 

@@ -1,7 +1,7 @@
 -- What the median of a window is, and where the rates lie that a window tells.
 use Rattle.std.specs.Prelude.{◌≡◌, ℕ, ◌*◌, ◌/◌, ◌<◌, ◌≤◌, nat_le, nat_lt, List, [], ◌∷◌, ◌++◌, drop, length, count_by}
 use Rattle.std.specs.List.{All}
-use Rattle.udt_model.specs.Timing.{median, near_median, in_a_second, speed_of}
+use Rattle.udt_model.specs.Timing.{median, near_median, in_a_second}
 
 -- a window with room keeps all that it had, and a full one all but the oldest
 pub record KeepsNewest {X : Type 0} (most : ℕ) (old : List X) (x : X) (new : List X) : Type 0 where
@@ -26,6 +26,11 @@ NinthIsOne =
 abbrev pub IsOneInNinth : List ℕ → ℕ → Type 0
 IsOneInNinth samples capacity =
     (middle : ℕ) → IsNinthSmallest samples middle → capacity ≡ in_a_second 1 middle
+
+-- the window is full and keeps more than half of its samples, so it tells a speed
+pub record TellsSpeed (samples : List ℕ) : Type 0 where
+  pub full : length samples ≡ 16
+  pub most : 9 ≤ length (near_median samples)
 
 -- where the kept samples lie between two times, the speed lies between the rates that these tell
 abbrev pub IsBetweenRates : List ℕ → ℕ → Type 0

@@ -48,7 +48,7 @@ impl AckWindow {
     ghost use Rattle.std.specs.List.{All, HoldsAt};
     ghost use Rattle.udt_model.specs.Timing.{Noted, with_note, last_under, without_last_under};
     ghost use Rattle.udt_timing.specs.Windows.{KeepsNewest};
-    ghost use Rattle.udt_timing.specs.AckHistories.{TakesLast, KeepsOthers, answer_of, number_of};
+    ghost use Rattle.udt_timing.specs.AckHistories.{TakesLast, KeepsOthers, noted, answer_of, number_of};
 
     /// An empty history, with the memory that it will ever have.
     pub fn new(alloc: Global) -> Result<AckWindow, OutOfMemory>
@@ -60,16 +60,13 @@ impl AckWindow {
 
     /// Remembers that an acknowledgement with this number said `ack` at the moment `now`.
     pub fn note(&mut self, number: u32, ack: u64, now: u64)
-        ensures next { self.new ≡ with_note self.old (record { number = number; ack = ack; at = now }) }
-        ensures newest { KeepsNewest 1024 self.old (record { number = number; ack = ack; at = now }) self.new }
-        ensures found { last_under number self.new ≡ Some (record { number = number; ack = ack; at = now }) }
+        ensures next { self.new ≡ with_note self.old (noted number ack now) }
+        ensures newest { KeepsNewest 1024 self.old (noted number ack now) self.new }
+        ensures found { last_under number self.new ≡ Some (noted number ack now) }
         ensures within { length self.new ≤ 1024 }
     {
-        self.entries.push_back(Entry {
-            number,
-            ack,
-            at: now,
-        });
+        let at = now;
+        self.entries.push_back(Entry { number, ack, at });
     }
 
     /// Takes out the last acknowledgement with this number: the offset that it acknowledged, and
@@ -91,7 +88,8 @@ impl AckWindow {
 
     // where the last acknowledgement with this number stands
     fn last_place(&self, number: u32) -> Option<usize>
-        ensures some { IfSome result (λ i. (i < length self.now) × HoldsAt (λ e. e.number ≡ number) self.now i) }
+        ensures within { IfSome result (λ i. i < length self.now) }
+        ensures found { IfSome result (HoldsAt (λ e. e.number ≡ number) self.now) }
         ensures last { IfSome result (λ i. All (λ e. e.number ≢ number) (drop (i + 1) self.now)) }
         ensures none { IfNone result (All (λ e. e.number ≢ number) self.now) }
     {

@@ -26,8 +26,8 @@ impl Model for Samples {
 
 impl Samples {
     ghost use Rattle.std.specs.Prelude.{◌≡◌, ◌≤◌, ◌<◌, ℕ, [], length, IfOk, IfSome, IfNone};
-    ghost use Rattle.udt_model.specs.Timing.{with_sample, near_median, speed_of, capacity_of};
-    ghost use Rattle.udt_timing.specs.Windows.{KeepsNewest, IsBetweenRates, IsOneInNinth};
+    ghost use Rattle.udt_model.specs.Timing.{with_sample, speed_of, capacity_of};
+    ghost use Rattle.udt_timing.specs.Windows.{KeepsNewest, TellsSpeed, IsBetweenRates, IsOneInNinth};
 
     /// An empty window, with the memory that it will ever have.
     pub fn new(alloc: Global) -> Result<Samples, OutOfMemory>
@@ -49,7 +49,7 @@ impl Samples {
     /// The arrival speed in packets a second, or 0 where the samples tell none.
     pub fn speed(&self) -> u32
         ensures value { result ≡ speed_of self.now }
-        ensures between { length self.now ≡ 16 → 9 ≤ length (near_median self.now) → IsBetweenRates self.now result }
+        ensures between { TellsSpeed self.now → IsBetweenRates self.now result }
         ensures short { length self.now < 16 → result ≡ 0 }
     {
         let Some(samples) = self.full() else {

@@ -49,7 +49,7 @@ impl Rtt {
     pub fn period(&self) -> u64
         ensures value { result ≡ period_of (round_trip_of self.now) }
         ensures within { result ≤ 5 * LONGEST_ROUND_TRIP + SYN }
-        ensures patient { 4 * self.now.rtt + SYN ≤ result }
+        ensures at_least { 4 * self.now.rtt + SYN ≤ result }
     {
         4 * self.rtt + self.var + SYN
     }

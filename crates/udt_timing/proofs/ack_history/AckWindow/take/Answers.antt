@@ -18,15 +18,16 @@ pub returns : goal.returns
 returns c =
     let entry = c.in_ok-entry.entry in
     let items = c.self.inside.entries.items in
-    let found = c.in_ok-at.ensures.some in
+    let within = c.in_ok-at.ensures.within in
+    let found = c.in_ok-at.ensures.found in
     let front : slice_get items 0 ≡ Some entry = sym c.pop_front.ensures.value ∙ c.in_ok-entry.was in
     let popped = ap (λ z. z.items) c.pop_front.ensures.items in
     let count = ap (λ k. k - c.in_ok-at.at) c.len.ensures.len in
-    let out = took c.args.number c.args.self.now items c.pop_front.new.self.items c.turn-2.new.self c.in_ok-at.at (c.len.result - c.in_ok-at.at) entry found.0 (c.self.view_is ∙ c.turn.ensures) front popped count c.turn-2.ensures found.1 c.in_ok-at.ensures.last in
+    let out = took c.args.number c.args.self.now items c.pop_front.new.self.items c.turn-2.new.self c.in_ok-at.at (c.len.result - c.in_ok-at.at) entry within (c.self.view_is ∙ c.turn.ensures) front popped count c.turn-2.ensures found c.in_ok-at.ensures.last in
     let Takes : Noted → Type 0 = λ e. TakesLast c.args.number e.ack e.at c.args.self.now c.turn-2.new.self in
     record {
       value = ap (λ e. Some (answer_of e)) c.entry.view_is ∙ sym (ap (option_map answer_of) out.entry);
       next = out.others;
-      none = (λ h. absurd (true≢false h), λ all. absurd (all c.in_ok-at.at entry found.0 (found.1 entry)));
+      none = (λ h. absurd (true≢false h), λ all. absurd (all c.in_ok-at.at entry within (found entry)));
       some = subst Takes (sym c.entry.view_is) out.between;
       others = out.kept }

@@ -5,7 +5,7 @@ use Rattle.udt_timing.proofs.arrivals.Samples.speed.Goals as goal
 
 -- what was counted are the samples near the median
 pub returns-clause-between : goal.returns-clause-between
-returns-clause-between c = λ full many.
+returns-clause-between c = λ tells.
     let now = c.args.self.now in
     let middle = c.ninth_smallest-middle.result in
     let counted = c.sum_near-kept.result in
@@ -16,4 +16,4 @@ returns-clause-between c = λ full many.
         c.in_a_second.ensures
         ∙ ap (λ n. in_a_second n counted.1) (c.sum_near-kept.ensures.count ∙ ap length kept)
         ∙ ap (in_a_second (length (near_median now))) (c.sum_near-kept.ensures.micros ∙ ap sum kept) in
-    speed_between now c.in_a_second.result many rate
+    speed_between now c.in_a_second.result tells.most rate
