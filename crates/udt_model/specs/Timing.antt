@@ -43,7 +43,7 @@ after_sample known sample = record {
   rtt = smoothed known.rtt (clamped sample);
   var = smoothed_variance known.var known.rtt (clamped sample) }
 
--- how long a report of losses waits for the next: four round trips, the variance and an interval
+-- how long loss and silence are waited for: four round trips, the variance and an interval
 abbrev pub period_of : RoundTrip → ℕ
 period_of known = 4 * known.rtt + known.var + syn
 
@@ -55,9 +55,13 @@ pushed most xs x = drop (length (xs ++ x ∷ []) - most) (xs ++ x ∷ [])
 
 -- ---- windows of samples, each the microseconds between two arrivals
 
--- a window keeps the newest sixteen samples
+-- as many samples fill a window
+abbrev pub window_samples : ℕ
+window_samples = 16
+
+-- a window keeps the newest samples
 abbrev pub with_sample : List ℕ → ℕ → List ℕ
-with_sample samples sample = pushed 16 samples sample
+with_sample samples sample = pushed window_samples samples sample
 
 -- a number put into a rising list, before the first that isn't less
 unfoldable pub put_in_order : ℕ → List ℕ → List ℕ
@@ -81,20 +85,31 @@ is_near middle sample = nat_le middle (8 * sample) && nat_le sample (8 * middle)
 abbrev pub near_median : List ℕ → List ℕ
 near_median samples = filter (is_near (median samples)) samples
 
+-- the microseconds of a second
+abbrev pub second : ℕ
+second = 1000000
+
 -- how many come in a second, where `count` of them take `micros`
 abbrev pub in_a_second : ℕ → ℕ → ℕ
-in_a_second count micros = if micros == 0 then 0 else count * 1000000 / micros
+in_a_second count micros = if micros == 0 then 0 else count * second / micros
+
+-- the window isn't full yet
+abbrev pub is_short : List ℕ → Bool
+is_short samples = nat_lt (length samples) window_samples
 
 -- the arrival speed in packets a second: that of the kept samples, where the window is full and
 -- more than half of its samples are kept
 abbrev pub speed_of : List ℕ → ℕ
 speed_of samples =
     let kept = near_median samples in
-    if nat_lt (length samples) 16 || nat_le (length kept) 8 then 0 else in_a_second (length kept) (sum kept)
+    if is_short samples || nat_le (length kept) 8
+    then 0
+    else in_a_second (length kept) (sum kept)
 
--- the capacity of the link in packets a second: one packet in the median time, where the window is full
+-- the capacity of the link in packets a second: one packet in the median time, where the window
+-- is full
 abbrev pub capacity_of : List ℕ → ℕ
-capacity_of samples = if nat_lt (length samples) 16 then 0 else in_a_second 1 (median samples)
+capacity_of samples = if is_short samples then 0 else in_a_second 1 (median samples)
 
 -- ---- the history of acknowledgements
 
@@ -104,9 +119,13 @@ pub record Noted : Type 0 where
   pub ack : ℕ
   pub at : ℕ
 
--- the history keeps the newest 1,024
+-- as many acknowledgements are remembered
+abbrev pub history_notes : ℕ
+history_notes = 1024
+
+-- the history keeps the newest
 abbrev pub with_note : List Noted → Noted → List Noted
-with_note history note = pushed 1024 history note
+with_note history note = pushed history_notes history note
 
 -- the acknowledgement has this number
 abbrev pub is_under : ℕ → Noted → Bool

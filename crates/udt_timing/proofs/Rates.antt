@@ -41,7 +41,10 @@ rate_no_more n s least some pos pos' fits =
     let once : r * least ≤ 1000000 = le_of_mul-le-mul_left {k = n} times some in
     (le-div_iff_mul-le pos').1 once
 
-pub rate_between : (kept : List ℕ) (least most : ℕ) → 0 < length kept → 0 < least → All (λ v. (least ≤ v) × (v ≤ most)) kept → (1000000 / most ≤ in_a_second (length kept) (sum kept)) × (in_a_second (length kept) (sum kept) ≤ 1000000 / least)
+rate_of_one : (micros : ℕ) → 0 < micros → in_a_second 1 micros ≡ 1000000 / micros
+rate_of_one micros pos = cond-false (eqb micros 0) 0 (1000000 / micros) (ne_eqb micros 0 (λ z. absurd (omega arith)))
+
+pub rate_between : (kept : List ℕ) (least most : ℕ) → 0 < length kept → 0 < least → All (λ v. (least ≤ v) × (v ≤ most)) kept → (in_a_second 1 most ≤ in_a_second (length kept) (sum kept)) × (in_a_second (length kept) (sum kept) ≤ in_a_second 1 least)
 rate_between [] least most some pos all = absurd (omega arith)
 rate_between (e ∷ es) least most some pos all =
     let n : ℕ = length (e ∷ es) in
@@ -51,7 +54,9 @@ rate_between (e ∷ es) least most some pos all =
     let first = All-head (λ v. (least ≤ v) × (v ≤ most)) e es all in
     let positive : 0 < s = omega (arith, sum_by-cons (λ v. v) e es, first.0) in
     let is : in_a_second n s ≡ n * 1000000 / s = cond-false (eqb s 0) 0 (n * 1000000 / s) (ne_eqb s 0 (λ z. absurd (omega arith))) in
-    (omega (arith, is, rate_no_less n s most positive below), omega (arith, is, rate_no_more n s least some positive pos above))
+    let slowest = rate_of_one most (omega (arith, first.0, first.1)) in
+    let fastest = rate_of_one least pos in
+    (omega (arith, is, slowest, rate_no_less n s most positive below), omega (arith, is, fastest, rate_no_more n s least some positive pos above))
 
 -- the speed of a full window with more than eight kept samples is their rate
 pub speed_between : (samples : List ℕ) (speed : ℕ) → 9 ≤ length (near_median samples) → speed ≡ in_a_second (length (near_median samples)) (sum (near_median samples)) → IsBetweenRates samples speed

@@ -25,4 +25,5 @@ pub record TakesLast (number ack at : ℕ) (old new : List Noted) : Type 0 where
 
 -- what the other numbers find stays
 abbrev pub KeepsOthers : ℕ → List Noted → List Noted → Type 0
-KeepsOthers number old new = (other : ℕ) → other ≢ number → last_under other new ≡ last_under other old
+KeepsOthers number old new =
+    (other : ℕ) → other ≢ number → last_under other new ≡ last_under other old

@@ -29,4 +29,5 @@ pub record IsWithinAMinute (known : RoundTrip) : Type 0 where
 -- and stay so, whatever the sample
 abbrev pub StaysWithinAMinute : Type 0
 StaysWithinAMinute =
-    (known : RoundTrip) (sample : ℕ) → IsWithinAMinute known → IsWithinAMinute (after_sample known sample)
+    (known : RoundTrip) (sample : ℕ)
+    → IsWithinAMinute known → IsWithinAMinute (after_sample known sample)

@@ -1,7 +1,7 @@
 -- What the median of a window is, and where the rates lie that a window tells.
 use Rattle.std.specs.Prelude.{◌≡◌, ℕ, ◌*◌, ◌/◌, ◌<◌, ◌≤◌, nat_le, nat_lt, List, [], ◌∷◌, ◌++◌, drop, length, count_by}
 use Rattle.std.specs.List.{All}
-use Rattle.udt_model.specs.Timing.{median, near_median, in_a_second}
+use Rattle.udt_model.specs.Timing.{window_samples, median, near_median, in_a_second}
 
 -- a window with room keeps all that it had, and a full one all but the oldest
 pub record KeepsNewest {X : Type 0} (most : ℕ) (old : List X) (x : X) (new : List X) : Type 0 where
@@ -15,12 +15,13 @@ pub record IsNinthSmallest (samples : List ℕ) (middle : ℕ) : Type 0 where
 
 -- of a full window the median is the ninth smallest
 abbrev pub MedianIsNinth : Type 0
-MedianIsNinth = (samples : List ℕ) → length samples ≡ 16 → IsNinthSmallest samples (median samples)
+MedianIsNinth = (samples : List ℕ) → length samples ≡ window_samples → IsNinthSmallest samples (median samples)
 
 -- no two numbers are the ninth smallest
 abbrev pub NinthIsOne : Type 0
 NinthIsOne =
-    (samples : List ℕ) (one other : ℕ) → IsNinthSmallest samples one → IsNinthSmallest samples other → one ≡ other
+    (samples : List ℕ) (one other : ℕ)
+    → IsNinthSmallest samples one → IsNinthSmallest samples other → one ≡ other
 
 -- the capacity is one packet in the time of the ninth smallest sample
 abbrev pub IsOneInNinth : List ℕ → ℕ → Type 0
@@ -29,16 +30,17 @@ IsOneInNinth samples capacity =
 
 -- the window is full and keeps more than half of its samples, so it tells a speed
 pub record TellsSpeed (samples : List ℕ) : Type 0 where
-  pub full : length samples ≡ 16
+  pub full : length samples ≡ window_samples
   pub most : 9 ≤ length (near_median samples)
 
 -- where the kept samples lie between two times, the speed lies between the rates that these tell
 abbrev pub IsBetweenRates : List ℕ → ℕ → Type 0
 IsBetweenRates samples speed =
     (least most : ℕ) → 0 < least → All (λ v. (least ≤ v) × (v ≤ most)) (near_median samples)
-    → (1000000 / most ≤ speed) × (speed ≤ 1000000 / least)
+    → (in_a_second 1 most ≤ speed) × (speed ≤ in_a_second 1 least)
 
 -- and the kept samples are within a factor of eight of the median
 abbrev pub KeptAreNear : Type 0
 KeptAreNear =
-    (samples : List ℕ) → All (λ v. (median samples ≤ 8 * v) × (v ≤ 8 * median samples)) (near_median samples)
+    (samples : List ℕ)
+    → All (λ v. (median samples ≤ 8 * v) × (v ≤ 8 * median samples)) (near_median samples)

@@ -8,7 +8,7 @@ use std::alloc::Global;
 use std::marker::Model;
 
 /// As many acknowledgements are remembered.
-pub const HISTORY: usize = 1_024;
+const HISTORY: usize = 1_024;
 
 /// An acknowledgement that was sent: its number, the offset that it acknowledged, and its moment.
 #[derive(Drop)]
@@ -40,7 +40,9 @@ impl Model for AckWindow {
 
     ghost view = { λ w. w.entries.items };
 
-    ghost invariant = { λ w. (w.entries.capacity ≡ 1024) × (len w.entries.items ≤ 1024) };
+    ghost use Rattle.udt_timing.specs.declared.ack_history.TheConstants.{HISTORY};
+
+    ghost invariant = { λ w. (w.entries.capacity ≡ HISTORY) × (len w.entries.items ≤ HISTORY) };
 }
 
 impl AckWindow {
@@ -61,9 +63,9 @@ impl AckWindow {
     /// Remembers that an acknowledgement with this number said `ack` at the moment `now`.
     pub fn note(&mut self, number: u32, ack: u64, now: u64)
         ensures next { self.new ≡ with_note self.old (noted number ack now) }
-        ensures newest { KeepsNewest 1024 self.old (noted number ack now) self.new }
+        ensures newest { KeepsNewest HISTORY self.old (noted number ack now) self.new }
         ensures found { last_under number self.new ≡ Some (noted number ack now) }
-        ensures within { length self.new ≤ 1024 }
+        ensures within { length self.new ≤ HISTORY }
     {
         let at = now;
         self.entries.push_back(Entry { number, ack, at });

@@ -5,8 +5,11 @@ use circular_buffer::HeapCircularBuffer;
 use std::alloc::Global;
 use std::marker::Model;
 
+// the microseconds of a second
+const SECOND: u128 = 1_000_000;
+
 /// As many samples are kept.
-pub const WINDOW: usize = 16;
+const WINDOW: usize = 16;
 
 /// The newest samples of the time between two arrivals, in microseconds. `push` takes no memory.
 #[derive(Drop)]
@@ -21,7 +24,9 @@ impl Model for Samples {
 
     ghost view = { λ s. s.ring.items };
 
-    ghost invariant = { λ s. (s.ring.capacity ≡ 16) × (len s.ring.items ≤ 16) };
+    ghost use Rattle.udt_timing.specs.declared.arrivals.TheConstants.{WINDOW};
+
+    ghost invariant = { λ s. (s.ring.capacity ≡ WINDOW) × (len s.ring.items ≤ WINDOW) };
 }
 
 impl Samples {
@@ -40,8 +45,8 @@ impl Samples {
     /// Takes in a sample, in microseconds.
     pub fn push(&mut self, v: u64)
         ensures next { self.new ≡ with_sample self.old v }
-        ensures newest { KeepsNewest 16 self.old v self.new }
-        ensures within { length self.new ≤ 16 }
+        ensures newest { KeepsNewest WINDOW self.old v self.new }
+        ensures within { length self.new ≤ WINDOW }
     {
         self.ring.push_back(v);
     }
@@ -50,7 +55,7 @@ impl Samples {
     pub fn speed(&self) -> u32
         ensures value { result ≡ speed_of self.now }
         ensures between { TellsSpeed self.now → IsBetweenRates self.now result }
-        ensures short { length self.now < 16 → result ≡ 0 }
+        ensures short { length self.now < WINDOW → result ≡ 0 }
     {
         let Some(samples) = self.full() else {
             return 0;
@@ -66,8 +71,8 @@ impl Samples {
     /// The capacity of the link in packets a second, or 0 where the samples tell none.
     pub fn capacity(&self) -> u32
         ensures value { result ≡ capacity_of self.now }
-        ensures ninth { length self.now ≡ 16 → IsOneInNinth self.now result }
-        ensures short { length self.now < 16 → result ≡ 0 }
+        ensures ninth { length self.now ≡ WINDOW → IsOneInNinth self.now result }
+        ensures short { length self.now < WINDOW → result ≡ 0 }
     {
         let Some(samples) = self.full() else {
             return 0;
@@ -76,9 +81,9 @@ impl Samples {
     }
 
     // the samples in order of arrival, once the window is full
-    fn full(&self) -> Option<[u64; 16]>
-        ensures some { IfSome result (λ xs. (xs ≡ self.now) × (length self.now ≡ 16)) }
-        ensures none { IfNone result (length self.now < 16) }
+    fn full(&self) -> Option<[u64; WINDOW]>
+        ensures some { IfSome result (λ xs. (xs ≡ self.now) × (length self.now ≡ WINDOW)) }
+        ensures none { IfNone result (length self.now < WINDOW) }
     {
         if self.ring.len() < WINDOW {
             return None;
@@ -96,7 +101,7 @@ ghost use Rattle.udt_model.specs.Timing.{median, is_near, in_a_second as rate_of
 ghost use Rattle.udt_timing.specs.Windows.{IsNinthSmallest};
 
 // sorts a copy
-fn ninth_smallest(samples: [u64; 16]) -> u64
+fn ninth_smallest(samples: [u64; WINDOW]) -> u64
     ensures value { result ≡ median samples }
     ensures ninth { IsNinthSmallest samples result }
 {
@@ -114,7 +119,7 @@ fn lies_near(middle: u64, sample: u64) -> bool
 }
 
 // how many samples lie near the middle one, and the microseconds that they take together
-fn sum_near(samples: &[u64; 16], middle: u64) -> (u32, u128)
+fn sum_near(samples: &[u64; WINDOW], middle: u64) -> (u32, u128)
     ensures count { result.0 ≡ length (filter (is_near middle) samples.now) }
     ensures micros { result.1 ≡ sum (filter (is_near middle) samples.now) }
     ensures within { result.0 ≤ 16 }
@@ -138,5 +143,5 @@ fn in_a_second(count: u32, micros: u128) -> u32
     if micros == 0 {
         return 0;
     }
-    (u128::from(count) * 1_000_000 / micros) as u32
+    (u128::from(count) * SECOND / micros) as u32
 }
