@@ -41,7 +41,8 @@ clamped sample = min sample longest_round_trip
 abbrev pub after_sample : RoundTrip → ℕ → RoundTrip
 after_sample known sample = record {
   rtt = smoothed known.rtt (clamped sample);
-  var = smoothed_variance known.var known.rtt (clamped sample) }
+  var = smoothed_variance known.var known.rtt (clamped sample);
+}
 
 -- how long loss and silence are waited for: four round trips, the variance and an interval
 abbrev pub period_of : RoundTrip → ℕ

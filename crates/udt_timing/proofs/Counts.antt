@@ -1,5 +1,5 @@
 -- How many numbers of a list pass a test.
-use Rattle.std.proofs.Common.{◌≡◌, ℕ, zero, suc, ◌+◌, ◌<◌, ◌≤◌, Bool, true, false, cond, List, [], ◌∷◌, length, take, get_or, count_by, length-take, arith, add-one, inl, inr, ap, refl}
+use Rattle.std.proofs.Common.{◌≡◌, ℕ, zero, suc, ◌<◌, ◌≤◌, Bool, true, false, cond, List, [], ◌∷◌, length, take, get_or, count_by, length-take, arith, add-one, inl, inr, ap, refl}
 use Rattle.std.proofs.lemmas.Bool.{cases_lt}
 use Rattle.std.proofs.lemmas.List.Sums.{sum_by-cons, sum_by-take-le, count_by_more_yes, count_by_more_no, count_by-le-length}
 use Rattle.std.proofs.Math.Seq.{take-length}
@@ -31,10 +31,11 @@ count_by-take_none : (p : ℕ → Bool) (xs : List ℕ) (n k : ℕ) → ((i : �
 count_by-take_none p xs n zero h fits = omega arith
 count_by-take_none p xs n (suc k) h fits =
     elim (cases_lt k n) [
-      inl less ↦ omega (arith, count_by-le-length p (take (suc k) xs), length-take (suc k) xs)
-    | inr more ↦
-        let same = rw add-one at (count_by_more_no p xs k 0 (omega arith) (h k more (omega arith))) in
-        omega (arith, same, count_by-take_none p xs n k h (omega arith)) ]
+      | inl less ↦ omega (arith, count_by-le-length p (take (suc k) xs), length-take (suc k) xs)
+      | inr more ↦
+          let same = rw add-one at (count_by_more_no p xs k 0 (omega arith) (h k more (omega arith))) in
+          omega (arith, same, count_by-take_none p xs n k h (omega arith))
+    ]
 
 -- where none passes from n on, at most n do
 pub count_by-from : (p : ℕ → Bool) (xs : List ℕ) (n : ℕ) → ((i : ℕ) → n ≤ i → i < length xs → p (get_or xs i 0) ≡ false) → count_by p xs ≤ n

@@ -1,7 +1,7 @@
 -- The last acknowledgement under a number, and the history without it.
-use Rattle.std.proofs.Common.{◌≡◌, ◌≢◌, ℕ, ◌+◌, ◌-◌, ◌<◌, ◌≤◌, Bool, true, false, not, cond, eqb, Option, Some, None, List, [], ◌∷◌, ◌++◌, length, take, drop, get_or, slice_get, filter, refl, sym, ◌∙◌, ap, arith, length-append, length-drop, length-take}
+use Rattle.std.proofs.Common.{◌≡◌, ◌≢◌, ℕ, ◌+◌, ◌-◌, ◌<◌, ◌≤◌, Bool, true, false, not, cond, Option, Some, None, List, [], ◌∷◌, ◌++◌, length, take, drop, get_or, slice_get, filter, refl, sym, ◌∙◌, ap, arith, length-append, length-drop, length-take}
 use Rattle.std.specs.List.{All, last_or, suffix_len, before_last, after_last}
-use Rattle.std.proofs.Math.Seq.{take-append_seam, drop-append_seam, drop-length}
+use Rattle.std.proofs.Math.Seq.{take-append_seam, drop-append_seam}
 use Rattle.std.proofs.lemmas.Bool.{eq-eqb, ne_eqb}
 use Rattle.std.proofs.lemmas.List.{drop_more, take-append-drop, get_or-drop, drop-append-le}
 use Rattle.std.proofs.lemmas.List.Elements.{All-head, All-tail, filter-append}
@@ -56,12 +56,12 @@ module _ {X : Type 0} (p : X → Bool) (es : List X) (i : ℕ) (x : X) (h : i < 
   behind =
       suffix_len_is (λ e. not (p e)) es (i + 1) x (omega arith)
       (λ k from within.
-          let place : (i + 1) + (k - (i + 1)) ≡ k = omega arith in
-          let at = get_or-drop (i + 1) es (k - (i + 1)) x ∙ ap (λ n. get_or es n x) place in
-          ap not (sym (ap p at) ∙ none (k - (i + 1)) x (omega (arith, length-drop (i + 1) es))))
+      let place : (i + 1) + (k - (i + 1)) ≡ k = omega arith in
+      let at = get_or-drop (i + 1) es (k - (i + 1)) x ∙ ap (λ n. get_or es n x) place in
+      ap not (sym (ap p at) ∙ none (k - (i + 1)) x (omega (arith, length-drop (i + 1) es))))
       (λ _.
-          let place : (i + 1) - 1 ≡ i = omega arith in
-          ap not (ap (λ n. p (get_or es n x)) place ∙ ap p (get_or_from_slice_get es i x x found) ∙ passes))
+      let place : (i + 1) - 1 ≡ i = omega arith in
+      ap not (ap (λ n. p (get_or es n x)) place ∙ ap p (get_or_from_slice_get es i x x found) ∙ passes))
 
   around_last : before_last p es ++ after_last p es ≡ take i es ++ drop (i + 1) es
   around_last =
@@ -108,7 +108,8 @@ module _ (number : ℕ) (es : List Noted) (i : ℕ) (x : Noted) (h : i < length 
         after = drop (i + 1) es;
         was = split_at es i x h found ∙ ap (λ n. take i es ++ record { number = n; ack = x.ack; at = x.at } ∷ drop (i + 1) es) same;
         is = is;
-        last = none }
+        last = none;
+      }
 
 -- ---- what comes to the end is the last under its number
 
@@ -156,4 +157,5 @@ module _ (number : ℕ) (old turned popped rest : List Noted) (i n : ℕ) (x : N
         entry = last_under-found number old i x h out.0 named none;
         others = out.1 ∙ sym (without_last_under-found number old i x h out.0 named none);
         between = between;
-        kept = KeepsOthers-takes number x.ack x.at old rest between }
+        kept = KeepsOthers-takes number x.ack x.at old rest between;
+      }

@@ -1,9 +1,9 @@
 -- The median is the ninth smallest sample by counts, and counts leave no other number.
-use Rattle.std.proofs.Common.{◌≡◌, ℕ, zero, suc, ◌+◌, ◌<◌, ◌≤◌, Bool, true, false, cond, List, [], ◌∷◌, length, get_or, count_by, nat_lt, nat_le, arith, inl, inr, refl, sym, ◌∙◌, ap}
+use Rattle.std.proofs.Common.{◌≡◌, ℕ, zero, suc, ◌+◌, ◌<◌, ◌≤◌, Bool, cond, List, [], ◌∷◌, length, get_or, count_by, nat_lt, nat_le, arith, inl, inr, refl, ◌∙◌}
 use Rattle.std.specs.List.Sorted.{IsPermutation, IsNonDecreasing}
-use Rattle.std.proofs.lemmas.Bool.{cond_both, cases_order, ltb-true, leb-true, leb-false, lt-ltb, le-ltb, le-leb}
+use Rattle.std.proofs.lemmas.Bool.{cond_both, cases_order, leb-true, leb-false, lt-ltb, le-ltb, le-leb}
 use Rattle.std.proofs.lemmas.List.Sums.{sum_by-cons}
-use Rattle.std.proofs.lemmas.List.Sorted.{sum_by-IsPermutation, IsNonDecreasingBy-from_sort, length_permutation}
+use Rattle.std.proofs.lemmas.List.Sorted.{sum_by-IsPermutation, length_permutation}
 use Rattle.udt_model.specs.Timing.{put_in_order, in_order, median}
 use Rattle.udt_timing.specs.Windows.{IsNinthSmallest}
 use Rattle.udt_timing.proofs.Counts.{count_by-mono, count_by-first, count_by-from}
@@ -15,7 +15,8 @@ ninth_at_eight ys up len =
     let middle : ℕ = get_or ys 8 0 in
     record {
       nine = count_by-first (λ x. nat_le x middle) ys 9 (omega arith) (λ i h. le-leb _ _ (up i 8 0 (omega arith) (omega arith)));
-      eight = count_by-from (λ x. nat_lt x middle) ys 8 (λ i h k. le-ltb _ _ (up 8 i 0 h k)) }
+      eight = count_by-from (λ x. nat_lt x middle) ys 8 (λ i h k. le-ltb _ _ (up 8 i 0 h k));
+    }
 
 -- an exchange of places changes no count
 pub ninth_of_permutation : (xs ys : List ℕ) (m : ℕ) → IsPermutation xs ys → IsNinthSmallest ys m → IsNinthSmallest xs m
@@ -34,10 +35,12 @@ below_none xs a b less at_a at_b =
 pub ninth_unique : (xs : List ℕ) (a b : ℕ) → IsNinthSmallest xs a → IsNinthSmallest xs b → a ≡ b
 ninth_unique xs a b at_a at_b =
     elim (cases_order a b) [
-      inl same ↦ same
-    | inr other ↦ elim other [
-        inl less ↦ absurd (below_none xs a b less at_a at_b)
-      | inr more ↦ absurd (below_none xs b a more at_b at_a) ] ]
+      | inl same ↦ same
+      | inr other ↦ elim other [
+        | inl less ↦ absurd (below_none xs a b less at_a at_b)
+        | inr more ↦ absurd (below_none xs b a more at_b at_a)
+      ]
+    ]
 
 -- ---- the numbers in rising order are the same numbers
 
@@ -46,8 +49,8 @@ unfolding put_in_order
 count_by-put p x [] = refl
 count_by-put p x (y ∷ ys) =
     cond_both (nat_le x y) (x ∷ y ∷ ys) (y ∷ put_in_order x ys) (λ zs. count_by p zs ≡ count_by p (x ∷ y ∷ ys)) (λ _. refl) (λ _.
-        let f : ℕ → ℕ = λ z. cond (p z) 1 0 in
-        omega (arith, sum_by-cons f y (put_in_order x ys), count_by-put p x ys, sum_by-cons f x ys, sum_by-cons f x (y ∷ ys), sum_by-cons f y ys))
+    let f : ℕ → ℕ = λ z. cond (p z) 1 0 in
+    omega (arith, sum_by-cons f y (put_in_order x ys), count_by-put p x ys, sum_by-cons f x ys, sum_by-cons f x (y ∷ ys), sum_by-cons f y ys))
 
 count_by-in_order : (p : ℕ → Bool) (xs : List ℕ) → count_by p (in_order xs) ≡ count_by p xs
 unfolding in_order
@@ -120,7 +123,8 @@ median_is_ninth xs full =
     let ninth : IsNinthSmallest (in_order xs) m = ninth_at_eight (in_order xs) (IsNonDecreasing-from_rises (in_order xs) (Rises-in_order xs)) (length-in_order xs ∙ full) in
     record {
       nine = omega (arith, ninth.nine, count_by-in_order (λ x. nat_le x m) xs);
-      eight = omega (arith, ninth.eight, count_by-in_order (λ x. nat_lt x m) xs) }
+      eight = omega (arith, ninth.eight, count_by-in_order (λ x. nat_lt x m) xs);
+    }
 
 -- and so is what stands at place 8 after a sort
 pub ninth_of_sorted : (xs ys : List ℕ) → length xs ≡ 16 → IsPermutation xs ys → IsNonDecreasing ys → IsNinthSmallest xs (get_or ys 8 0)

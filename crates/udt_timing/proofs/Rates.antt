@@ -1,21 +1,20 @@
 -- Where the rates lie that a window tells.
-use Rattle.std.proofs.Common.{◌≡◌, ℕ, ◌+◌, ◌*◌, ◌/◌, ◌<◌, ◌≤◌, eqb, List, [], ◌∷◌, length, sum, nat_le, subst, sym, arith, ◌∙◌, ap}
+use Rattle.std.proofs.Common.{◌≡◌, ℕ, ◌*◌, ◌/◌, ◌<◌, ◌≤◌, eqb, List, [], ◌∷◌, length, sum, nat_le, arith}
 use Rattle.std.specs.List.{All}
 use Rattle.std.proofs.Math.Nat.{le-div_iff_mul-le, div-mul-le_self, mul-le-mul_left, le_of_mul-le-mul_left}
-use Rattle.std.proofs.lemmas.Bool.{and_parts, leb-true, ne_eqb, cond-false, le-ltb}
+use Rattle.std.proofs.lemmas.Bool.{and_parts, leb-true, ne_eqb, cond-false}
 use Rattle.std.proofs.lemmas.List.Elements.{All-head, All-tail, All-weaker, filter_passes}
 use Rattle.std.proofs.lemmas.List.Sums.{sum_by-cons, sum_by-le}
-use Rattle.udt_model.specs.Timing.{median, is_near, near_median, in_a_second, speed_of, capacity_of}
-use Rattle.udt_timing.specs.Windows.{IsNinthSmallest, IsOneInNinth, IsBetweenRates}
-use Rattle.udt_timing.proofs.Medians.{median_is_ninth, ninth_unique}
+use Rattle.udt_model.specs.Timing.{median, is_near, near_median, in_a_second}
+use Rattle.udt_timing.specs.Windows.{IsBetweenRates}
 
 -- a sample that is kept is within a factor of eight of the median
 pub kept_are_near : (samples : List ℕ) → All (λ v. (median samples ≤ 8 * v) × (v ≤ 8 * median samples)) (near_median samples)
 kept_are_near samples =
     let m : ℕ = median samples in
     All-weaker (λ v. is_near m v ≡ _) (λ v. (m ≤ 8 * v) × (v ≤ 8 * m)) (λ v passes.
-        let both = and_parts (nat_le m (8 * v)) (nat_le v (8 * m)) passes in
-        (leb-true m (8 * v) both.0, leb-true v (8 * m) both.1)) (near_median samples) (filter_passes (is_near m) samples)
+    let both = and_parts (nat_le m (8 * v)) (nat_le v (8 * m)) passes in
+    (leb-true m (8 * v) both.0, leb-true v (8 * m) both.1)) (near_median samples) (filter_passes (is_near m) samples)
 
 -- numbers that are at least `least` sum up to at least as many times that
 sum-least : (least : ℕ) (xs : List ℕ) → All (λ v. least ≤ v) xs → length xs * least ≤ sum xs

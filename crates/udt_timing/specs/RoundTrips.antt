@@ -1,5 +1,5 @@
 -- What the fields of a round-trip time stand for, and where smoothed numbers lie.
-use Rattle.std.specs.Prelude.{◌≡◌, ℕ, ◌≤◌, min, max}
+use Rattle.std.specs.Prelude.{ℕ, ◌≤◌, min, max}
 use Rattle.udt_model.specs.Timing.{RoundTrip, longest_round_trip, gap, smoothed, smoothed_variance, after_sample}
 use Rattle.udt_timing.specs.declared.round_trip.Rtt.{Rtt}
 

@@ -1,5 +1,5 @@
 -- What the median of a window is, and where the rates lie that a window tells.
-use Rattle.std.specs.Prelude.{◌≡◌, ℕ, ◌*◌, ◌/◌, ◌<◌, ◌≤◌, nat_le, nat_lt, List, [], ◌∷◌, ◌++◌, drop, length, count_by}
+use Rattle.std.specs.Prelude.{◌≡◌, ℕ, ◌*◌, ◌<◌, ◌≤◌, nat_le, nat_lt, List, [], ◌∷◌, ◌++◌, drop, length, count_by}
 use Rattle.std.specs.List.{All}
 use Rattle.udt_model.specs.Timing.{window_samples, median, near_median, in_a_second}
 

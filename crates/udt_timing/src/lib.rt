@@ -10,10 +10,11 @@ mod tests;
 
 pub use ack_history::AckWindow;
 pub use arrivals::Samples;
-pub use laws::{kept_are_near, median_is_ninth, ninth_is_one};
-pub use laws::{stays_within_a_minute, time_is_between, variance_is_between};
+pub use laws::{
+    kept_are_near, median_is_ninth, ninth_is_one, stays_within_a_minute, time_is_between,
+    variance_is_between,
+};
 pub use round_trip::{LONGEST_ROUND_TRIP, Rtt, SYN};
-
 use std::alloc::AllocError;
 
 /// Memory ran out.

@@ -25,8 +25,16 @@ fn windows_tell_their_rates(rt: HostRuntime) -> Result<(), Fail> {
         for _ in 0..more {
             samples.push(other);
         }
-        assert_eq!(rt; samples.speed(), speed, "{count} of {sample}, {more} of {other}");
-        assert_eq!(rt; samples.capacity(), capacity, "{count} of {sample}, {more} of {other}");
+        assert_eq!(rt;
+            samples.speed(),
+            speed,
+            "{count} of {sample}, {more} of {other}"
+        );
+        assert_eq!(rt;
+            samples.capacity(),
+            capacity,
+            "{count} of {sample}, {more} of {other}"
+        );
     }
     // 100 to 1,600: 900 is the ninth, and 100 is less than an eighth of it
     let mut samples = Samples::new(rt.alloc())?;
@@ -40,7 +48,10 @@ fn windows_tell_their_rates(rt: HostRuntime) -> Result<(), Fail> {
 #[test]
 fn times_are_smoothed_and_acknowledgements_found(rt: HostRuntime) -> Result<(), Fail> {
     let mut known = Rtt::new();
-    assert_eq!(rt; (known.rtt, known.var, known.period()), (100_000, 50_000, 460_000));
+    assert_eq!(rt;
+        (known.rtt, known.var, known.period()),
+        (100_000, 50_000, 460_000)
+    );
     // a sample; the time, the variance and the period after it
     let table = [
         (20_000, 90_000, 57_500, 427_500),
@@ -50,7 +61,10 @@ fn times_are_smoothed_and_acknowledgements_found(rt: HostRuntime) -> Result<(), 
     ];
     for (sample, time, variance, period) in table {
         known.sample(sample);
-        assert_eq!(rt; (known.rtt, known.var, known.period()), (time, variance, period));
+        assert_eq!(rt;
+            (known.rtt, known.var, known.period()),
+            (time, variance, period)
+        );
     }
 
     let mut window = AckWindow::new(rt.alloc())?;

@@ -7,4 +7,5 @@ invariant-loop-sample l = record {
   number : l.count ≡ length (filter (is_near l.middle) (take l.sample-index l.samples));
   total : l.micros ≡ sum (filter (is_near l.middle) (take l.sample-index l.samples));
   few : l.count ≤ l.sample-index;
-  fits : l.micros ≤ l.sample-index * 2 ^ 64 }
+  fits : l.micros ≤ l.sample-index * 2 ^ 64;
+}

@@ -9,6 +9,6 @@ use Rattle.udt_timing.proofs.ack_history.AckWindow.last_place.Goals as goal
 pub loop-i-preserved : goal.loop-i-preserved
 loop-i-preserved c =
     All-drop_back (λ e. e.number ≢ c.args.number) c.args.self.now c.loop-i.i c.loop-i-test.true c.loop-i.invariant (λ e found same.
-        let read : c.number_at.result ≡ Some e.number = c.number_at.ensures ∙ ap (option_map number_of) found in
-        let differs : eqb e.number c.args.number ≡ false = sym (ap (λ z. option_eq eqb z (Some c.args.number)) read) ∙ sym c.if-eq.ensures in
-        eqb-false e.number c.args.number differs same)
+    let read : c.number_at.result ≡ Some e.number = c.number_at.ensures ∙ ap (option_map number_of) found in
+    let differs : eqb e.number c.args.number ≡ false = sym (ap (λ z. option_eq eqb z (Some c.args.number)) read) ∙ sym c.if-eq.ensures in
+    eqb-false e.number c.args.number differs same)

@@ -1,4 +1,4 @@
-use Rattle.std.proofs.Common.{◌≡◌, ◌∙◌, ap, refl, arith}
+use Rattle.std.proofs.Common.{◌∙◌, ap, refl, arith}
 use Rattle.udt_model.specs.Timing.{Noted, last_under}
 use Rattle.udt_timing.proofs.LastOnes.{last_under-pushed}
 use Rattle.udt_timing.proofs.ack_history.AckWindow.note.Goals as goal

@@ -30,4 +30,5 @@ returns c =
       next = out.others;
       none = (λ h. absurd (true≢false h), λ all. absurd (all c.in_ok-at.at entry within (found entry)));
       some = subst Takes (sym c.entry.view_is) out.between;
-      others = out.kept }
+      others = out.kept;
+    }

@@ -9,4 +9,5 @@ invariant-loop-turned l =
       items : l.self-inside.entries.items ≡ drop l.turned old ++ take l.turned old;
       capacity : l.self-inside.entries.capacity ≡ 1024;
       within : l.count ≤ length old;
-      fits : length old ≤ 1024 }
+      fits : length old ≤ 1024;
+    }

@@ -1,4 +1,4 @@
-use Rattle.std.proofs.Common.{◌≡◌, ◌∙◌, ℕ, List, ap, subst}
+use Rattle.std.proofs.Common.{◌∙◌, ℕ, List, ap, subst}
 use Rattle.udt_model.specs.Timing.{in_a_second}
 use Rattle.udt_timing.specs.Windows.{IsNinthSmallest}
 use Rattle.udt_timing.proofs.Medians.{ninth_unique}
