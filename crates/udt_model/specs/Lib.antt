@@ -9,3 +9,4 @@ pub mod History
 pub mod Words
 pub mod Lines
 pub mod Script
+pub mod Timing
