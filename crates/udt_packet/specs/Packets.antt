@@ -1,5 +1,5 @@
 -- The code's packets, as the definitions of the protocol see them.
-use Rattle.std.specs.Prelude.{Result, Ok, Err}
+use Rattle.std.specs.Prelude.{◌≡◌, ℕ, ◌<◌, ◌^◌, List, drop, All, Result, Ok, Err}
 use Rattle.udt_model.specs.declared.packets.Malformed.{Malformed}
 use Rattle.udt_model.specs.Wire as wire
 use Rattle.udt_packet.specs.declared.packet.Packet.{Packet}
@@ -13,3 +13,11 @@ packet_of (code.Block seq flags stamp dest bytes) = wire.Block seq flags stamp d
 abbrev pub reading_of : Result Packet Malformed → Result wire.Packet Malformed
 reading_of (Ok packet) = Ok (packet_of packet)
 reading_of (Err why) = Err why
+
+-- the bytes of a block are all that stand behind the header
+abbrev pub CarriesRest : List ℕ → Packet → Type 0
+CarriesRest bytes (code.Block seq flags stamp dest block) = block.now ≡ drop 16 bytes
+
+-- each number of the list is a byte
+abbrev pub AreBytes : List ℕ → Type 0
+AreBytes bytes = All (λ byte. byte < 2 ^ 8) bytes
