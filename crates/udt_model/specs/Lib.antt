@@ -6,3 +6,4 @@ pub mod Sending
 pub mod Receiving
 pub mod Step
 pub mod History
+pub mod Records
