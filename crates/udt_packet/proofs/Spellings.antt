@@ -1,13 +1,10 @@
 -- Bytes that are read as a block are its one spelling.
-use Rattle.std.proofs.Common.{◌≡◌, ℕ, ◌+◌, ◌^◌, ◌<◌, ◌≤◌, Bool, true, false, cond, ltb, List, ◌++◌, length, get_or, take, drop, Result, Ok, Err, refl, sym, ap, subst, ◌∙◌, append_assoc, arith, inl, inr}
-use Rattle.std.proofs.lemmas.Bool.{cases_lt, ltb-false, ltb-true}
+use Rattle.std.proofs.Common.{◌≡◌, ℕ, ◌+◌, ◌^◌, ◌<◌, ◌≤◌, List, ◌++◌, length, get_or, take, drop, Ok, refl, sym, ap, subst, ◌∙◌, append_assoc, arith, inl, inr}
+use Rattle.std.proofs.lemmas.Bool.{cases_lt}
 use Rattle.std.proofs.lemmas.Bool.Decides.{nat_tests}
 use Rattle.std.proofs.lemmas.List.{take-append-drop, length-take, length-drop, get_or-drop, get_or-take, get_or_past, drop-drop}
 use Rattle.std.proofs.lemmas.Nat.{be_bytes_4}
-use Rattle.udt_model.specs.declared.packets.Flags.{Flags}
-use Rattle.udt_model.specs.declared.packets.Malformed.{Malformed}
-use Rattle.udt_model.specs.declared.packets.Malformed.TheVariants.{TooShort, UnknownType}
-use Rattle.udt_model.specs.Wire.{Packet, Block, flags_word, flags_of, word, word_at, spelling, read, block_of, IsInRange}
+use Rattle.udt_model.specs.Wire.{Packet, flags_word, flags_of, word, word_at, spelling, read, block_of, IsInRange}
 use Rattle.udt_packet.specs.Packets.{AreBytes}
 
 -- a word makes the flags that it tells

@@ -6,7 +6,7 @@ ghost use Rattle.udt_packet.specs.Packets.{reading_of, CarriesRest};
 
 use crate::flags::flags_of;
 use crate::packet::Packet;
-use crate::words::{word_at, HEADER};
+use crate::words::{HEADER, word_at};
 use udt_model::Malformed;
 
 /// The first bit of a control packet, which a block's wire number doesn't have.

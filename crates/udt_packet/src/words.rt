@@ -13,7 +13,12 @@ pub fn word_at(bytes: &[u8], place: usize) -> u32
     requires { place + 4 ≤ length bytes.now }
     ensures { result ≡ wire.word_at place bytes.now }
 {
-    u32::from_be_bytes([bytes[place], bytes[place + 1], bytes[place + 2], bytes[place + 3]])
+    u32::from_be_bytes([
+        bytes[place],
+        bytes[place + 1],
+        bytes[place + 2],
+        bytes[place + 3],
+    ])
 }
 
 /// Four words, one behind the other.

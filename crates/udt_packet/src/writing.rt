@@ -7,7 +7,7 @@ ghost use Rattle.udt_packet.specs.Packets.{packet_of};
 
 use crate::flags::flags_word;
 use crate::packet::Packet;
-use crate::words::{extend, header, put, HEADER};
+use crate::words::{HEADER, extend, header, put};
 
 /// How many bytes spell the packet.
 #[tactic(auto, unfolding(udt_model::specs::Wire::spelling))]
@@ -28,7 +28,13 @@ pub fn write(packet: &Packet, into: &mut [u8]) -> usize
     ensures after { into.new ≡ spelling (packet_of packet.now) ++ drop result into.old }
 {
     match packet {
-        Packet::Block { seq, flags, stamp, dest, bytes } => {
+        Packet::Block {
+            seq,
+            flags,
+            stamp,
+            dest,
+            bytes,
+        } => {
             let place = put(into, 0, &header(*seq, flags_word(*flags), *stamp, *dest));
             put(into, place, bytes)
         }
@@ -45,8 +51,18 @@ pub fn append(packet: &Packet, into: &mut Vec<u8>)
     ensures capacity { vec_capacity into.old ≤ vec_capacity into.new }
 {
     match packet {
-        Packet::Block { seq, flags, stamp, dest, bytes } => {
-            extend(into, &header(*seq, flags_word(*flags), *stamp, *dest), bytes)
+        Packet::Block {
+            seq,
+            flags,
+            stamp,
+            dest,
+            bytes,
+        } => {
+            extend(
+                into,
+                &header(*seq, flags_word(*flags), *stamp, *dest),
+                bytes,
+            )
         }
     }
 }
