@@ -15,3 +15,6 @@ pub use packet::Packet;
 pub use reading::{read, target};
 pub use udt_model::{Config, Flags, Kind, Malformed};
 pub use writing::{append, size, write};
+
+#[cfg(test)]
+mod tests;
