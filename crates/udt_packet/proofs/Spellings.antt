@@ -5,7 +5,7 @@ use Rattle.std.proofs.lemmas.Bool.Decides.{nat_tests}
 use Rattle.std.proofs.lemmas.List.{take-append-drop, length-take, length-drop, get_or-drop, get_or-take, get_or_past, drop-drop}
 use Rattle.std.proofs.lemmas.Nat.{be_bytes_4}
 use Rattle.udt_model.specs.Wire.{Packet, flags_word, flags_of, word, word_at, spelling, read, block_of, IsInRange}
-use Rattle.udt_packet.specs.Packets.{AreBytes}
+use Rattle.udt_packet.specs.Packets.{AreBytes, IsBlock, HasOneSpelling}
 
 -- a word makes the flags that it tells
 word_again : (n : ℕ) → n < 2 ^ 32 → flags_word (flags_of n) ≡ n
@@ -76,10 +76,17 @@ read_block : (bytes : List ℕ) (packet : Packet) → read bytes ≡ Ok packet �
 unfolding read
 read_block bytes packet reads = grind (arith, nat_tests)
 
-pub block_spelled : (bytes : List ℕ) (packet : Packet) → AreBytes bytes → read bytes ≡ Ok packet → bytes ≡ spelling packet
+-- so the bytes are its spelling
+block_spelled : (bytes : List ℕ) (packet : Packet) → AreBytes bytes → read bytes ≡ Ok packet → bytes ≡ spelling packet
 block_spelled bytes packet are reads = sym (spells bytes are (read_long bytes packet reads)) ∙ ap spelling (read_block bytes packet reads)
 
--- its numbers fit their places
-pub block_in_range : (bytes : List ℕ) (packet : Packet) → AreBytes bytes → read bytes ≡ Ok packet → IsInRange packet
+-- and its numbers fit their places
+block_in_range : (bytes : List ℕ) (packet : Packet) → AreBytes bytes → read bytes ≡ Ok packet → IsInRange packet
 block_in_range bytes packet are reads =
     subst IsInRange (read_block bytes packet reads) (read_low bytes packet reads, omega arith, word_at-below 8 bytes are, word_at-below 12 bytes are)
+
+pub one_spelling : (packet : Packet) → IsBlock packet → HasOneSpelling packet
+one_spelling packet is_block = record {
+  spelling = λ bytes are reads. block_spelled bytes packet are reads;
+  in_range = λ bytes are reads. block_in_range bytes packet are reads;
+}

@@ -9,6 +9,10 @@ use Rattle.udt_packet.specs.declared.packet.Packet.TheVariants as code
 abbrev pub packet_of : Packet → wire.Packet
 packet_of (code.Block seq flags stamp dest bytes) = wire.Block seq flags stamp dest bytes.now
 
+-- the bytes that are written of it
+abbrev pub spelled : Packet → List ℕ
+spelled packet = wire.spelling (packet_of packet)
+
 -- what was read, so seen
 abbrev pub reading_of : Result Packet Malformed → Result wire.Packet Malformed
 reading_of (Ok packet) = Ok (packet_of packet)
@@ -18,6 +22,17 @@ reading_of (Err why) = Err why
 abbrev pub CarriesRest : List ℕ → Packet → Type 0
 CarriesRest bytes (code.Block seq flags stamp dest block) = block.now ≡ drop 16 bytes
 
+-- ---- one spelling
+
 -- each number of the list is a byte
 abbrev pub AreBytes : List ℕ → Type 0
 AreBytes bytes = All (λ byte. byte < 2 ^ 8) bytes
+
+-- the packet is a block of data
+abbrev pub IsBlock : wire.Packet → Type 0
+IsBlock (wire.Block seq flags stamp dest bytes) = Unit {0}
+
+-- bytes that are read as this packet are its spelling, and its numbers fit their places
+pub record HasOneSpelling (packet : wire.Packet) : Type 0 where
+  pub spelling : (bytes : List ℕ) → AreBytes bytes → wire.read bytes ≡ Ok packet → bytes ≡ wire.spelling packet
+  pub in_range : (bytes : List ℕ) → AreBytes bytes → wire.read bytes ≡ Ok packet → wire.IsInRange packet

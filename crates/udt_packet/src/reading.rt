@@ -2,7 +2,7 @@
 
 ghost use Rattle.std.specs.Prelude.{◌≡◌, ◌<◌, ◌≤◌, ◌↔◌, length, IfOk, Err, IsTrue, is_some};
 ghost use Rattle.udt_model.specs.Wire as wire;
-ghost use Rattle.udt_packet.specs.Packets.{reading_of, CarriesRest};
+ghost use Rattle.udt_packet.specs.Packets.{packet_of, reading_of, CarriesRest};
 
 use crate::flags::flags_of;
 use crate::packet::Packet;
@@ -25,6 +25,22 @@ pub fn target(bytes: &[u8]) -> Option<u32>
     Some(word_at(bytes, 12))
 }
 
+/// The block that the bytes spell, which aren't too short.
+fn block<'a>(bytes: &'a [u8]) -> Packet<'a>
+    requires { 16 ≤ length bytes.now }
+    ensures value { packet_of result ≡ wire.block_of bytes.now }
+    ensures rest { CarriesRest bytes.now result }
+{
+    let (header, rest) = bytes.split_at(HEADER);
+    Packet::Block {
+        seq: word_at(header, 0),
+        flags: flags_of(word_at(header, 4)),
+        stamp: word_at(header, 8),
+        dest: word_at(header, 12),
+        bytes: rest,
+    }
+}
+
 /// The packet that the bytes spell, or why they spell none: they are too short, or a control packet
 /// of no known type. Its bytes are borrowed.
 #[tactic(auto, unfolding(udt_model::specs::Wire::read))]
@@ -36,16 +52,8 @@ pub fn read<'a>(bytes: &'a [u8]) -> Result<Packet<'a>, Malformed>
     if bytes.len() < HEADER {
         return Err(Malformed::TooShort);
     }
-    let (header, rest) = bytes.split_at(HEADER);
-    let seq = word_at(header, 0);
-    if seq >= CONTROL {
+    if word_at(bytes, 0) >= CONTROL {
         return Err(Malformed::UnknownType);
     }
-    Ok(Packet::Block {
-        seq,
-        flags: flags_of(word_at(header, 4)),
-        stamp: word_at(header, 8),
-        dest: word_at(header, 12),
-        bytes: rest,
-    })
+    Ok(block(bytes))
 }

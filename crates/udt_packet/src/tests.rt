@@ -29,7 +29,12 @@ const NEAR: [(u32, u64, u32, Option<u64>); 14] = [
     (2_147_483_647, 2_147_483_647, 4, Some(2_147_483_653)),
     (4_294_967_295, 1, 0, Some(1)),
     (4_294_967_295, 1, 2_147_483_647, Some(0)),
-    (0, 9_223_372_036_854_775_807, 0, Some(9_223_372_036_854_775_808)),
+    (
+        0,
+        9_223_372_036_854_775_807,
+        0,
+        Some(9_223_372_036_854_775_808),
+    ),
 ];
 
 #[test]
@@ -79,14 +84,40 @@ fn goes_there_and_back(
 
 #[test]
 fn blocks_are_written_and_read(rt: HostRuntime) -> Result<(), Fail> {
-    let flags = Flags { first: true, last: false, order: false, message: 1 };
-    let packet = Packet::Block { seq: 5, flags, stamp: 1000, dest: 2, bytes: b"hell" };
+    let flags = Flags {
+        first: true,
+        last: false,
+        order: false,
+        message: 1,
+    };
+    let packet = Packet::Block {
+        seq: 5,
+        flags,
+        stamp: 1000,
+        dest: 2,
+        bytes: b"hell",
+    };
     goes_there_and_back(&rt, rt.alloc(), packet, &HELL)?;
-    let flags = Flags { first: false, last: true, order: false, message: 1 };
-    let packet = Packet::Block { seq: 6, flags, stamp: 1000, dest: 2, bytes: b"o" };
+    let flags = Flags {
+        first: false,
+        last: true,
+        order: false,
+        message: 1,
+    };
+    let packet = Packet::Block {
+        seq: 6,
+        flags,
+        stamp: 1000,
+        dest: 2,
+        bytes: b"o",
+    };
     goes_there_and_back(&rt, rt.alloc(), packet, &O)?;
     for len in 0..16u32 {
-        assert_eq!(rt; read(&O[..len as usize]), Err(Malformed::TooShort), "of {len}");
+        assert_eq!(rt;
+            read(&O[..len as usize]),
+            Err(Malformed::TooShort),
+            "of {len}"
+        );
         assert_eq!(rt; target(&O[..len as usize]), None, "of {len}");
     }
     let mut control = O;

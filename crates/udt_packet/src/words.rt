@@ -1,7 +1,7 @@
 // The words of a packet's header, and the bytes of a packet put behind one another.
 
 ghost use Rattle.std.specs.Prelude.{◌≡◌, ◌+◌, ◌≤◌, ◌++◌, length, take, drop};
-ghost use Rattle.std.specs.Vec.{vec_capacity};
+ghost use Rattle.std.specs.Vec.{vec_len, vec_capacity};
 ghost use Rattle.udt_model.specs.Wire as wire;
 ghost use Rattle.udt_model.specs.Wire.{word};
 
@@ -49,7 +49,7 @@ pub fn put(into: &mut [u8], place: usize, bytes: &[u8]) -> usize
 /// Adds a header and the bytes behind it, within the room that there is.
 #[tactic(auto, using(std::proofs::Common::append_assoc))]
 pub fn extend(into: &mut Vec<u8>, header: &[u8], rest: &[u8])
-    requires { length into.old.items + (length header.now + length rest.now) ≤ vec_capacity into.old }
+    requires { vec_len into.old + (length header.now + length rest.now) ≤ vec_capacity into.old }
     ensures items { into.new.items ≡ into.old.items ++ (header.now ++ rest.now) }
     ensures capacity { vec_capacity into.old ≤ vec_capacity into.new }
 {

@@ -2,8 +2,8 @@
 
 ghost use Rattle.std.specs.Prelude.{◌≡◌, ◌≤◌, ◌++◌, length, drop};
 ghost use Rattle.std.specs.Vec.{vec_capacity};
-ghost use Rattle.udt_model.specs.Wire.{spelling, IsInRange};
-ghost use Rattle.udt_packet.specs.Packets.{packet_of};
+ghost use Rattle.udt_model.specs.Wire.{IsInRange};
+ghost use Rattle.udt_packet.specs.Packets.{packet_of, spelled};
 
 use crate::flags::flags_word;
 use crate::packet::Packet;
@@ -12,7 +12,7 @@ use crate::words::{HEADER, extend, header, put};
 /// How many bytes spell the packet.
 #[tactic(auto, unfolding(udt_model::specs::Wire::spelling))]
 pub fn size(packet: &Packet) -> usize
-    ensures { result ≡ length (spelling (packet_of packet.now)) }
+    ensures { result ≡ length (spelled packet.now) }
 {
     match packet {
         Packet::Block { bytes, .. } => HEADER + bytes.len(),
@@ -22,10 +22,10 @@ pub fn size(packet: &Packet) -> usize
 /// Writes the one spelling of the packet at the front of `into`, and answers its size.
 #[tactic(auto, unfolding(udt_model::specs::Wire::spelling))]
 pub fn write(packet: &Packet, into: &mut [u8]) -> usize
-    requires fits { length (spelling (packet_of packet.now)) ≤ length into.old }
+    requires fits { length (spelled packet.now) ≤ length into.old }
     requires in_range { IsInRange (packet_of packet.now) }
-    ensures value { result ≡ length (spelling (packet_of packet.now)) }
-    ensures after { into.new ≡ spelling (packet_of packet.now) ++ drop result into.old }
+    ensures value { result ≡ length (spelled packet.now) }
+    ensures after { into.new ≡ spelled packet.now ++ drop result into.old }
 {
     match packet {
         Packet::Block {
@@ -45,9 +45,9 @@ pub fn write(packet: &Packet, into: &mut [u8]) -> usize
 /// memory.
 #[tactic(auto, unfolding(udt_model::specs::Wire::spelling))]
 pub fn append(packet: &Packet, into: &mut Vec<u8>)
-    requires room { length (into.old.items ++ spelling (packet_of packet.now)) ≤ vec_capacity into.old }
+    requires room { length (into.old.items ++ spelled packet.now) ≤ vec_capacity into.old }
     requires in_range { IsInRange (packet_of packet.now) }
-    ensures items { into.new.items ≡ into.old.items ++ spelling (packet_of packet.now) }
+    ensures items { into.new.items ≡ into.old.items ++ spelled packet.now }
     ensures capacity { vec_capacity into.old ≤ vec_capacity into.new }
 {
     match packet {
