@@ -10,3 +10,4 @@ pub mod Words
 pub mod Lines
 pub mod Script
 pub mod Timing
+pub mod Records
