@@ -12,3 +12,6 @@ pub use control::{Control, Seen};
 pub use formulas::{increase, shorter};
 pub use native::Native;
 pub use steady::Steady;
+
+#[cfg(test)]
+mod tests;
