@@ -1,13 +1,9 @@
-// A library with one function.
+//! Two rate controls beside the native one: a fixed period, and a window that adds and halves.
 #![tactic(auto)]
 
-ghost use Rattle.std.specs.Prelude.{◌≡◌};
-ghost use Rattle.udt_controls.specs.Echo.{echo_of};
+mod aimd;
+mod fixed;
+pub mod laws;
 
-// The `ensures` clause is the contract: what `echo` returns is `echo_of` of its argument, a definition
-// in `specs/Echo.antt`, which a caller's clause can cite too.
-pub fn echo(x: usize) -> usize
-    ensures { result ≡ echo_of x }
-{
-    x
-}
+pub use aimd::Aimd;
+pub use fixed::Fixed;
