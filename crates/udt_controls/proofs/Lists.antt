@@ -5,7 +5,7 @@ use Rattle.std.proofs.Math.Nat.{le-mul_of_pos_right}
 use Rattle.std.proofs.lemmas.Nat.{div_below}
 use Rattle.std.proofs.lemmas.Bool.{cond_both, ltb-true, false≢true}
 use Rattle.udt_model.specs.Rate.{Feedback, Ways, Call, OnAck, OnNak, OnTimeout, after_call, after_calls, IsAllowed, AreAllowed, newly_acknowledged, is_new_loss, largest_window}
-use Rattle.udt_model.specs.Controls.{Additive, starting, doubling, adding, halved, cut, additive, aimd_after, IsFixed, IsAdditive, fixed_period, KeepsWindow, KeepWindow, RisesByAtMost, RisesBetweenDecreases, LaterLossIsNew}
+use Rattle.udt_model.specs.Controls.{Additive, starting, doubling, adding, halved, cut, additive, aimd_after, IsFixed, IsAdditive, fixed_period, KeepsWindow, KeepWindow, RisesByAtMost, RisesBetweenDecreases, DecreaseNeverRaises, LaterLossIsNew}
 use Rattle.udt_controls.specs.Windows.{IsWindowed, call_is_windowed, calls_are_windowed, starting_is_windowed}
 
 -- two lists of calls, one after the other
@@ -65,6 +65,24 @@ pub rises_between_decreases : RisesBetweenDecreases
 rises_between_decreases before between keep =
     rw (after_both before between starting)
       (rises_by_all between (aimd_after before) (calls_are_windowed before starting starting_is_windowed) keep)
+
+-- ---- a decrease
+
+-- one call that isn't an acknowledgement
+falls_by_one :
+    (a : Additive) (call : Call) → IsWindowed a → (KeepsWindow a call → ⊥)
+    → (after_call additive a call).window ≤ a.window
+falls_by_one a (OnAck seen) h lost = absurd (lost tt)
+falls_by_one a (OnNak first sent seen) h lost =
+    cond_both (is_new_loss a.last_dec first) (halved a sent) a (λ b. b.window ≤ a.window)
+      (λ _. omega (arith, h.least))
+      (λ _. omega arith)
+falls_by_one a (OnTimeout seen) h lost = omega (arith, h.least)
+
+pub decrease_never_raises : DecreaseNeverRaises
+decrease_never_raises before call lost =
+    rw (after_both before (call ∷ []) starting)
+      (falls_by_one (aimd_after before) call (calls_are_windowed before starting starting_is_windowed) lost)
 
 -- ---- a later loss
 

@@ -2,7 +2,7 @@
 // the law.
 ghost use Rattle.std.specs.Prelude.{◌≡◌};
 ghost use Rattle.udt_model.specs.Rate.{ways, StaysInBounds};
-ghost use Rattle.udt_model.specs.Controls.{IsFixed, IsAdditive, RisesBetweenDecreases, LaterLossIsNew};
+ghost use Rattle.udt_model.specs.Controls.{IsFixed, IsAdditive, RisesBetweenDecreases, DecreaseNeverRaises, LaterLossIsNew};
 
 use crate::aimd::Aimd;
 use crate::fixed::Fixed;
@@ -64,6 +64,12 @@ pub fn aimd_stays_in_bounds()
 #[tactic(auto, using(crate::proofs::Lists::rises_between_decreases))]
 pub fn aimd_rises_between_decreases()
     ensures { RisesBetweenDecreases }
+{}
+
+/// A decrease never makes the window of `Aimd` larger.
+#[tactic(auto, using(crate::proofs::Lists::decrease_never_raises))]
+pub fn aimd_never_rises_at_a_decrease()
+    ensures { DecreaseNeverRaises }
 {}
 
 /// Of two decreases of `Aimd` by a loss report the later one's first loss is above every offset sent

@@ -7,3 +7,6 @@ pub mod laws;
 
 pub use aimd::Aimd;
 pub use fixed::Fixed;
+
+#[cfg(test)]
+mod tests;

@@ -113,6 +113,12 @@ RisesBetweenDecreases =
         (aimd_after (before ++ between)).window
         (newly_acknowledged between)
 
+-- a decrease never makes the window larger
+abbrev pub DecreaseNeverRaises : Type 0
+DecreaseNeverRaises =
+    (before : List Call) (call : Call) → (KeepsWindow (aimd_after before) call → ⊥)
+    → (aimd_after (before ++ call ∷ [])).window ≤ (aimd_after before).window
+
 -- of two decreases by a loss report the later one's first loss is above all that was sent at the
 -- earlier one, whatever came between
 abbrev pub LaterLossIsNew : Type 0

@@ -259,12 +259,13 @@ abbrev pub PowerIsLeast : Type 0
 PowerIsLeast = (x : ℕ) → IsLeastPower (power_of_ten x) x
 
 -- a state that calls can lead to: the window is no smaller than the first one and no larger than
--- the largest, the period is at most a second, and after slow start it is at least a nanosecond
+-- the largest, there is no period in slow start, and after it one from a nanosecond to a second
 pub record IsPaced (n : Pacing) : Type 0 where
   pub packet : 1 ≤ n.packet_bytes
   pub window : first_window ≤ n.window
   pub window_end : n.window ≤ largest_window
   pub period : n.period_nanos ≤ longest_period
+  pub slow_start : n.slow ≡ true → n.period_nanos ≡ 0
   pub started : n.slow ≡ false → 1 ≤ n.period_nanos
 
 -- whatever the native control is told, it is in such a state
@@ -273,15 +274,25 @@ NativeIsPaced =
     (packet flow : ℕ) (calls : List Call) → 1 ≤ packet → AreAllowed calls
     → IsPaced (after_calls native (opening packet flow) calls)
 
--- after slow start a loss report never makes the sender faster
+-- the call tells of packets that count as lost
+abbrev pub TellsOfLoss : Call → Type 0
+TellsOfLoss (OnAck seen) = ⊥
+TellsOfLoss (OnNak first sent seen) = ⊤
+TellsOfLoss (OnTimeout seen) = ⊤
+
+-- the sender is no faster than before: no more packets on their way, and none of them sooner
+pub record IsNoFaster (old new : Pacing) : Type 0 where
+  pub window : new.window ≤ old.window
+  pub period : old.period_nanos ≤ new.period_nanos
+
+-- a loss never makes the sender faster
 abbrev pub LossNeverSpeedsUp : Type 0
 LossNeverSpeedsUp =
-    (n : Pacing) (first sent : ℕ) (seen : Feedback) → IsPaced n → n.slow ≡ false
-    → n.period_nanos ≤ (after_nak n first sent seen).period_nanos
+    (n : Pacing) (call : Call) → IsPaced n → TellsOfLoss call → IsNoFaster n (after_call native n call)
 
--- after slow start an acknowledgement never makes the sender slower
-abbrev pub AckNeverSlowsDown : Type 0
-AckNeverSlowsDown =
+-- after slow start an acknowledgement never makes the period longer
+abbrev pub AckNeverLengthensPeriod : Type 0
+AckNeverLengthensPeriod =
     (n : Pacing) (seen : Feedback) → IsPaced n → n.slow ≡ false
     → (after_ack n seen).period_nanos ≤ n.period_nanos
 

@@ -2,21 +2,39 @@
 use Rattle.std.proofs.Common.{◌≡◌, ℕ, ◌+◌, ◌-◌, ◌*◌, ◌/◌, ◌^◌, ◌<◌, ◌≤◌, Bool, true, false, min, max, List, [], ◌∷◌, Option, Some, None, refl, sym, subst, cond, arith}
 use Rattle.std.specs.Prelude.{nat_lt, nat_le}
 use Rattle.std.proofs.lemmas.Bool.{cond_both, ltb-true}
-use Rattle.udt_model.specs.Rate.{Feedback, Call, OnAck, OnNak, OnTimeout, after_call, after_calls, IsAllowed, AreAllowed, is_new_loss, Pacing, opened, ended, sped_up, slowed_down, acknowledged, reported, after_nak, native, increase_of, LossNeverSpeedsUp, AckNeverSlowsDown, SlowStartNeverShrinks, IsSlowedBy, OneDecreaseAFlight}
+use Rattle.udt_model.specs.Rate.{Feedback, Call, OnAck, OnNak, OnTimeout, after_call, after_calls, IsAllowed, AreAllowed, is_new_loss, Pacing, opened, ended, sped_up, slowed_down, acknowledged, reported, after_nak, native, increase_of, IsPaced, TellsOfLoss, IsNoFaster, LossNeverSpeedsUp, AckNeverLengthensPeriod, SlowStartNeverShrinks, IsSlowedBy, OneDecreaseAFlight}
 use Rattle.udt_rate.specs.PacedStates.{shorter_is_no_longer}
 
 -- ---- faster and slower
 
-pub loss_never_speeds_up : LossNeverSpeedsUp
-loss_never_speeds_up n first sent seen h is_over =
-    let P : Bool → Type 0 = λ slow. n.period_nanos ≤ (reported slow n first sent seen).period_nanos in
-    subst P (sym is_over)
-      (cond_both (is_new_loss n.last_dec first) (slowed_down n sent) n (λ m. n.period_nanos ≤ m.period_nanos)
-        (λ _. omega (arith, h.period))
-        (λ _. omega arith))
+-- the end of slow start gives a sender without a period one
+ended_is_no_faster : (n : Pacing) (seen : Feedback) → n.period_nanos ≡ 0 → IsNoFaster n (ended n seen)
+ended_is_no_faster n seen none = record { window = omega arith; period = omega (arith, none) }
 
-pub ack_never_slows_down : AckNeverSlowsDown
-ack_never_slows_down n seen h is_over =
+-- nothing changed
+same_is_no_faster : (n : Pacing) → IsNoFaster n n
+same_is_no_faster n = record { window = omega arith; period = omega arith }
+
+-- a loss report, in slow start or not
+nak_is_no_faster :
+    (slow : Bool) (n : Pacing) (first sent : ℕ) (seen : Feedback) → n.slow ≡ slow → IsPaced n
+    → IsNoFaster n (reported slow n first sent seen)
+nak_is_no_faster true n first sent seen is_slow h = ended_is_no_faster n seen (h.slow_start is_slow)
+nak_is_no_faster false n first sent seen is_slow h =
+    cond_both (is_new_loss n.last_dec first) (slowed_down n sent) n (λ m. IsNoFaster n m)
+      (λ _. record { window = omega arith; period = omega (arith, h.period) })
+      (λ _. same_is_no_faster n)
+
+pub loss_never_speeds_up : LossNeverSpeedsUp
+loss_never_speeds_up n (OnAck seen) h lost = absurd lost
+loss_never_speeds_up n (OnNak first sent seen) h lost = nak_is_no_faster n.slow n first sent seen refl h
+loss_never_speeds_up n (OnTimeout seen) h lost =
+    cond_both n.slow (ended n seen) n (λ m. IsNoFaster n m)
+      (λ e. ended_is_no_faster n seen (h.slow_start e))
+      (λ _. same_is_no_faster n)
+
+pub ack_never_lengthens_period : AckNeverLengthensPeriod
+ack_never_lengthens_period n seen h is_over =
     let P : Bool → Type 0 = λ slow. (acknowledged slow n seen).period_nanos ≤ n.period_nanos in
     subst P (sym is_over)
       (shorter_is_no_longer n.period_nanos (increase_of seen.capacity n.period_nanos n.packet_bytes) (h.started is_over))

@@ -21,6 +21,7 @@ ended_is_paced n seen h =
       window = h.window;
       window_end = h.window_end;
       period = omega arith;
+      slow_start = λ e. absurd (cc e);
       started = λ _. omega arith
     }
 
@@ -32,6 +33,7 @@ opened_is_paced n seen h =
       window = omega (arith, h.window);
       window_end = omega arith;
       period = h.period;
+      slow_start = h.slow_start;
       started = h.started
     }
 
@@ -50,6 +52,7 @@ ack_is_paced false n seen is_slow h =
       window = omega arith;
       window_end = omega arith;
       period = omega (arith, h.period, short);
+      slow_start = λ e. absurd (cc (e, is_slow));
       started = λ _. omega arith
     }
 
@@ -62,6 +65,7 @@ slowed_is_paced n sent is_over h =
       window = h.window;
       window_end = h.window_end;
       period = omega arith;
+      slow_start = λ e. absurd (cc (e, is_over));
       started = λ _. omega (arith, h.started is_over)
     }
 
@@ -99,6 +103,7 @@ opening_is_paced packet flow positive =
       window = omega arith;
       window_end = omega arith;
       period = omega arith;
+      slow_start = λ _. refl;
       started = λ e. absurd (cc e)
     }
 

@@ -1,6 +1,6 @@
 // What holds of controls over whole lists of calls. Each function does nothing: its clause is the law.
 ghost use Rattle.std.specs.Prelude.{◌≡◌};
-ghost use Rattle.udt_model.specs.Rate.{ways, native, StaysInBounds, NativeIsPaced, PowerIsLeast, LossNeverSpeedsUp, AckNeverSlowsDown, SlowStartNeverShrinks, OneDecreaseAFlight};
+ghost use Rattle.udt_model.specs.Rate.{ways, native, StaysInBounds, NativeIsPaced, PowerIsLeast, LossNeverSpeedsUp, AckNeverLengthensPeriod, SlowStartNeverShrinks, OneDecreaseAFlight};
 
 use crate::control::Control;
 use crate::native::Native;
@@ -22,8 +22,8 @@ pub fn native_is_native()
         ⟦<Native as Control>⟧.after_timeout ≡ native }
 {}
 
-/// Whatever the native control is told, its window is from the first to the largest one, and its
-/// period from a nanosecond to a second once slow start is over.
+/// Whatever the native control is told, its window is from the first to the largest one. In slow
+/// start it has no period, and afterwards one from a nanosecond to a second.
 #[tactic(auto, using(crate::specs::PacedStates::native_is_paced))]
 pub fn native_is_paced()
     ensures { NativeIsPaced }
@@ -35,16 +35,16 @@ pub fn power_is_least()
     ensures { PowerIsLeast }
 {}
 
-/// After slow start a loss report never makes the sender faster.
+/// A loss report or a timeout never makes the sender faster: no larger window, no shorter period.
 #[tactic(auto, using(crate::proofs::Speed::loss_never_speeds_up))]
 pub fn loss_never_speeds_up()
     ensures { LossNeverSpeedsUp }
 {}
 
-/// After slow start an acknowledgement never makes the sender slower.
-#[tactic(auto, using(crate::proofs::Speed::ack_never_slows_down))]
-pub fn ack_never_slows_down()
-    ensures { AckNeverSlowsDown }
+/// After slow start an acknowledgement never makes the period longer.
+#[tactic(auto, using(crate::proofs::Speed::ack_never_lengthens_period))]
+pub fn ack_never_lengthens_period()
+    ensures { AckNeverLengthensPeriod }
 {}
 
 /// While slow start lasts, nothing takes from the window.
