@@ -1,5 +1,5 @@
 -- The law of every control, for the fixed control.
-use Rattle.std.proofs.Common.{ℕ, ◌≤◌, min, arith}
+use Rattle.std.proofs.Common.{ℕ, arith}
 use Rattle.udt_model.specs.Rate.{IsInBounds, largest_window}
 use Rattle.udt_model.specs.Controls.{fixed_period}
 

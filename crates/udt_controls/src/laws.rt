@@ -13,12 +13,12 @@ use udt_rate::Control;
 pub fn fixed_is_fixed<const PERIOD: u64>()
     ensures { IsFixed
         (ways
-            ⟦<Fixed<PERIOD> as Control>⟧.started
-            ⟦<Fixed<PERIOD> as Control>⟧.window_of
-            ⟦<Fixed<PERIOD> as Control>⟧.period_of
-            ⟦<Fixed<PERIOD> as Control>⟧.after_ack
-            ⟦<Fixed<PERIOD> as Control>⟧.after_nak
-            ⟦<Fixed<PERIOD> as Control>⟧.after_timeout)
+        ⟦<Fixed<PERIOD> as Control>⟧.started
+        ⟦<Fixed<PERIOD> as Control>⟧.window_of
+        ⟦<Fixed<PERIOD> as Control>⟧.period_of
+        ⟦<Fixed<PERIOD> as Control>⟧.after_ack
+        ⟦<Fixed<PERIOD> as Control>⟧.after_nak
+        ⟦<Fixed<PERIOD> as Control>⟧.after_timeout)
         PERIOD }
 {}
 
@@ -27,36 +27,36 @@ pub fn fixed_is_fixed<const PERIOD: u64>()
 pub fn aimd_is_additive()
     ensures { IsAdditive
         (ways
-            ⟦<Aimd as Control>⟧.started
-            ⟦<Aimd as Control>⟧.window_of
-            ⟦<Aimd as Control>⟧.period_of
-            ⟦<Aimd as Control>⟧.after_ack
-            ⟦<Aimd as Control>⟧.after_nak
-            ⟦<Aimd as Control>⟧.after_timeout) }
+        ⟦<Aimd as Control>⟧.started
+        ⟦<Aimd as Control>⟧.window_of
+        ⟦<Aimd as Control>⟧.period_of
+        ⟦<Aimd as Control>⟧.after_ack
+        ⟦<Aimd as Control>⟧.after_nak
+        ⟦<Aimd as Control>⟧.after_timeout) }
 {}
 
 /// Whatever it is told, `Fixed` lets two packets be on their way and sends one a second.
 pub fn fixed_stays_in_bounds<const PERIOD: u64>()
     ensures { StaysInBounds
         (ways
-            ⟦<Fixed<PERIOD> as Control>⟧.started
-            ⟦<Fixed<PERIOD> as Control>⟧.window_of
-            ⟦<Fixed<PERIOD> as Control>⟧.period_of
-            ⟦<Fixed<PERIOD> as Control>⟧.after_ack
-            ⟦<Fixed<PERIOD> as Control>⟧.after_nak
-            ⟦<Fixed<PERIOD> as Control>⟧.after_timeout) }
+        ⟦<Fixed<PERIOD> as Control>⟧.started
+        ⟦<Fixed<PERIOD> as Control>⟧.window_of
+        ⟦<Fixed<PERIOD> as Control>⟧.period_of
+        ⟦<Fixed<PERIOD> as Control>⟧.after_ack
+        ⟦<Fixed<PERIOD> as Control>⟧.after_nak
+        ⟦<Fixed<PERIOD> as Control>⟧.after_timeout) }
 {}
 
 /// Whatever it is told, `Aimd` lets two packets be on their way and has no period.
 pub fn aimd_stays_in_bounds()
     ensures { StaysInBounds
         (ways
-            ⟦<Aimd as Control>⟧.started
-            ⟦<Aimd as Control>⟧.window_of
-            ⟦<Aimd as Control>⟧.period_of
-            ⟦<Aimd as Control>⟧.after_ack
-            ⟦<Aimd as Control>⟧.after_nak
-            ⟦<Aimd as Control>⟧.after_timeout) }
+        ⟦<Aimd as Control>⟧.started
+        ⟦<Aimd as Control>⟧.window_of
+        ⟦<Aimd as Control>⟧.period_of
+        ⟦<Aimd as Control>⟧.after_ack
+        ⟦<Aimd as Control>⟧.after_nak
+        ⟦<Aimd as Control>⟧.after_timeout) }
 {}
 
 /// Between two decreases the window of `Aimd` falls nowhere, and rises by at most what was

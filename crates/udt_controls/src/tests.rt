@@ -49,6 +49,10 @@ fn controls_go_through_worked_calls(rt: HostRuntime) {
     ] {
         assert_eq!(rt; tell(&mut aimd, told), (window, 0), "after {told:?}");
         assert_eq!(rt; tell(&mut fixed, told), (65_536, 100_000), "after {told:?}");
-        assert_eq!(rt; tell(&mut slow, told), (65_536, 1_000_000_000), "after {told:?}");
+        assert_eq!(rt;
+            tell(&mut slow, told),
+            (65_536, 1_000_000_000),
+            "after {told:?}"
+        );
     }
 }

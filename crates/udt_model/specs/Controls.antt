@@ -1,6 +1,6 @@
 -- Two further controls: one with a fixed period, one with a window that grows by addition and
 -- halves.
-use Rattle.std.specs.Prelude.{◌≡◌, ℕ, ◌+◌, ◌-◌, ◌*◌, ◌/◌, ◌%◌, ◌<◌, ◌≤◌, Bool, true, false, nat_lt, min, max, if◌then◌else◌, List, [], ◌∷◌, ◌++◌, ⊤, Option, Some, None}
+use Rattle.std.specs.Prelude.{◌≡◌, ℕ, ◌+◌, ◌-◌, ◌/◌, ◌%◌, ◌<◌, ◌≤◌, true, false, nat_lt, min, max, if◌then◌else◌, List, [], ◌∷◌, ◌++◌, ⊤, Option, Some, None}
 use Rattle.udt_model.specs.Rate.{Feedback, Ways, ways, Call, OnAck, OnNak, OnTimeout, after_call, after_calls, AreAllowed, newly_acknowledged, longest_period, is_new_loss, first_window, largest_window}
 
 -- ---- the fixed control
@@ -14,7 +14,7 @@ abbrev pub IsFixed : {C : Type 0} → Ways C → ℕ → Type 0
 IsFixed w period =
     (packet flow : ℕ) (calls : List Call)
     → (w.window_of (after_calls w (w.started packet flow) calls) ≡ largest_window)
-      × (w.period_of (after_calls w (w.started packet flow) calls) ≡ fixed_period period)
+    × (w.period_of (after_calls w (w.started packet flow) calls) ≡ fixed_period period)
 
 -- ---- the additive control
 
@@ -47,7 +47,7 @@ abbrev pub adding : Additive → ℕ → Additive
 adding a newly =
     record a {
       window = min (a.window + (a.rest + newly) / a.window) largest_window;
-      rest = (a.rest + newly) % a.window
+      rest = (a.rest + newly) % a.window;
     }
 
 abbrev pub grown : Additive → Feedback → Additive
@@ -61,7 +61,7 @@ halved a sent =
       window = half_of a.window;
       threshold = half_of a.window;
       rest = 0;
-      last_dec = Some (sent - 1)
+      last_dec = Some (sent - 1);
     }
 
 abbrev pub cut : Additive → ℕ → ℕ → Feedback → Additive
@@ -86,7 +86,7 @@ abbrev pub IsAdditive : {C : Type 0} → Ways C → Type 0
 IsAdditive w =
     (packet flow : ℕ) (calls : List Call)
     → (w.window_of (after_calls w (w.started packet flow) calls) ≡ (aimd_after calls).window)
-      × (w.period_of (after_calls w (w.started packet flow) calls) ≡ 0)
+    × (w.period_of (after_calls w (w.started packet flow) calls) ≡ 0)
 
 -- the call is no decrease
 abbrev pub KeepsWindow : Additive → Call → Type 0
@@ -109,9 +109,9 @@ abbrev pub RisesBetweenDecreases : Type 0
 RisesBetweenDecreases =
     (before between : List Call) → KeepWindow (aimd_after before) between
     → RisesByAtMost
-        (aimd_after before).window
-        (aimd_after (before ++ between)).window
-        (newly_acknowledged between)
+    (aimd_after before).window
+    (aimd_after (before ++ between)).window
+    (newly_acknowledged between)
 
 -- a decrease never makes the window larger
 abbrev pub DecreaseNeverRaises : Type 0

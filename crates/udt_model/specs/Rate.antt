@@ -34,7 +34,7 @@ ways started window_of period_of after_ack after_nak after_timeout =
       period_of = period_of;
       after_ack = after_ack;
       after_nak = after_nak;
-      after_timeout = after_timeout
+      after_timeout = after_timeout;
     }
 
 -- a call of a control: an acknowledgement, a loss report, a timeout
@@ -91,8 +91,8 @@ abbrev pub StaysInBounds : {C : Type 0} → Ways C → Type 0
 StaysInBounds w =
     (packet flow : ℕ) (calls : List Call) → 1 ≤ packet → AreAllowed calls
     → IsInBounds
-        (w.window_of (after_calls w (w.started packet flow) calls))
-        (w.period_of (after_calls w (w.started packet flow) calls))
+    (w.window_of (after_calls w (w.started packet flow) calls))
+    (w.period_of (after_calls w (w.started packet flow) calls))
 
 -- a loss that a decrease hasn't answered: it is of a packet sent after the last decrease
 abbrev pub is_new_loss : Option ℕ → ℕ → Bool
@@ -141,7 +141,7 @@ opening packet flow =
       slow = true;
       window = first_window;
       period_nanos = 0;
-      last_dec = None
+      last_dec = None;
     }
 
 -- the packets of a second at this period
@@ -208,7 +208,7 @@ sped_up n seen =
     record n {
       window = steady_window seen;
       period_nanos =
-        shorter_of n.period_nanos (increase_of seen.capacity n.period_nanos n.packet_bytes)
+          shorter_of n.period_nanos (increase_of seen.capacity n.period_nanos n.packet_bytes);
     }
 
 -- a decrease makes the period longer by an eighth

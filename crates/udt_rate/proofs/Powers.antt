@@ -1,5 +1,5 @@
 -- The least power of ten that reaches a number.
-use Rattle.std.proofs.Common.{◌≡◌, ℕ, zero, suc, ◌+◌, ◌*◌, ◌^◌, ◌<◌, ◌≤◌, inl, inr, refl, arith, add-zero, add-suc}
+use Rattle.std.proofs.Common.{◌≡◌, ℕ, zero, suc, ◌+◌, ◌*◌, ◌^◌, ◌<◌, ◌≤◌, inl, inr, refl, arith, add-zero}
 use Rattle.std.proofs.Math.Nat.{pow-suc, pow-le-pow_right, one-le-pow}
 use Rattle.std.proofs.lemmas.Bool.{cond_both, leb-true, leb-false, cases_lt}
 use Rattle.std.specs.Prelude.{nat_le}
@@ -17,9 +17,10 @@ least_from p k x is_power reaches below =
       is_power = is_power;
       reaches = reaches;
       is_least =
-        λ j h. elim (cases_lt j k) [
-            inl lt ↦ absurd (omega (arith, below j lt))
-          | inr le ↦ omega (arith, power_rises k j le, is_power) ]
+          λ j h. elim (cases_lt j k) [
+            | inl lt ↦ absurd (omega (arith, below j lt))
+            | inr le ↦ omega (arith, power_rises k j le, is_power)
+          ];
     }
 
 -- no lower power than the next one reaches x, where this one doesn't
@@ -35,13 +36,13 @@ found zero k p x is_power reaches below =
     least_from p k x is_power (omega arith) below
 found (suc more) k p x is_power reaches below =
     cond_both (nat_le x p) p (first_power more (p * 10) x) (λ q. IsLeastPower q x)
-      (λ e. least_from p k x is_power (leb-true x p e) below)
-      (λ e.
-        let here : 10 ^ k < x = omega (arith, leb-false x p e, is_power) in
-        let next : p * 10 ≡ 10 ^ suc k = omega (arith, pow-suc 10 k, is_power) in
-        let same : k + suc more ≡ suc k + more = omega arith in
-        let far : x ≤ 10 ^ (suc k + more) = rw same at reaches in
-        found more (suc k) (p * 10) x next far (none_below k x here))
+    (λ e. least_from p k x is_power (leb-true x p e) below)
+    (λ e.
+    let here : 10 ^ k < x = omega (arith, leb-false x p e, is_power) in
+    let next : p * 10 ≡ 10 ^ suc k = omega (arith, pow-suc 10 k, is_power) in
+    let same : k + suc more ≡ suc k + more = omega arith in
+    let far : x ≤ 10 ^ (suc k + more) = rw same at reaches in
+    found more (suc k) (p * 10) x next far (none_below k x here))
 
 -- with x powers to try there are enough
 reaches_all : (x : ℕ) → x < 10 ^ x
@@ -68,8 +69,9 @@ pub below_ten_times : (p x k : ℕ) → p ≡ 10 ^ k → ((j : ℕ) → x ≤ 10
 below_ten_times p x zero is_power is_least positive = omega (arith, is_power)
 below_ten_times p x (suc k) is_power is_least positive =
     elim (cases_lt (10 ^ k) x) [
-        inl lt ↦ omega (arith, pow-suc 10 k, is_power)
-      | inr le ↦ absurd (omega (arith, pow-suc 10 k, is_power, is_least k le, one-le-pow k 10 (omega arith))) ]
+      | inl lt ↦ omega (arith, pow-suc 10 k, is_power)
+      | inr le ↦ absurd (omega (arith, pow-suc 10 k, is_power, is_least k le, one-le-pow k 10 (omega arith)))
+    ]
 
 pub least_is_near : (x : ℕ) → 1 ≤ x → power_of_ten x < 10 * x
 least_is_near x positive =

@@ -1,7 +1,7 @@
 -- How far an increase goes.
-use Rattle.std.proofs.Common.{◌≡◌, ℕ, ◌+◌, ◌*◌, ◌/◌, ◌^◌, ◌<◌, ◌≤◌, arith}
+use Rattle.std.proofs.Common.{ℕ, ◌*◌, ◌/◌, ◌≤◌, arith}
 use Rattle.std.proofs.Math.Nat.{div-le_of_le-mul, le-div_iff_mul-le}
-use Rattle.udt_model.specs.Rate.{power_of_ten, IsLeastPower}
+use Rattle.udt_model.specs.Rate.{power_of_ten}
 use Rattle.udt_rate.proofs.Powers.{power_is_least, least_is_near}
 
 -- each spare packet brings at most 120 millionths

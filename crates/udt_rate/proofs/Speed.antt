@@ -1,8 +1,8 @@
 -- What the calls of the native control do to its speed.
-use Rattle.std.proofs.Common.{◌≡◌, ℕ, ◌+◌, ◌-◌, ◌*◌, ◌/◌, ◌^◌, ◌<◌, ◌≤◌, Bool, true, false, min, max, List, [], ◌∷◌, Option, Some, None, refl, sym, subst, cond, arith}
-use Rattle.std.specs.Prelude.{nat_lt, nat_le}
+use Rattle.std.proofs.Common.{◌≡◌, ℕ, ◌+◌, ◌-◌, ◌<◌, ◌≤◌, Bool, true, false, List, [], ◌∷◌, Some, refl, sym, subst, cond, arith}
+use Rattle.std.specs.Prelude.{nat_le}
 use Rattle.std.proofs.lemmas.Bool.{cond_both, ltb-true}
-use Rattle.udt_model.specs.Rate.{Feedback, Call, OnAck, OnNak, OnTimeout, after_call, after_calls, IsAllowed, AreAllowed, is_new_loss, Pacing, opened, ended, sped_up, slowed_down, acknowledged, reported, after_nak, native, increase_of, IsPaced, TellsOfLoss, IsNoFaster, LossNeverSpeedsUp, AckNeverLengthensPeriod, SlowStartNeverShrinks, IsSlowedBy, OneDecreaseAFlight}
+use Rattle.udt_model.specs.Rate.{Feedback, Call, OnAck, OnNak, OnTimeout, after_call, after_calls, IsAllowed, AreAllowed, is_new_loss, Pacing, opened, ended, slowed_down, acknowledged, reported, after_nak, native, increase_of, IsPaced, IsNoFaster, LossNeverSpeedsUp, AckNeverLengthensPeriod, SlowStartNeverShrinks, IsSlowedBy, OneDecreaseAFlight}
 use Rattle.udt_rate.specs.PacedStates.{shorter_is_no_longer}
 
 -- ---- faster and slower
@@ -22,31 +22,31 @@ nak_is_no_faster :
 nak_is_no_faster true n first sent seen is_slow h = ended_is_no_faster n seen (h.slow_start is_slow)
 nak_is_no_faster false n first sent seen is_slow h =
     cond_both (is_new_loss n.last_dec first) (slowed_down n sent) n (λ m. IsNoFaster n m)
-      (λ _. record { window = omega arith; period = omega (arith, h.period) })
-      (λ _. same_is_no_faster n)
+    (λ _. record { window = omega arith; period = omega (arith, h.period) })
+    (λ _. same_is_no_faster n)
 
 pub loss_never_speeds_up : LossNeverSpeedsUp
 loss_never_speeds_up n (OnAck seen) h lost = absurd lost
 loss_never_speeds_up n (OnNak first sent seen) h lost = nak_is_no_faster n.slow n first sent seen refl h
 loss_never_speeds_up n (OnTimeout seen) h lost =
     cond_both n.slow (ended n seen) n (λ m. IsNoFaster n m)
-      (λ e. ended_is_no_faster n seen (h.slow_start e))
-      (λ _. same_is_no_faster n)
+    (λ e. ended_is_no_faster n seen (h.slow_start e))
+    (λ _. same_is_no_faster n)
 
 pub ack_never_lengthens_period : AckNeverLengthensPeriod
 ack_never_lengthens_period n seen h is_over =
     let P : Bool → Type 0 = λ slow. (acknowledged slow n seen).period_nanos ≤ n.period_nanos in
     subst P (sym is_over)
-      (shorter_is_no_longer n.period_nanos (increase_of seen.capacity n.period_nanos n.packet_bytes) (h.started is_over))
+    (shorter_is_no_longer n.period_nanos (increase_of seen.capacity n.period_nanos n.packet_bytes) (h.started is_over))
 
 pub slow_start_never_shrinks : SlowStartNeverShrinks
 slow_start_never_shrinks n (OnAck seen) h is_slow =
     let P : Bool → Type 0 = λ slow. n.window ≤ (acknowledged slow n seen).window in
     let open_wide : n.window ≤ (opened n seen).window = omega (arith, h.window_end) in
     subst P (sym is_slow)
-      (cond_both (nat_le n.flow (opened n seen).window) (ended (opened n seen) seen) (opened n seen) (λ m. n.window ≤ m.window)
-        (λ _. open_wide)
-        (λ _. open_wide))
+    (cond_both (nat_le n.flow (opened n seen).window) (ended (opened n seen) seen) (opened n seen) (λ m. n.window ≤ m.window)
+    (λ _. open_wide)
+    (λ _. open_wide))
 slow_start_never_shrinks n (OnNak first sent seen) h is_slow =
     let P : Bool → Type 0 = λ slow. n.window ≤ (reported slow n first sent seen).window in
     subst P (sym is_slow) (omega arith)
@@ -69,9 +69,9 @@ remembers_first :
 remembers_first n first sent seen lost slowed =
     let P : Bool → Type 0 = λ slow. Remembers (reported slow n first sent seen) sent in
     subst P (sym slowed.past_slow_start)
-      (cond_both (is_new_loss n.last_dec first) (slowed_down n sent) n (λ m. Remembers m sent)
-        (λ _. record { is_over = slowed.past_slow_start; greatest = sent - 1; is_kept = refl; above = omega arith })
-        (λ e. absurd (cc (e, slowed.is_new))))
+    (cond_both (is_new_loss n.last_dec first) (slowed_down n sent) n (λ m. Remembers m sent)
+    (λ _. record { is_over = slowed.past_slow_start; greatest = sent - 1; is_kept = refl; above = omega arith })
+    (λ e. absurd (cc (e, slowed.is_new))))
 
 -- and each call keeps it
 remembers_on :
@@ -80,20 +80,20 @@ remembers_on :
 remembers_on n sent (OnAck seen) allowed r =
     let P : Bool → Type 0 = λ slow. Remembers (acknowledged slow n seen) sent in
     subst P (sym r.is_over)
-      (record { is_over = r.is_over; greatest = r.greatest; is_kept = r.is_kept; above = r.above })
+    (record { is_over = r.is_over; greatest = r.greatest; is_kept = r.is_kept; above = r.above })
 remembers_on n sent (OnNak first now seen) allowed r =
     let P : Bool → Type 0 = λ slow. Remembers (reported slow n first now seen) sent in
     subst P (sym r.is_over)
-      (cond_both (is_new_loss n.last_dec first) (slowed_down n now) n (λ m. Remembers m sent)
-        (λ e.
-          let newer : is_new_loss (Some r.greatest) first ≡ true = rw r.is_kept at e in
-          record {
-            is_over = r.is_over;
-            greatest = now - 1;
-            is_kept = refl;
-            above = omega (arith, ltb-true r.greatest first newer, allowed.0, r.above)
-          })
-        (λ _. r))
+    (cond_both (is_new_loss n.last_dec first) (slowed_down n now) n (λ m. Remembers m sent)
+    (λ e.
+    let newer : is_new_loss (Some r.greatest) first ≡ true = rw r.is_kept at e in
+    record {
+      is_over = r.is_over;
+      greatest = now - 1;
+      is_kept = refl;
+      above = omega (arith, ltb-true r.greatest first newer, allowed.0, r.above);
+    })
+    (λ _. r))
 remembers_on n sent (OnTimeout seen) allowed r =
     let P : Bool → Type 0 = λ slow. Remembers (cond slow (ended n seen) n) sent in
     subst P (sym r.is_over) r

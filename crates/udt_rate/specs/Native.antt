@@ -11,5 +11,5 @@ pacing_of n =
       slow = n.slow;
       window = n.window;
       period_nanos = n.period;
-      last_dec = n.last_dec
+      last_dec = n.last_dec;
     }

@@ -1,16 +1,16 @@
 -- The law of every control, for the native control: each call keeps to the states that stay in the
 -- bounds.
-use Rattle.std.proofs.Common.{◌≡◌, ℕ, ◌+◌, ◌-◌, ◌*◌, ◌/◌, ◌^◌, ◌<◌, ◌≤◌, Bool, true, false, min, max, List, [], ◌∷◌, Option, Some, None, refl, sym, subst, cond, arith}
-use Rattle.std.specs.Prelude.{nat_lt, nat_le}
+use Rattle.std.proofs.Common.{◌≡◌, ℕ, ◌+◌, ◌*◌, ◌/◌, ◌≤◌, Bool, true, false, List, [], ◌∷◌, refl, arith}
+use Rattle.std.specs.Prelude.{nat_le}
 use Rattle.std.proofs.Math.Nat.{div-le_of_le-mul}
 use Rattle.std.proofs.lemmas.Bool.{cond_both}
-use Rattle.udt_model.specs.Rate.{Feedback, Call, OnAck, OnNak, OnTimeout, after_call, after_calls, AreAllowed, IsInBounds, StaysInBounds, is_new_loss, Pacing, opening, opened, ended, sped_up, slowed_down, acknowledged, reported, after_timeout, native, shorter_of, increase_of, syn_nano_millionths, first_window, IsPaced, NativeIsPaced}
+use Rattle.udt_model.specs.Rate.{Feedback, Call, OnAck, OnNak, OnTimeout, after_call, after_calls, IsInBounds, StaysInBounds, is_new_loss, Pacing, opening, opened, ended, slowed_down, acknowledged, reported, after_timeout, native, shorter_of, increase_of, syn_nano_millionths, first_window, IsPaced, NativeIsPaced}
 
 -- a shorter period is no longer
 pub shorter_is_no_longer : (period inc : ℕ) → 1 ≤ period → shorter_of period inc ≤ period
 shorter_is_no_longer period inc positive =
     let short : period * syn_nano_millionths / (period * inc + syn_nano_millionths) ≤ period =
-        div-le_of_le-mul (period * inc + syn_nano_millionths) (omega arith) in
+    div-le_of_le-mul (period * inc + syn_nano_millionths) (omega arith) in
     omega arith
 
 -- the end of slow start leads to such a state
@@ -22,7 +22,7 @@ ended_is_paced n seen h =
       window_end = h.window_end;
       period = omega arith;
       slow_start = λ e. absurd (cc e);
-      started = λ _. omega arith
+      started = λ _. omega arith;
     }
 
 -- so does the growth of slow start
@@ -34,7 +34,7 @@ opened_is_paced n seen h =
       window_end = omega arith;
       period = h.period;
       slow_start = h.slow_start;
-      started = h.started
+      started = h.started;
     }
 
 -- an acknowledgement keeps to such states
@@ -43,8 +43,8 @@ ack_is_paced :
     → IsPaced (acknowledged slow n seen)
 ack_is_paced true n seen is_slow h =
     cond_both (nat_le n.flow (opened n seen).window) (ended (opened n seen) seen) (opened n seen) (λ m. IsPaced m)
-      (λ _. ended_is_paced (opened n seen) seen (opened_is_paced n seen h))
-      (λ _. opened_is_paced n seen h)
+    (λ _. ended_is_paced (opened n seen) seen (opened_is_paced n seen h))
+    (λ _. opened_is_paced n seen h)
 ack_is_paced false n seen is_slow h =
     let short = shorter_is_no_longer n.period_nanos (increase_of seen.capacity n.period_nanos n.packet_bytes) (h.started is_slow) in
     record {
@@ -53,7 +53,7 @@ ack_is_paced false n seen is_slow h =
       window_end = omega arith;
       period = omega (arith, h.period, short);
       slow_start = λ e. absurd (cc (e, is_slow));
-      started = λ _. omega arith
+      started = λ _. omega arith;
     }
 
 -- a decrease does
@@ -66,7 +66,7 @@ slowed_is_paced n sent is_over h =
       window_end = h.window_end;
       period = omega arith;
       slow_start = λ e. absurd (cc (e, is_over));
-      started = λ _. omega (arith, h.started is_over)
+      started = λ _. omega (arith, h.started is_over);
     }
 
 -- a loss report does
@@ -76,8 +76,8 @@ nak_is_paced :
 nak_is_paced true n first sent seen is_slow h = ended_is_paced n seen h
 nak_is_paced false n first sent seen is_slow h =
     cond_both (is_new_loss n.last_dec first) (slowed_down n sent) n (λ m. IsPaced m)
-      (λ _. slowed_is_paced n sent is_slow h)
-      (λ _. h)
+    (λ _. slowed_is_paced n sent is_slow h)
+    (λ _. h)
 
 -- a timeout does
 timeout_is_paced : (n : Pacing) (seen : Feedback) → IsPaced n → IsPaced (after_timeout n seen)
@@ -104,7 +104,7 @@ opening_is_paced packet flow positive =
       window_end = omega arith;
       period = omega arith;
       slow_start = λ _. refl;
-      started = λ e. absurd (cc e)
+      started = λ e. absurd (cc e);
     }
 
 pub native_is_paced : NativeIsPaced

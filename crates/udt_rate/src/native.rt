@@ -2,10 +2,10 @@
 ghost use Rattle.std.specs.Prelude.{◌≡◌, ℕ, ◌+◌, ◌-◌, ◌*◌, ◌/◌, ◌^◌, ◌<◌, ◌≤◌, max, min};
 ghost use Rattle.udt_model.specs.Rate.{opening, after_ack, after_nak, after_timeout, steady_window, measured_period, bounded_period, longer_of, is_new_loss, largest_window, longest_period};
 
-use std::marker::Model;
 use crate::constants::{FIRST_WINDOW, LARGEST_WINDOW, LONGEST_PERIOD, SECOND_NANOS, SYN_MICROS};
 use crate::control::{Control, Seen};
 use crate::formulas::{increase, shorter};
+use std::marker::Model;
 
 /// The native control. In slow start the window grows by what is acknowledged; afterwards the window
 /// is what a round trip takes at the peer's receiving rate, each acknowledgement shortens the period

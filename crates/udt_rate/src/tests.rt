@@ -61,7 +61,11 @@ fn native_goes_through_its_phases(rt: HostRuntime) {
     native.on_ack(&told);
     assert_eq!(rt; (native.window(), native.period()), (1016, 2_941_176));
     // The loss at 36 is the first one past what was sent at the decrease before it.
-    for (first, sent, period) in [(10, 36, 3_308_823), (35, 40, 3_308_823), (36, 50, 3_722_426)] {
+    for (first, sent, period) in [
+        (10, 36, 3_308_823),
+        (35, 40, 3_308_823),
+        (36, 50, 3_722_426),
+    ] {
         native.on_nak(first, sent, &told);
         assert_eq!(rt; native.period(), period, "after the loss of {first}");
     }

@@ -1,5 +1,5 @@
 -- Each step is to the next power, and where the loop ends the power is the least one.
-use Rattle.std.proofs.Common.{◌≡◌, ℕ, suc, ◌+◌, ◌-◌, ◌*◌, ◌^◌, ◌<◌, ◌≤◌, arith}
+use Rattle.std.proofs.Common.{suc, arith}
 use Rattle.std.proofs.Math.Nat.{pow-suc, one-le-pow}
 use Rattle.udt_rate.proofs.Powers.{none_below, least_from, least_is_one, power_is_least, below_ten_times}
 use Rattle.udt_rate.proofs.formulas.least_power.Goals as goal
@@ -11,10 +11,11 @@ loop-power-smaller c =
 
 pub loop-power-preserved : goal.loop-power-preserved
 loop-power-preserved c =
-    let k = c.loop-power.invariant.0 in
-    ( suc k
-    , omega (arith, pow-suc 10 k, c.loop-power.invariant.1)
-    , none_below k _ (omega (arith, c.loop-power.invariant.1)) )
+    let k = c.loop-power.invariant.0 in (
+      suc k,
+      omega (arith, pow-suc 10 k, c.loop-power.invariant.1),
+      none_below k _ (omega (arith, c.loop-power.invariant.1)),
+    )
 
 pub returns-clause-value : goal.returns-clause-value
 returns-clause-value c =
