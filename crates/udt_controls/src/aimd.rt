@@ -16,8 +16,8 @@ const LARGEST_WINDOW: u32 = 65_536;
 const LEAST_WINDOW: u32 = 2;
 
 /// A control without a period. Below its threshold the window grows by what is acknowledged, from
-/// there on by one packet for each window that is acknowledged. The first loss of a flight halves it,
-/// and a timeout begins again from two packets.
+/// there on by one packet for each window that is acknowledged. The first loss of a flight halves
+/// it, and a timeout begins again from two packets.
 #[derive(Debug, Drop)]
 pub struct Aimd {
     window: u32,

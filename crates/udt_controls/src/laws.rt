@@ -1,5 +1,5 @@
-// What holds of the two controls over whole lists of calls. Each function does nothing: its clause is
-// the law.
+// What holds of the two controls over whole lists of calls. Each function does nothing: its clause
+// is the law.
 ghost use Rattle.std.specs.Prelude.{◌≡◌};
 ghost use Rattle.udt_model.specs.Rate.{ways, StaysInBounds};
 ghost use Rattle.udt_model.specs.Controls.{IsFixed, IsAdditive, RisesBetweenDecreases, DecreaseNeverRaises, LaterLossIsNew};
@@ -72,8 +72,8 @@ pub fn aimd_never_rises_at_a_decrease()
     ensures { DecreaseNeverRaises }
 {}
 
-/// Of two decreases of `Aimd` by a loss report the later one's first loss is above every offset sent
-/// at the earlier one.
+/// Of two decreases of `Aimd` by a loss report the later one's first loss is above every offset
+/// sent at the earlier one.
 #[tactic(auto, using(crate::proofs::Lists::later_loss_is_new))]
 pub fn aimd_halves_once_a_flight()
     ensures { LaterLossIsNew }

@@ -89,5 +89,6 @@ pub trait Control {
         ensures bound { result ≤ longest_period };
 
     /// Whatever it is told, its answers stay in their bounds.
-    ghost stays_in_bounds: { StaysInBounds (ways started window_of period_of after_ack after_nak after_timeout) };
+    ghost stays_in_bounds: { StaysInBounds
+        (ways started window_of period_of after_ack after_nak after_timeout) };
 }

@@ -38,8 +38,8 @@ pub fn shorter(period: u64, inc: u64) -> u64
     shorter.max(1)
 }
 
-/// What so many packets a second to spare bring, in millionths of a packet: three halves of the least
-/// power of ten that reaches their bits, divided by the bytes of a packet.
+/// What so many packets a second to spare bring, in millionths of a packet: three halves of the
+/// least power of ten that reaches their bits, divided by the bytes of a packet.
 fn brought(spare: u64, packet: u32) -> u64
     requires some { 1 ≤ spare }
     requires small { spare < 2 ^ 32 }

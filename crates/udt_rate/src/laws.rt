@@ -1,4 +1,5 @@
-// What holds of controls over whole lists of calls. Each function does nothing: its clause is the law.
+// What holds of controls over whole lists of calls. Each function does nothing: its clause is the
+// law.
 ghost use Rattle.std.specs.Prelude.{◌≡◌};
 ghost use Rattle.udt_model.specs.Rate.{ways, native, StaysInBounds, NativeIsPaced, PowerIsLeast, LossNeverSpeedsUp, AckNeverLengthensPeriod, SlowStartNeverShrinks, OneDecreaseAFlight};
 

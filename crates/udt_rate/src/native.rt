@@ -7,9 +7,9 @@ use crate::control::{Control, Seen};
 use crate::formulas::{increase, shorter};
 use std::marker::Model;
 
-/// The native control. In slow start the window grows by what is acknowledged; afterwards the window
-/// is what a round trip takes at the peer's receiving rate, each acknowledgement shortens the period
-/// and the first loss of a flight makes it longer by an eighth.
+/// The native control. In slow start the window grows by what is acknowledged. Afterwards the window
+/// is what a round trip takes at the peer's receiving rate, each acknowledgement shortens the
+/// period, and the first loss of a flight makes it longer by an eighth.
 #[derive(Debug, Drop)]
 pub struct Native {
     packet: u32,
