@@ -11,3 +11,5 @@ pub mod Lines
 pub mod Script
 pub mod Timing
 pub mod Records
+pub mod Controls
+pub mod Rate
