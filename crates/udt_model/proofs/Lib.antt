@@ -1,3 +1,4 @@
+mod Examples
 pub mod NearLemmas
 pub mod WireLemmas
 pub mod HistoryLemmas

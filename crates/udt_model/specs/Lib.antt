@@ -7,3 +7,6 @@ pub mod Receiving
 pub mod Step
 pub mod History
 pub mod Records
+pub mod Words
+pub mod Lines
+pub mod Script

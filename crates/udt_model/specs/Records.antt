@@ -150,9 +150,9 @@ destination (Block seq flags stamp dest bytes) = dest
 
 -- a script made both sockets as a pair: each is the other's peer, and kind, initial number and first offset are the same
 abbrev pub ArePaired : Addr → ℕ → Way → Addr → ℕ → Way → Type 0
-ArePaired addr own (PairedAt config peer now start) addr′ own′ (PairedAt config′ peer′ now′ start′) =
-    (peer.addr ≡ addr′) × (peer.id ≡ own′) × (peer′.addr ≡ addr) × (peer′.id ≡ own) × (config′.kind ≡ config.kind)
-    × (peer′.isn ≡ peer.isn) × (start′ ≡ start)
+ArePaired addr own (PairedAt config peer now start) other_addr other_own (PairedAt other_config other_peer other_now other_start) =
+    (peer.addr ≡ other_addr) × (peer.id ≡ other_own) × (other_peer.addr ≡ addr) × (other_peer.id ≡ own) × (other_config.kind ≡ config.kind)
+    × (other_peer.isn ≡ peer.isn) × (other_start ≡ start)
 
 -- the records have the socket's other half
 pub record IsPaired (net : List EndpointRecord) (addr : Addr) (socket : Enrolled) : Type 0 where

@@ -5,6 +5,7 @@ mod addresses;
 mod answers;
 mod limits;
 mod packets;
+mod scripts;
 
 pub use addresses::{Addr, Family, Ip};
 pub use answers::{Cause, Heard, Packed, Peer, Refusal};
@@ -13,3 +14,4 @@ pub use limits::{
     MOST_BLOCKS, MOST_PAYLOAD, MOST_SOCKETS, PACKET_LIMIT,
 };
 pub use packets::{Config, Flags, Kind, Malformed};
+pub use scripts::ControlName;
