@@ -2,3 +2,4 @@ mod Examples
 pub mod NearLemmas
 pub mod WireLemmas
 pub mod HistoryLemmas
+pub mod ReceivingLemmas

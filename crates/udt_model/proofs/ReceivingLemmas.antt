@@ -1,0 +1,126 @@
+-- How the receiving half keeps its blocks: placed ones stay in order, and what was read is a front of the blocks joined.
+use Rattle.std.proofs.Common.{◌≡◌, ℕ, suc, ◌+◌, ◌-◌, ◌<◌, ◌≤◌, Bool, true, false, List, [], ◌∷◌, ◌++◌, length, take, drop, Some, None, Ok, Err, refl, ap, ◌∙◌, sym, subst, arith}
+use Rattle.std.specs.Prelude.{nat_lt, nat_le, ◌==◌, ◌&&◌, if◌then◌else◌, Option}
+use Rattle.std.specs.List.{concat, list_any}
+use Rattle.std.proofs.lemmas.Bool.{ltb-true, ltb-false, leb-true, eqb-true, eqb-false, or_parts, and_parts, cases_Bool}
+use Rattle.std.proofs.lemmas.Bool.Decides.{nat_tests}
+use Rattle.std.proofs.lemmas.List.{append_assoc, append-nil, length-append, take-append-le}
+use Rattle.std.proofs.Math.Seq.{take-add, take-append-add}
+use Rattle.udt_model.specs.State.{PlacedBlock, Receiving}
+use Rattle.udt_model.specs.Numbers.{near}
+use Rattle.udt_model.specs.Receiving.{Placing, AtOffset, IsDouble, IsBelow, IsAbove, is_placed, placing_at, placing_near, placing, with_block, contiguous, Front, front_after}
+use Rattle.udt_model.specs.Records.{IsPrefix}
+
+-- ---- placed blocks
+
+-- the placed blocks stand in rising order, none before this offset
+abbrev pub AreRising : ℕ → List PlacedBlock → Type 0
+AreRising from [] = Unit {0}
+AreRising from (block ∷ others) = (from ≤ block.offset) × AreRising (block.offset + 1) others
+
+-- none of them stands at this offset
+abbrev pub AreApart : ℕ → List PlacedBlock → Type 0
+AreApart offset [] = Unit {0}
+AreApart offset (block ∷ others) = (block.offset ≡ offset → ⊥) × AreApart offset others
+
+-- each of them meets this
+abbrev pub AllPlaced : (ℕ → List ℕ → Type 0) → List PlacedBlock → Type 0
+AllPlaced P [] = Unit {0}
+AllPlaced P (block ∷ others) = P block.offset block.bytes × AllPlaced P others
+
+pub apart_from : (offset : ℕ) (placed : List PlacedBlock) → is_placed offset placed ≡ false → AreApart offset placed
+apart_from offset [] none = tt
+apart_from offset (block ∷ others) none =
+    let parts = or_parts (block.offset == offset) (is_placed offset others) none in
+    (eqb-false block.offset offset parts.0, apart_from offset others parts.1)
+
+pub AreRising-sooner : (from sooner : ℕ) (placed : List PlacedBlock) → sooner ≤ from → AreRising from placed → AreRising sooner placed
+AreRising-sooner from sooner [] before rising = tt
+AreRising-sooner from sooner (block ∷ others) before rising = (omega arith, rising.1)
+
+-- one more block keeps the order
+pub AreRising-with_block : (from : ℕ) (block : PlacedBlock) (placed : List PlacedBlock) → from ≤ block.offset
+    → AreApart block.offset placed → AreRising from placed → AreRising from (with_block block placed)
+unfolding with_block
+AreRising-with_block from block [] low apart rising = (low, tt)
+AreRising-with_block from block (first ∷ others) low apart rising =
+    elim (nat_lt block.offset first.offset) as (λ before. nat_lt block.offset first.offset ≡ before
+        → AreRising from (if before then block ∷ first ∷ others else first ∷ with_block block others)) [
+      true ↦ λ test. let less = ltb-true block.offset first.offset test in (low, (omega arith, rising.1))
+    | false ↦ λ test. let least = ltb-false block.offset first.offset test in
+        (rising.0, AreRising-with_block (first.offset + 1) block others (omega arith) apart.1 rising.1)
+    ] refl
+
+pub AllPlaced-with_block : (P : ℕ → List ℕ → Type 0) (block : PlacedBlock) (placed : List PlacedBlock) → P block.offset block.bytes
+    → AllPlaced P placed → AllPlaced P (with_block block placed)
+unfolding with_block
+AllPlaced-with_block P block [] here all = (here, tt)
+AllPlaced-with_block P block (first ∷ others) here all =
+    elim (nat_lt block.offset first.offset) as (λ before.
+        AllPlaced P (if before then block ∷ first ∷ others else first ∷ with_block block others)) [
+      true ↦ (here, all)
+    | false ↦ (all.0, AllPlaced-with_block P block others here all.1)
+    ]
+
+-- a block is placed only at an offset that is near, is not below the base, and at which none is placed
+pub record IsFree (isn base top number offset : ℕ) (placed : List PlacedBlock) : Type 0 where
+  pub is_near : near isn top number ≡ Some offset
+  pub not_below : base ≤ offset
+  pub apart : AreApart offset placed
+
+-- where a block is placed at this offset once it was found there
+record IsFreeAt (r : Receiving) (found offset : ℕ) : Type 0 where
+  same : found ≡ offset
+  not_below : r.base ≤ offset
+  apart : is_placed offset r.placed ≡ false
+
+free_at : (r : Receiving) (found offset : ℕ) → placing_at r found ≡ AtOffset offset → IsFreeAt r found offset
+free_at r found offset placed = record {
+  same = grind (arith, nat_tests, cases_Bool (is_placed found r.placed));
+  not_below = grind (arith, nat_tests, cases_Bool (is_placed found r.placed));
+  apart = grind (arith, nat_tests, cases_Bool (is_placed found r.placed));
+}
+
+free_near : (r : Receiving) (found : Option ℕ) (offset : ℕ) → placing_near r found ≡ AtOffset offset
+    → (found ≡ Some offset) × (r.base ≤ offset) × (is_placed offset r.placed ≡ false)
+free_near r None offset placed = absurd (cc)
+free_near r (Some found) offset placed =
+    let within : placing_at r found ≡ AtOffset offset = grind (arith, nat_tests) in
+    let free = free_at r found offset within in
+    (ap Some free.same, free.not_below, free.apart)
+
+pub placing-free : (r : Receiving) (number offset : ℕ) → placing r number ≡ AtOffset offset
+    → IsFree r.isn r.base r.top number offset r.placed
+unfolding placing
+placing-free r number offset placed =
+    let free = free_near r (near r.isn r.top number) offset placed in
+    record { is_near = free.0; not_below = free.1; apart = apart_from offset r.placed free.2 }
+
+-- ---- reading
+
+-- the blocks that follow one another go on where they did once one more is placed
+pub contiguous-with_block : (from : ℕ) (block : PlacedBlock) (placed : List PlacedBlock) → from ≤ block.offset
+    → AreApart block.offset placed → AreRising from placed
+    → IsPrefix (contiguous from placed) (contiguous from (with_block block placed))
+unfolding with_block contiguous
+contiguous-with_block from block [] low apart rising = (contiguous from (block ∷ []), refl)
+contiguous-with_block from block (first ∷ others) low apart rising =
+    elim (nat_lt block.offset first.offset) as (λ before. nat_lt block.offset first.offset ≡ before
+        → IsPrefix (contiguous from (first ∷ others)) (contiguous from (if before then block ∷ first ∷ others else first ∷ with_block block others))) [
+      true ↦ λ test.
+        let less = ltb-true block.offset first.offset test in
+        let gap : (first.offset == from) ≡ false = grind (arith, nat_tests) in
+        rw gap (_, refl)
+    | false ↦ λ test.
+        let least = ltb-false block.offset first.offset test in
+        elim (first.offset == from) as (λ here. (first.offset == from) ≡ here
+            → IsPrefix (if here then first.bytes ++ contiguous (from + 1) others else [])
+                (if here then first.bytes ++ contiguous (from + 1) (with_block block others) else [])) [
+          true ↦ λ same.
+            let at = eqb-true first.offset from same in
+            let after = contiguous-with_block (from + 1) block others (omega arith) apart.1
+                (AreRising-sooner (first.offset + 1) (from + 1) others (omega arith) rising.1) in
+            (after.0, ap (λ (rest : List ℕ). first.bytes ++ rest) after.1 ∙ sym (append_assoc first.bytes (contiguous (from + 1) others) after.0))
+        | false ↦ λ differs. ([], refl)
+        ] refl
+    ] refl
