@@ -3,3 +3,5 @@ pub mod NearLemmas
 pub mod WireLemmas
 pub mod HistoryLemmas
 pub mod ReceivingLemmas
+pub mod AddressLemmas
+pub mod StepLemmas
