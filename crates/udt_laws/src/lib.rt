@@ -1,5 +1,10 @@
 //! The main theorems of the protocol, each the contract of an empty function.
 #![tactic(auto)]
 
-/// Nothing yet.
-pub fn nothing() {}
+ghost use Rattle.udt_laws.specs.Laws.{OneHistory};
+
+/// Whatever arrives, a stream socket delivers a front of the payloads that came from its peer's
+/// address, each under the wire number of its place.
+pub fn one_history()
+    ensures { OneHistory }
+{}
