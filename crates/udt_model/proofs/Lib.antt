@@ -5,3 +5,4 @@ pub mod HistoryLemmas
 pub mod ReceivingLemmas
 pub mod AddressLemmas
 pub mod StepLemmas
+pub mod SendingLemmas
