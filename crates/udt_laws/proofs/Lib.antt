@@ -1,3 +1,4 @@
 mod Kept
 mod Receives
 mod MadeOf
+mod Emits

@@ -1,8 +1,13 @@
 -- The main theorems, as statements about histories and records.
-use Rattle.std.specs.Prelude.{◌≡◌, ℕ, ◌+◌, ◌%◌, ◌^◌, Some}
+use Rattle.std.specs.Prelude.{◌≡◌, ℕ, ◌+◌, ◌-◌, ◌%◌, ◌^◌, ◌≤◌, List, [], ◌∷◌, drop, map, Some, Ok, slice_get}
+use Rattle.std.specs.List.{Contains, concat}
+use Rattle.udt_model.specs.declared.packets.Flags.{Flags}
 use Rattle.udt_model.specs.declared.packets.Kind.TheVariants.{Stream}
-use Rattle.udt_model.specs.History.{History, state_of, start_of, delivered}
-use Rattle.udt_model.specs.Records.{Enrolled, IsSocket, PeerPair, own_peer, arrivals, IsMadeOf}
+use Rattle.udt_model.specs.Numbers.{wire_number}
+use Rattle.udt_model.specs.Wire.{Block, read}
+use Rattle.udt_model.specs.State.{KeptBlock}
+use Rattle.udt_model.specs.History.{History, state_of, start_of, accepted, delivered}
+use Rattle.udt_model.specs.Records.{Enrolled, IsSocket, PeerPair, own_peer, arrivals, IsMadeOf, Emission, emitted}
 
 -- the socket carries a stream of bytes
 abbrev pub IsStream : History → Type 0
@@ -18,3 +23,27 @@ OneHistory =
     (socket : Enrolled) (peer : PeerPair) → IsSocket socket → IsStream socket.history → own_peer socket.history ≡ Some peer
     → IsMadeOf (delivered socket.history) (arrivals socket.history) socket.own peer.addr
         ((peer_isn socket.history + start_of socket.history) % 2 ^ 31)
+
+-- a data packet that was emitted carries the block of the one offset that it names, to the peer, under the wire number of that offset
+pub record CarriesBlock (h : History) (blocks : List (List ℕ)) (emission : Emission) (number dest : ℕ) (payload : List ℕ) : Type 0 where
+  pub offset : ℕ
+  pub names : emission.offsets ≡ offset ∷ []
+  pub not_before : start_of h ≤ offset
+  pub carries : slice_get blocks (offset - start_of h) ≡ Some payload
+  pub numbered : number ≡ wire_number (state_of h).sending.isn offset
+  pub sent_to : emission.datagram.addr ≡ (state_of h).peer.addr
+  pub destined : dest ≡ (state_of h).peer.id
+
+-- the blocks of a history, the first at the offset at which it begins: joined they are what was accepted, the kept ones are the last of them, and data packets carry no others
+pub record HasBlocks (h : History) : Type 0 where
+  pub blocks : List (List ℕ)
+  pub joined : concat blocks ≡ accepted h
+  pub kept : map (λ (block : KeptBlock). block.bytes) (state_of h).sending.kept
+      ≡ drop ((state_of h).sending.acked - start_of h) blocks
+  pub emits : (emission : Emission) (number : ℕ) (flags : Flags) (stamp dest : ℕ) (payload : List ℕ)
+      → Contains (emitted h) emission → read emission.datagram.bytes ≡ Ok (Block number flags stamp dest payload)
+      → CarriesBlock h blocks emission number dest payload
+
+-- Emitted blocks: what a stream socket sends are the blocks of what it accepted, each under its own number
+abbrev pub EmittedBlocks : Type 0
+EmittedBlocks = (socket : Enrolled) → IsSocket socket → IsStream socket.history → HasBlocks socket.history
