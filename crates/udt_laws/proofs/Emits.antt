@@ -3,7 +3,7 @@ use Rattle.std.proofs.Common.{◌≡◌, ℕ, zero, suc, ◌+◌, ◌-◌, ◌*�
 use Rattle.std.specs.Prelude.{Option, Result, ◌==◌, ◌&&◌, if◌then◌else◌, slice_get}
 use Rattle.std.specs.List.{Contains, concat}
 use Rattle.std.proofs.lemmas.Option.{slice_get_within}
-use Rattle.std.proofs.lemmas.List.{append_assoc, append-nil}
+use Rattle.std.proofs.lemmas.List.{append_assoc, append-nil, drop_all}
 use Rattle.std.proofs.lemmas.List.Elements.{Contains-append_left, Contains-append_right, Contains-append_cases, Contains-push_cases}
 use Rattle.udt_model.specs.declared.addresses.Addr.{Addr}
 use Rattle.udt_model.specs.declared.answers.Heard.TheVariants as heard
@@ -19,12 +19,13 @@ use Rattle.udt_model.specs.State.{KeptBlock, Sending, State, Datagram}
 use Rattle.udt_model.specs.Sending.{send_answer, after_answer, after_send, with_message, cut, blocks_for, Packing, Waits, Sends, Idles, packing, after_packing, after_pack, unsent}
 use Rattle.udt_model.specs.Receiving.{placing, after_arrival}
 use Rattle.udt_model.specs.Step.{Act, Send, Recv, Pack, Arrive, Event, Sent, DidHear, Outcome, answered, at_moment, block_datagram, packed_as, count_stale, count_placing, heard_of, count_foreign, has_bad_length, on_block, on_read, on_act, step, stamp_of, opening}
-use Rattle.udt_model.specs.History.{Item, taken_by, accepted_by, after_items, AreLegal}
-use Rattle.udt_model.specs.Records.{Emission, named, named_by_act, named_by_packing, with_offsets, emitted_by}
+use Rattle.udt_model.specs.History.{Item, History, taken_by, accepted_by, accepted, after_items, state_of, start_of, AreLegal, IsLegal}
+use Rattle.udt_model.specs.Records.{Emission, named, named_by_act, named_by_packing, with_offsets, emitted_by, emitted, IsOpening, Way, PairedAt, opened_by, IsWay, Enrolled, IsSocket}
 use Rattle.udt_model.proofs.ReceivingLemmas.{concat-append}
 use Rattle.udt_model.proofs.SendingLemmas.{bytes_of, MessagesFit-at, cut-all, IsCut, cut-with_message, cut-next, packing-sends}
-use Rattle.udt_model.proofs.StepLemmas.{KeepsIdentity, step-keeps}
+use Rattle.udt_model.proofs.StepLemmas.{KeepsIdentity, step-keeps, after_items-keeps}
 use Rattle.udt_model.proofs.WireLemmas.{read-spelling}
+use Rattle.udt_laws.specs.Laws.{CarriesBlock, HasBlocks, EmittedBlocks}
 
 -- a datagram carries one of these blocks to the peer, under the number of the offset that it names
 pub record IsBlockOf (peer : Peer) (isn start : ℕ) (blocks : List (List ℕ)) (emission : Emission) : Type 0 where
@@ -200,3 +201,119 @@ emits-step : (s : State) (start : ℕ) (blocks : List (List ℕ)) (event : Event
         (taken_by event.act (step s event).reply)
 unfolding step named
 emits-step s start blocks event id_fits is_cut = emits-act (at_moment s event.now) start blocks event.act id_fits is_cut
+
+-- two parts of a history emit what they emit apart, the second one from the blocks of both
+emits-both : (peer : Peer) (isn start : ℕ) (blocks : List (List ℕ)) (between after : Sending) (first second : List Emission) (taken later : List ℕ)
+    → (one : Emits peer isn start blocks between first taken) → Emits peer isn start (blocks ++ one.more) after second later
+    → Emits peer isn start blocks after (first ++ second) (taken ++ later)
+emits-both peer isn start blocks between after first second taken later one two =
+    let joined = append_assoc blocks one.more two.more in
+    record {
+      more = one.more ++ two.more;
+      joined = concat-append one.more two.more ∙ ap (λ (front : List ℕ). front ++ concat two.more) one.joined
+          ∙ ap (λ (rest : List ℕ). taken ++ rest) two.joined;
+      is_cut = subst (IsCut after start) joined two.is_cut;
+      emits = λ emission among. elim (Contains-append_cases first second emission among) [
+          inl early ↦ subst (λ all. IsBlockOf peer isn start all emission) joined
+              (block-longer peer isn start (blocks ++ one.more) two.more emission (one.emits emission early))
+        | inr late ↦ subst (λ all. IsBlockOf peer isn start all emission) joined (two.emits emission late)
+        ];
+    }
+
+-- over all items, what is accepted is the blocks that they add, and what is emitted carries blocks
+pub emits-items : (s : State) (start : ℕ) (blocks : List (List ℕ)) (items : List Item) → AreLegal s items → s.peer.id < 2 ^ 32
+    → IsCut s.sending start blocks
+    → Emits s.peer s.sending.isn start blocks (after_items s items).sending (emitted_by s items) (accepted_by items)
+unfolding after_items AreLegal emitted_by accepted_by
+emits-items s start blocks [] legal id_fits is_cut = emits-nothing s.peer s.sending.isn start blocks s.sending is_cut
+emits-items s start blocks (item ∷ items) legal id_fits is_cut =
+    let next = (step s item.event).after in
+    let same = step-keeps s item.event in
+    let stepped = emits-step s start blocks item.event id_fits is_cut in
+    let outs = subst (λ (outs : List Datagram). Emits s.peer s.sending.isn start blocks next.sending (with_offsets outs (named s item.event))
+            (taken_by item.event.act (step s item.event).reply)) (sym legal.1) stepped in
+    let one = subst (λ reply. Emits s.peer s.sending.isn start blocks next.sending (with_offsets item.outs (named s item.event))
+            (taken_by item.event.act reply)) (sym legal.0) outs in
+    let fits = subst (λ (peer : Peer). peer.id < 2 ^ 32) (sym same.peer) id_fits in
+    let rest = emits-items next start (blocks ++ one.more) items legal.2 fits one.is_cut in
+    let from = subst (λ (peer : Peer). Emits peer next.sending.isn start (blocks ++ one.more) (after_items next items).sending (emitted_by next items) (accepted_by items)) same.peer rest in
+    let two = subst (λ (isn : ℕ). Emits s.peer isn start (blocks ++ one.more) (after_items next items).sending (emitted_by next items) (accepted_by items)) same.sending.isn from in
+    emits-both s.peer s.sending.isn start blocks next.sending (after_items next items).sending _ _ _ _ one two
+
+-- bytes read as one packet alone
+record IsOnePacket (number told dest to : ℕ) (payload block : List ℕ) : Type 0 where
+  same_number : number ≡ told
+  same_dest : dest ≡ to
+  same_payload : payload ≡ block
+
+read-once : (bytes : List ℕ) (number told : ℕ) (flags others : Flags) (stamp time dest to : ℕ) (payload block : List ℕ)
+    → read bytes ≡ Ok (Block number flags stamp dest payload) → read bytes ≡ Ok (Block told others time to block)
+    → IsOnePacket number told dest to payload block
+read-once bytes number told flags others stamp time dest to payload block reads again = record { same_number = cc; same_dest = cc; same_payload = cc }
+
+-- a half that begins has accepted no block
+cut-opening : (own : ℕ) (config : Config) (peer : Peer) (now start : ℕ) → 1 ≤ config.payload → 1 ≤ peer.payload
+    → IsCut (opening own config peer now start).sending start []
+unfolding opening
+cut-opening own config peer now start payload peer_payload = record {
+  not_before = omega arith;
+  count = refl;
+  kept = sym (drop_all (start - start) [] (omega arith));
+  sent_from = omega arith;
+  sent_to = omega arith;
+  messages = tt;
+  message = omega arith;
+  payload = omega arith;
+}
+
+module _ (own : ℕ) (config : Config) (peer : Peer) (now start : ℕ) (h : History) (in_range : IsOpening own config peer start)
+    (opened : h.opening ≡ opening own config peer now start) (legal : IsLegal h) where
+  opened_peer : h.opening.peer ≡ peer
+  unfolding opening
+  opened_peer = ap (λ (s : State). s.peer) opened
+
+  opened_isn : h.opening.sending.isn ≡ peer.isn
+  unfolding opening
+  opened_isn = ap (λ (s : State). s.sending.isn) opened
+
+  opened_start : start_of h ≡ start
+  unfolding opening
+  opened_start = ap (λ (s : State). s.sending.acked) opened
+
+  emits-history : Emits h.opening.peer h.opening.sending.isn start [] (state_of h).sending (emitted h) (accepted h)
+  emits-history =
+      emits-items h.opening start [] h.items legal (subst (λ (p : Peer). p.id < 2 ^ 32) (sym opened_peer) in_range.id_fits)
+        (subst (λ (s : State). IsCut s.sending start []) (sym opened) (cut-opening own config peer now start in_range.payload_within.0 in_range.peer_payload))
+
+  -- the datagrams of a history carry its blocks to its last peer
+  carries-block : (emission : Emission) (number : ℕ) (flags : Flags) (stamp dest : ℕ) (payload : List ℕ) → Contains (emitted h) emission
+      → read emission.datagram.bytes ≡ Ok (Block number flags stamp dest payload) → CarriesBlock h emits-history.more emission number dest payload
+  carries-block emission number flags stamp dest payload among reads =
+      let is = emits-history.emits emission among in
+      let same = after_items-keeps h.opening h.items in
+      let told = read-once emission.datagram.bytes number _ flags is.flags stamp is.stamp dest h.opening.peer.id payload is.block reads is.reads in
+      record {
+        offset = is.offset;
+        names = is.names;
+        not_before = subst (λ (n : ℕ). n ≤ is.offset) (sym opened_start) is.not_before;
+        carries = ap (λ (n : ℕ). slice_get emits-history.more (is.offset - n)) opened_start ∙ is.carries
+            ∙ ap (λ (b : List ℕ). Some b) (sym told.same_payload);
+        numbered = told.same_number ∙ ap (λ (isn : ℕ). wire_number isn is.offset) (sym same.sending.isn);
+        sent_to = is.sent_to ∙ ap (λ (p : Peer). p.addr) (sym same.peer);
+        destined = told.same_dest ∙ ap (λ (p : Peer). p.id) (sym same.peer);
+      }
+
+  has_blocks : HasBlocks h
+  has_blocks = record {
+    blocks = emits-history.more;
+    joined = emits-history.joined;
+    kept = emits-history.is_cut.kept
+        ∙ ap (λ (n : ℕ). drop ((state_of h).sending.acked - n) emits-history.more) (sym opened_start);
+    emits = carries-block;
+  }
+
+blocks_by_way : (own : ℕ) (way : Way) (h : History) → IsWay own way → h.opening ≡ opened_by own way → IsLegal h → HasBlocks h
+blocks_by_way own (PairedAt config peer now start) h in_range opened legal = has_blocks own config peer now start h in_range opened legal
+
+pub emitted_blocks : EmittedBlocks
+emitted_blocks socket is_socket stream = blocks_by_way socket.own socket.way socket.history is_socket.in_range is_socket.opened is_socket.legal
