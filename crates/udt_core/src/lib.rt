@@ -1,13 +1,13 @@
-// A library with one function.
+//! A UDT socket as a pure machine: events with their moments in, answers and datagrams out.
+//!
+//! It does no input or output, reads no clock and holds no lock. Who owns a socket gives it each
+//! call, each datagram that came for it and each moment, and sends what it emits.
 #![tactic(auto)]
 
-ghost use Rattle.std.specs.Prelude.{◌≡◌};
-ghost use Rattle.udt_core.specs.Echo.{echo_of};
+mod memory;
+mod outs;
+mod pool;
+mod sending;
 
-// The `ensures` clause is the contract: what `echo` returns is `echo_of` of its argument, a definition
-// in `specs/Echo.antt`, which a caller's clause can cite too.
-pub fn echo(x: usize) -> usize
-    ensures { result ≡ echo_of x }
-{
-    x
-}
+pub use memory::OutOfMemory;
+pub use outs::Outs;
