@@ -23,7 +23,7 @@ use Rattle.udt_model.specs.History.{Item, History, taken_by, accepted_by, accept
 use Rattle.udt_model.specs.Records.{Emission, named, named_by_act, named_by_packing, with_offsets, emitted_by, emitted, IsOpening, Way, PairedAt, opened_by, IsWay, Enrolled, IsSocket}
 use Rattle.udt_model.proofs.ReceivingLemmas.{concat-append}
 use Rattle.udt_model.proofs.SendingLemmas.{bytes_of, MessagesFit-at, cut-all, IsCut, cut-with_message, cut-next, packing-sends}
-use Rattle.udt_model.proofs.StepLemmas.{KeepsIdentity, step-keeps, after_items-keeps}
+use Rattle.udt_model.proofs.StepLemmas.{step-keeps, after_items-keeps, IsQuiet, on_read-quiet}
 use Rattle.udt_model.proofs.WireLemmas.{read-spelling}
 use Rattle.udt_laws.specs.Laws.{CarriesBlock, HasBlocks, EmittedBlocks}
 
@@ -149,37 +149,6 @@ emits-packed s start blocks (Sends block) is id_fits is_cut = record {
       rw append-nil (subst (IsBlockOf s.peer s.sending.isn start blocks) same sent);
 }
 emits-packed s start blocks Idles is id_fits is_cut = emits-nothing s.peer s.sending.isn start blocks s.sending is_cut
-
--- an arrival leaves the sending half, and emits nothing
-record IsQuiet (s : State) (outcome : Outcome) : Type 0 where
-  sending : outcome.after.sending ≡ s.sending
-  outs : outcome.outs ≡ []
-
-on_block-quiet : (s : State) (number : ℕ) (flags : Flags) (bytes : List ℕ) → IsQuiet s (on_block s number flags bytes)
-on_block-quiet s number flags bytes =
-    elim (has_bad_length s.receiving bytes) as (λ bad. IsQuiet s (
-        if bad
-        then answered (record s { counters = count_stale s.counters }) (DidHear heard.BadLength)
-        else answered
-        (record s {
-          receiving = after_arrival s.receiving number flags bytes;
-          counters = count_placing s.counters (placing s.receiving number);
-        })
-        (DidHear (heard_of (placing s.receiving number))))) [
-      true ↦ record { sending = refl; outs = refl }
-    | false ↦ record { sending = refl; outs = refl }
-    ]
-
-on_read-quiet : (s : State) (from : Addr) (result : Result Packet Malformed) → IsQuiet s (on_read s from result)
-on_read-quiet s from (Err why) = record { sending = refl; outs = refl }
-on_read-quiet s from (Ok (Block number flags stamp dest bytes)) =
-    elim (same_addr from s.peer.addr && (dest == s.own)) as (λ own. IsQuiet s (
-        if own
-        then on_block s number flags bytes
-        else answered (record s { counters = count_foreign s.counters }) (DidHear heard.Foreign))) [
-      true ↦ on_block-quiet s number flags bytes
-    | false ↦ record { sending = refl; outs = refl }
-    ]
 
 emits-quiet : (s : State) (start : ℕ) (blocks : List (List ℕ)) (outcome : Outcome) → IsQuiet s outcome → IsCut s.sending start blocks
     → Emits s.peer s.sending.isn start blocks outcome.after.sending (with_offsets outcome.outs []) []

@@ -6,3 +6,4 @@ pub mod ReceivingLemmas
 pub mod AddressLemmas
 pub mod StepLemmas
 pub mod SendingLemmas
+pub mod RecordLemmas

@@ -1,4 +1,4 @@
--- What no event of a socket changes: who it is, who its peer is, and the initial numbers.
+-- What events of a socket don't change: who it is, who its peer is, and the initial numbers; and, where something arrives, the sending half.
 use Rattle.std.proofs.Common.{◌≡◌, ℕ, zero, suc, ◌-◌, ◌<◌, Bool, true, false, List, [], ◌∷◌, Some, None, Ok, Err, refl, ◌∙◌}
 use Rattle.std.specs.Prelude.{Option, Result, nat_lt, ◌==◌, ◌&&◌, if◌then◌else◌, min, length}
 use Rattle.udt_model.specs.declared.addresses.Addr.{Addr}
@@ -11,7 +11,7 @@ use Rattle.udt_model.specs.Wire.{Packet, Block, read}
 use Rattle.udt_model.specs.State.{KeptBlock, Sending, Receiving, State}
 use Rattle.udt_model.specs.Sending.{send_answer, after_answer, after_send, Packing, Waits, Sends, Idles, packing, after_packing, after_pack}
 use Rattle.udt_model.specs.Receiving.{Placing, AtOffset, IsDouble, IsBelow, IsAbove, placing, after_placing, after_arrival, receive_answer, after_receive_answer, after_receive}
-use Rattle.udt_model.specs.Step.{Act, Send, Recv, Pack, Arrive, Event, answered, DidHear, count_stale, count_placing, heard_of, count_foreign, has_bad_length, at_moment, packed_as, on_block, on_read, on_act, step}
+use Rattle.udt_model.specs.Step.{Act, Send, Recv, Pack, Arrive, Event, Outcome, answered, DidHear, count_stale, count_placing, heard_of, count_foreign, has_bad_length, at_moment, packed_as, on_block, on_read, on_act, step}
 use Rattle.udt_model.specs.History.{Item, after_items, AreLegal}
 
 -- ---- the halves
@@ -166,3 +166,34 @@ unfolding after_items
 after_items-keeps s [] = same_identity s
 after_items-keeps s (item ∷ items) =
     identity_on s (step s item.event).after _ (step-keeps s item.event) (after_items-keeps (step s item.event).after items)
+
+-- an arrival leaves the sending half, and emits nothing
+pub record IsQuiet (s : State) (outcome : Outcome) : Type 0 where
+  pub sending : outcome.after.sending ≡ s.sending
+  pub outs : outcome.outs ≡ []
+
+on_block-quiet : (s : State) (number : ℕ) (flags : Flags) (bytes : List ℕ) → IsQuiet s (on_block s number flags bytes)
+on_block-quiet s number flags bytes =
+    elim (has_bad_length s.receiving bytes) as (λ bad. IsQuiet s (
+        if bad
+        then answered (record s { counters = count_stale s.counters }) (DidHear heard.BadLength)
+        else answered
+        (record s {
+          receiving = after_arrival s.receiving number flags bytes;
+          counters = count_placing s.counters (placing s.receiving number);
+        })
+        (DidHear (heard_of (placing s.receiving number))))) [
+      true ↦ record { sending = refl; outs = refl }
+    | false ↦ record { sending = refl; outs = refl }
+    ]
+
+pub on_read-quiet : (s : State) (from : Addr) (result : Result Packet Malformed) → IsQuiet s (on_read s from result)
+on_read-quiet s from (Err why) = record { sending = refl; outs = refl }
+on_read-quiet s from (Ok (Block number flags stamp dest bytes)) =
+    elim (same_addr from s.peer.addr && (dest == s.own)) as (λ own. IsQuiet s (
+        if own
+        then on_block s number flags bytes
+        else answered (record s { counters = count_foreign s.counters }) (DidHear heard.Foreign))) [
+      true ↦ on_block-quiet s number flags bytes
+    | false ↦ record { sending = refl; outs = refl }
+    ]

@@ -56,6 +56,14 @@ emitted_by s (item ∷ items) = with_offsets item.outs (named s item.event) ++ e
 abbrev pub emitted : History → List Emission
 emitted h = emitted_by h.opening h.items
 
+unfoldable pub sent_by : List Item → List Datagram
+sent_by [] = []
+sent_by (item ∷ items) = item.outs ++ sent_by items
+
+-- all datagrams that a socket emitted, in order
+abbrev pub sent : History → List Datagram
+sent h = sent_by h.items
+
 -- ---- what arrived
 
 abbrev pub arrived_by_act : Act → List Datagram
@@ -129,6 +137,13 @@ pub record EndpointRecord : Type 0 where
   pub addr : Addr
   pub sockets : List Enrolled
 
+-- the records have this socket at an endpoint of this address
+pub record StandsAt (net : List EndpointRecord) (addr : Addr) (socket : Enrolled) : Type 0 where
+  pub endpoint : EndpointRecord
+  pub among : Contains net endpoint
+  pub addr_is : endpoint.addr ≡ addr
+  pub enrolled : Contains endpoint.sockets socket
+
 -- an address and the ID of a socket there
 pub record PeerPair : Type 0 where
   pub addr : Addr
@@ -156,11 +171,10 @@ ArePaired addr own (PairedAt config peer now start) other_addr other_own (Paired
 
 -- the records have the socket's other half
 pub record IsPaired (net : List EndpointRecord) (addr : Addr) (socket : Enrolled) : Type 0 where
-  pub endpoint : EndpointRecord
+  pub other_addr : Addr
   pub other : Enrolled
-  pub among : Contains net endpoint
-  pub enrolled : Contains endpoint.sockets other
-  pub paired : ArePaired addr socket.own socket.way endpoint.addr other.own other.way
+  pub stands : StandsAt net other_addr other
+  pub paired : ArePaired addr socket.own socket.way other_addr other.own other.way
 
 -- why a socket may be connected to its peer: so far, since a script paired them
 abbrev pub IsMet : List EndpointRecord → Addr → Enrolled → Type 0
@@ -199,12 +213,9 @@ read_by s (Block seq flags stamp dest bytes) = s.receiving.top
 
 -- these bytes from this address were emitted there, to the other address, and all that they name lies near where a socket in this state reads them
 pub record WasEmitted (net : List EndpointRecord) (s : State) (from to : Addr) (bytes : List ℕ) : Type 0 where
-  pub endpoint : EndpointRecord
   pub socket : Enrolled
   pub emission : Emission
-  pub among : Contains net endpoint
-  pub addr : endpoint.addr ≡ from
-  pub enrolled : Contains endpoint.sockets socket
+  pub stands : StandsAt net from socket
   pub emits : Contains (emitted socket.history) emission
   pub datagram : emission.datagram ≡ record { addr = to; bytes = bytes }
   pub close : (packet : Packet) (offset : ℕ) → read bytes ≡ Ok packet → Contains emission.offsets offset
@@ -224,5 +235,5 @@ AreHonest net addr s (item ∷ items) = IsHonestAct net addr s item.event.act ×
 -- nothing that arrived was forged, and nothing outlived the passing of 2^30 packets
 abbrev pub IsHonest : List EndpointRecord → Type 0
 IsHonest net =
-    (endpoint : EndpointRecord) (socket : Enrolled) → Contains net endpoint → Contains endpoint.sockets socket
-    → AreHonest net endpoint.addr socket.history.opening socket.history.items
+    (addr : Addr) (socket : Enrolled) → StandsAt net addr socket
+    → AreHonest net addr socket.history.opening socket.history.items
