@@ -25,6 +25,7 @@ use Rattle.udt_model.proofs.ReceivingLemmas.{concat-append}
 use Rattle.udt_model.proofs.SendingLemmas.{bytes_of, MessagesFit-at, cut-all, IsCut, cut-with_message, cut-next, packing-sends}
 use Rattle.udt_model.proofs.StepLemmas.{step-keeps, after_items-keeps, IsQuiet, on_read-quiet}
 use Rattle.udt_model.proofs.WireLemmas.{read-spelling}
+use Rattle.udt_laws.proofs.Opened.{opened_peer, opened_start}
 use Rattle.udt_laws.specs.Laws.{CarriesBlock, HasBlocks, EmittedBlocks}
 
 -- a datagram carries one of these blocks to the peer, under the number of the offset that it names
@@ -237,21 +238,9 @@ cut-opening own config peer now start payload peer_payload = record {
 
 module _ (own : ℕ) (config : Config) (peer : Peer) (now start : ℕ) (h : History) (in_range : IsOpening own config peer start)
     (opened : h.opening ≡ opening own config peer now start) (legal : IsLegal h) where
-  opened_peer : h.opening.peer ≡ peer
-  unfolding opening
-  opened_peer = ap (λ (s : State). s.peer) opened
-
-  opened_isn : h.opening.sending.isn ≡ peer.isn
-  unfolding opening
-  opened_isn = ap (λ (s : State). s.sending.isn) opened
-
-  opened_start : start_of h ≡ start
-  unfolding opening
-  opened_start = ap (λ (s : State). s.sending.acked) opened
-
   emits-history : Emits h.opening.peer h.opening.sending.isn start [] (state_of h).sending (emitted h) (accepted h)
   emits-history =
-      emits-items h.opening start [] h.items legal (subst (λ (p : Peer). p.id < 2 ^ 32) (sym opened_peer) in_range.id_fits)
+      emits-items h.opening start [] h.items legal (subst (λ (p : Peer). p.id < 2 ^ 32) (sym (opened_peer own config peer now start h opened)) in_range.id_fits)
         (subst (λ (s : State). IsCut s.sending start []) (sym opened) (cut-opening own config peer now start in_range.payload_within.0 in_range.peer_payload))
 
   -- the datagrams of a history carry its blocks to its last peer
@@ -264,20 +253,20 @@ module _ (own : ℕ) (config : Config) (peer : Peer) (now start : ℕ) (h : Hist
       record {
         offset = is.offset;
         names = is.names;
-        not_before = subst (λ (n : ℕ). n ≤ is.offset) (sym opened_start) is.not_before;
-        carries = ap (λ (n : ℕ). slice_get emits-history.more (is.offset - n)) opened_start ∙ is.carries
+        not_before = subst (λ (n : ℕ). n ≤ is.offset) (sym (opened_start own config peer now start h opened)) is.not_before;
+        carries = ap (λ (n : ℕ). slice_get emits-history.more (is.offset - n)) (opened_start own config peer now start h opened) ∙ is.carries
             ∙ ap (λ (b : List ℕ). Some b) (sym told.same_payload);
         numbered = told.same_number ∙ ap (λ (isn : ℕ). wire_number isn is.offset) (sym same.sending.isn);
         sent_to = is.sent_to ∙ ap (λ (p : Peer). p.addr) (sym same.peer);
         destined = told.same_dest ∙ ap (λ (p : Peer). p.id) (sym same.peer);
       }
 
-  has_blocks : HasBlocks h
+  pub has_blocks : HasBlocks h
   has_blocks = record {
     blocks = emits-history.more;
     joined = emits-history.joined;
     kept = emits-history.is_cut.kept
-        ∙ ap (λ (n : ℕ). drop ((state_of h).sending.acked - n) emits-history.more) (sym opened_start);
+        ∙ ap (λ (n : ℕ). drop ((state_of h).sending.acked - n) emits-history.more) (sym (opened_start own config peer now start h opened));
     emits = carries-block;
   }
 

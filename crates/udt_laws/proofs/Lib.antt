@@ -1,4 +1,7 @@
+mod Opened
 mod Kept
 mod Receives
 mod MadeOf
 mod Emits
+mod Mates
+mod Honest

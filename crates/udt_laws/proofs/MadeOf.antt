@@ -18,6 +18,7 @@ use Rattle.udt_model.proofs.ReceivingLemmas.{AllFrom}
 use Rattle.udt_model.proofs.StepLemmas.{KeepsIdentity, step-keeps, after_items-keeps}
 use Rattle.std.proofs.lemmas.Option.{same_Some}
 use Rattle.udt_laws.specs.Laws.{OneHistory, peer_isn}
+use Rattle.udt_laws.proofs.Opened.{opened_own, opened_peer, opened_receiving, opened_start, last_peer}
 use Rattle.udt_laws.proofs.Kept.{Kept, IsFrontOf, kept-front}
 use Rattle.udt_laws.proofs.Receives.{MeetsAct, AllMeet, keep-items}
 
@@ -78,33 +79,13 @@ same-number : (isn start n : ℕ) → wire_number isn (start + n) ≡ wire_numbe
 same-number isn start n = omega arith
 
 module _ (own : ℕ) (config : Config) (peer : Peer) (now start : ℕ) (h : History) (opened : h.opening ≡ opening own config peer now start) (legal : IsLegal h) where
-  -- what a history begins with and keeps
-  opened_own : h.opening.own ≡ own
-  unfolding opening
-  opened_own = ap (λ (s : State). s.own) opened
-
-  opened_peer : h.opening.peer ≡ peer
-  unfolding opening
-  opened_peer = ap (λ (s : State). s.peer) opened
-
-  opened_isn : h.opening.receiving.isn ≡ peer.isn
-  unfolding opening
-  opened_isn = ap (λ (s : State). s.receiving.isn) opened
-
-  opened_start : start_of h ≡ start
-  unfolding opening
-  opened_start = ap (λ (s : State). s.sending.acked) opened
-
-  last_peer : (state_of h).peer ≡ peer
-  last_peer = (after_items-keeps h.opening h.items).peer ∙ opened_peer
-
-  opened_kept : (P : ℕ → List ℕ → Type 0) → Kept P start h.opening.receiving []
+  pub opened_kept : (P : ℕ → List ℕ → Type 0) → Kept P start h.opening.receiving []
   opened_kept P = subst (λ (s : State). Kept P start s.receiving []) (sym opened) (kept-opening P own config peer now start)
 
   made_of : IsMadeOf (delivered h) (arrivals h) own peer.addr ((peer.isn + start) % 2 ^ 31)
   made_of =
       let P = HasArrived (arrivals h) own peer.addr peer.isn in
-      let meets = all-arrived (arrivals h) own peer.addr peer.isn h.opening h.items opened_own (ap (λ (p : Peer). p.addr) opened_peer) opened_isn
+      let meets = all-arrived (arrivals h) own peer.addr peer.isn h.opening h.items (opened_own own config peer now start h opened) (ap (λ (p : Peer). p.addr) (opened_peer own config peer now start h opened)) (opened_receiving own config peer now start h opened)
           (λ datagram among. among) in
       let front = kept-front P start _ (delivered h) (keep-items P start h.opening h.items [] legal meets (opened_kept P)) in
       record {
@@ -118,10 +99,10 @@ module _ (own : ℕ) (config : Config) (peer : Peer) (now start : ℕ) (h : Hist
       → IsMadeOf (delivered h) (arrivals h) own pair.addr ((peer_isn h + start_of h) % 2 ^ 31)
   made_of_peer pair names =
       let addr : peer.addr ≡ pair.addr =
-          sym (ap (λ (p : Peer). p.addr) last_peer) ∙ ap (λ (p : PeerPair). p.addr) (same_Some _ _ names) in
+          sym (ap (λ (p : Peer). p.addr) (last_peer own config peer now start h opened)) ∙ ap (λ (p : PeerPair). p.addr) (same_Some _ _ names) in
       let isn : (peer.isn + start) % 2 ^ 31 ≡ (peer_isn h + start_of h) % 2 ^ 31 =
-          ap (λ (n : ℕ). (n + start) % 2 ^ 31) (sym (ap (λ (p : Peer). p.isn) last_peer))
-          ∙ ap (λ (n : ℕ). (peer_isn h + n) % 2 ^ 31) (sym opened_start) in
+          ap (λ (n : ℕ). (n + start) % 2 ^ 31) (sym (ap (λ (p : Peer). p.isn) (last_peer own config peer now start h opened)))
+          ∙ ap (λ (n : ℕ). (peer_isn h + n) % 2 ^ 31) (sym (opened_start own config peer now start h opened)) in
       subst (λ (number : ℕ). IsMadeOf (delivered h) (arrivals h) own pair.addr number) isn
         (subst (λ (from : Addr). IsMadeOf (delivered h) (arrivals h) own from ((peer.isn + start) % 2 ^ 31)) addr made_of)
 

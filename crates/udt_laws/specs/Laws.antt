@@ -1,13 +1,14 @@
 -- The main theorems, as statements about histories and records.
-use Rattle.std.specs.Prelude.{◌≡◌, ℕ, ◌+◌, ◌-◌, ◌%◌, ◌^◌, ◌≤◌, List, [], ◌∷◌, drop, map, Some, Ok, slice_get}
+use Rattle.std.specs.Prelude.{◌≡◌, ℕ, ◌+◌, ◌-◌, ◌%◌, ◌^◌, ◌<◌, ◌≤◌, List, [], ◌∷◌, drop, length, map, Some, Ok, slice_get}
 use Rattle.std.specs.List.{Contains, concat}
 use Rattle.udt_model.specs.declared.packets.Flags.{Flags}
 use Rattle.udt_model.specs.declared.packets.Kind.TheVariants.{Stream}
+use Rattle.udt_model.specs.declared.addresses.Addr.{Addr}
 use Rattle.udt_model.specs.Numbers.{wire_number}
-use Rattle.udt_model.specs.Wire.{Block, read}
-use Rattle.udt_model.specs.State.{KeptBlock}
+use Rattle.udt_model.specs.Wire.{Block, read, target}
+use Rattle.udt_model.specs.State.{KeptBlock, Datagram}
 use Rattle.udt_model.specs.History.{History, state_of, start_of, accepted, delivered}
-use Rattle.udt_model.specs.Records.{Enrolled, IsSocket, PeerPair, own_peer, arrivals, IsMadeOf, Emission, emitted}
+use Rattle.udt_model.specs.Records.{IsPrefix, Emission, emitted, sent, arrivals, IsMadeOf, Enrolled, IsSocket, EndpointRecord, StandsAt, PeerPair, own_peer, ArePaired, AreLawful, IsHonest}
 
 -- the socket carries a stream of bytes
 abbrev pub IsStream : History → Type 0
@@ -47,3 +48,26 @@ pub record HasBlocks (h : History) : Type 0 where
 -- Emitted blocks: what a stream socket sends are the blocks of what it accepted, each under its own number
 abbrev pub EmittedBlocks : Type 0
 EmittedBlocks = (socket : Enrolled) → IsSocket socket → IsStream socket.history → HasBlocks socket.history
+
+-- Prefix: where records are lawful and honest, what a stream socket delivered is a prefix of what its own peer accepted
+abbrev pub Prefix : Type 0
+Prefix =
+    (net : List EndpointRecord) (addr : Addr) (receiver sender : Enrolled) (peer : PeerPair) → AreLawful net → IsHonest net
+    → StandsAt net addr receiver → IsStream receiver.history → own_peer receiver.history ≡ Some peer
+    → StandsAt net peer.addr sender → sender.own ≡ peer.id
+    → IsPrefix (delivered receiver.history) (accepted sender.history)
+
+-- each datagram that came from this address for the receiver has the bytes of one that the sender emitted
+abbrev pub ComesFrom : Enrolled → Addr → Enrolled → Type 0
+ComesFrom receiver from sender =
+    (datagram : Datagram) → Contains (arrivals receiver.history) datagram → datagram.addr ≡ from
+    → target datagram.bytes ≡ Some receiver.own
+    → (sent_one : Datagram) × Contains (sent sender.history) sent_one × (sent_one.bytes ≡ datagram.bytes)
+
+-- Pair prefix: the same for two sockets that were made as a pair, where the one emitted fewer than 2^30 datagrams and the other got no others from there
+abbrev pub PairPrefix : Type 0
+PairPrefix =
+    (addr peer_addr : Addr) (receiver sender : Enrolled) → IsSocket receiver → IsSocket sender
+    → ArePaired addr receiver.own receiver.way peer_addr sender.own sender.way → IsStream receiver.history
+    → ComesFrom receiver peer_addr sender → length (sent sender.history) < 2 ^ 30
+    → IsPrefix (delivered receiver.history) (accepted sender.history)

@@ -1,7 +1,7 @@
 //! The main theorems of the protocol, each the contract of an empty function.
 #![tactic(auto)]
 
-ghost use Rattle.udt_laws.specs.Laws.{OneHistory, EmittedBlocks};
+ghost use Rattle.udt_laws.specs.Laws.{OneHistory, EmittedBlocks, Prefix, PairPrefix};
 
 /// Whatever arrives, a stream socket delivers a front of the payloads that came from its peer's
 /// address, each under the wire number of its place.
@@ -13,4 +13,16 @@ pub fn one_history()
 /// number of its offset.
 pub fn emitted_blocks()
     ensures { EmittedBlocks }
+{}
+
+/// Where no datagram is forged and none outlives 2^30 packets, what a stream socket delivers is a
+/// prefix of what its own peer accepted.
+pub fn prefix()
+    ensures { Prefix }
+{}
+
+/// The same for two sockets that were made as a pair, of which the sender emitted fewer than 2^30
+/// datagrams.
+pub fn pair_prefix()
+    ensures { PairPrefix }
 {}

@@ -1,0 +1,36 @@
+-- What a history that begins with an opening begins with and keeps.
+use Rattle.std.proofs.Common.{◌≡◌, ℕ, List, [], refl, ap, ◌∙◌, sym, subst, arith}
+use Rattle.udt_model.specs.declared.answers.Peer.{Peer}
+use Rattle.udt_model.specs.declared.packets.Config.{Config}
+use Rattle.udt_model.specs.State.{State}
+use Rattle.udt_model.specs.Step.{opening}
+use Rattle.udt_model.specs.History.{History, state_of, start_of}
+use Rattle.udt_model.specs.Records.{PeerPair, own_peer}
+use Rattle.udt_model.proofs.StepLemmas.{after_items-keeps}
+
+module _ (own : ℕ) (config : Config) (peer : Peer) (now start : ℕ) (h : History) (opened : h.opening ≡ opening own config peer now start) where
+  pub opened_own : h.opening.own ≡ own
+  unfolding opening
+  opened_own = ap (λ (s : State). s.own) opened
+
+  pub opened_peer : h.opening.peer ≡ peer
+  unfolding opening
+  opened_peer = ap (λ (s : State). s.peer) opened
+
+  pub opened_receiving : h.opening.receiving.isn ≡ peer.isn
+  unfolding opening
+  opened_receiving = ap (λ (s : State). s.receiving.isn) opened
+
+  pub opened_sending : h.opening.sending.isn ≡ peer.isn
+  unfolding opening
+  opened_sending = ap (λ (s : State). s.sending.isn) opened
+
+  pub opened_start : start_of h ≡ start
+  unfolding opening
+  opened_start = ap (λ (s : State). s.sending.acked) opened
+
+  pub last_peer : (state_of h).peer ≡ peer
+  last_peer = (after_items-keeps h.opening h.items).peer ∙ opened_peer
+
+  pub last_isn : (state_of h).sending.isn ≡ peer.isn
+  last_isn = (after_items-keeps h.opening h.items).sending.isn ∙ opened_sending
