@@ -1,26 +1,21 @@
 -- What a socket emits over a history: the blocks of what it accepted, each with the offset that it names.
-use Rattle.std.proofs.Common.{◌≡◌, ℕ, zero, suc, ◌+◌, ◌-◌, ◌*◌, ◌%◌, ◌^◌, ◌<◌, ◌≤◌, Bool, true, false, List, [], ◌∷◌, ◌++◌, length, take, drop, Some, None, Ok, Err, refl, ap, ◌∙◌, sym, subst, inl, inr, arith}
-use Rattle.std.specs.Prelude.{Option, Result, ◌==◌, ◌&&◌, if◌then◌else◌, slice_get}
+use Rattle.std.proofs.Common.{◌≡◌, ℕ, zero, suc, ◌-◌, ◌^◌, ◌<◌, ◌≤◌, true, List, [], ◌∷◌, ◌++◌, length, take, drop, Some, Ok, Err, refl, ap, ◌∙◌, sym, subst, inl, inr, arith}
+use Rattle.std.specs.Prelude.{Result, slice_get}
 use Rattle.std.specs.List.{Contains, concat}
 use Rattle.std.proofs.lemmas.Option.{slice_get_within}
 use Rattle.std.proofs.lemmas.List.{append_assoc, append-nil, drop_all}
-use Rattle.std.proofs.lemmas.List.Elements.{Contains-append_left, Contains-append_right, Contains-append_cases, Contains-push_cases}
-use Rattle.udt_model.specs.declared.addresses.Addr.{Addr}
-use Rattle.udt_model.specs.declared.answers.Heard.TheVariants as heard
+use Rattle.std.proofs.lemmas.List.Elements.{Contains-append_cases, Contains-push_cases}
 use Rattle.udt_model.specs.declared.answers.Peer.{Peer}
 use Rattle.udt_model.specs.declared.answers.Refusal.{Refusal}
 use Rattle.udt_model.specs.declared.packets.Config.{Config}
 use Rattle.udt_model.specs.declared.packets.Flags.{Flags}
-use Rattle.udt_model.specs.declared.packets.Malformed.{Malformed}
-use Rattle.udt_model.specs.Addresses.{same_addr}
 use Rattle.udt_model.specs.Numbers.{wire_number}
-use Rattle.udt_model.specs.Wire.{Packet, Block, read, spelling}
+use Rattle.udt_model.specs.Wire.{Block, read}
 use Rattle.udt_model.specs.State.{KeptBlock, Sending, State, Datagram}
-use Rattle.udt_model.specs.Sending.{send_answer, after_answer, after_send, with_message, cut, blocks_for, Packing, Waits, Sends, Idles, packing, after_packing, after_pack, unsent}
-use Rattle.udt_model.specs.Receiving.{placing, after_arrival}
-use Rattle.udt_model.specs.Step.{Act, Send, Recv, Pack, Arrive, Event, Sent, DidHear, Outcome, answered, at_moment, block_datagram, packed_as, count_stale, count_placing, heard_of, count_foreign, has_bad_length, on_block, on_read, on_act, step, stamp_of, opening}
-use Rattle.udt_model.specs.History.{Item, History, taken_by, accepted_by, accepted, after_items, state_of, start_of, AreLegal, IsLegal}
-use Rattle.udt_model.specs.Records.{Emission, named, named_by_act, named_by_packing, with_offsets, emitted_by, emitted, IsOpening, Way, PairedAt, opened_by, IsWay, Enrolled, IsSocket}
+use Rattle.udt_model.specs.Sending.{send_answer, after_answer, after_send, cut, blocks_for, Packing, Waits, Sends, Idles, packing, after_pack, unsent}
+use Rattle.udt_model.specs.Step.{Act, Send, Recv, Pack, Arrive, Event, Sent, Outcome, at_moment, block_datagram, packed_as, on_act, step, stamp_of, opening}
+use Rattle.udt_model.specs.History.{Item, History, taken_by, accepted_by, accepted, after_items, state_of, AreLegal, IsLegal}
+use Rattle.udt_model.specs.Records.{Emission, named, named_by_act, named_by_packing, with_offsets, emitted_by, emitted, IsOpening, Way, PairedAt, opened_by, IsWay}
 use Rattle.udt_model.proofs.ReceivingLemmas.{concat-append}
 use Rattle.udt_model.proofs.SendingLemmas.{bytes_of, MessagesFit-at, cut-all, IsCut, cut-with_message, cut-next, packing-sends}
 use Rattle.udt_model.proofs.StepLemmas.{step-keeps, after_items-keeps, IsQuiet, on_read-quiet}
@@ -133,7 +128,7 @@ block-sent s start blocks block id_fits is_cut found = record {
       let stamp_fits : stamp_of s < 2 ^ 32 = omega arith in
       let message_fits = MessagesFit-at s.sending.kept (s.sending.next - s.sending.acked) block is_cut.messages found in
       read-spelling (Block (wire_number s.sending.isn s.sending.next) block.flags (stamp_of s) s.peer.id block.bytes)
-        (number_fits, message_fits, stamp_fits, id_fits);
+      (number_fits, message_fits, stamp_fits, id_fits);
 }
 
 emits-packed : (s : State) (start : ℕ) (blocks : List (List ℕ)) (p : Packing) → packing s.sending s.last ≡ p → s.peer.id < 2 ^ 32
@@ -155,12 +150,12 @@ emits-quiet : (s : State) (start : ℕ) (blocks : List (List ℕ)) (outcome : Ou
     → Emits s.peer s.sending.isn start blocks outcome.after.sending (with_offsets outcome.outs []) []
 emits-quiet s start blocks outcome quiet is_cut =
     subst (λ (outs : List Datagram). Emits s.peer s.sending.isn start blocks outcome.after.sending (with_offsets outs []) []) (sym quiet.outs)
-      (subst (λ (sending : Sending). Emits s.peer s.sending.isn start blocks sending [] []) (sym quiet.sending)
-        (emits-nothing s.peer s.sending.isn start blocks s.sending is_cut))
+    (subst (λ (sending : Sending). Emits s.peer s.sending.isn start blocks sending [] []) (sym quiet.sending)
+    (emits-nothing s.peer s.sending.isn start blocks s.sending is_cut))
 
 emits-act : (s : State) (start : ℕ) (blocks : List (List ℕ)) (act : Act) → s.peer.id < 2 ^ 32 → IsCut s.sending start blocks
     → Emits s.peer s.sending.isn start blocks (on_act s act).after.sending (with_offsets (on_act s act).outs (named_by_act s act))
-        (taken_by act (on_act s act).reply)
+    (taken_by act (on_act s act).reply)
 emits-act s start blocks (Send bytes) id_fits is_cut = emits-send s.peer s.sending.isn start blocks s.sending bytes is_cut
 emits-act s start blocks (Recv room) id_fits is_cut = emits-nothing s.peer s.sending.isn start blocks s.sending is_cut
 emits-act s start blocks Pack id_fits is_cut = emits-packed s start blocks (packing s.sending s.last) refl id_fits is_cut
@@ -168,7 +163,7 @@ emits-act s start blocks (Arrive from bytes) id_fits is_cut = emits-quiet s star
 
 emits-step : (s : State) (start : ℕ) (blocks : List (List ℕ)) (event : Event) → s.peer.id < 2 ^ 32 → IsCut s.sending start blocks
     → Emits s.peer s.sending.isn start blocks (step s event).after.sending (with_offsets (step s event).outs (named s event))
-        (taken_by event.act (step s event).reply)
+    (taken_by event.act (step s event).reply)
 unfolding step named
 emits-step s start blocks event id_fits is_cut = emits-act (at_moment s event.now) start blocks event.act id_fits is_cut
 
@@ -184,10 +179,10 @@ emits-both peer isn start blocks between after first second taken later one two 
           ∙ ap (λ (rest : List ℕ). taken ++ rest) two.joined;
       is_cut = subst (IsCut after start) joined two.is_cut;
       emits = λ emission among. elim (Contains-append_cases first second emission among) [
-          inl early ↦ subst (λ all. IsBlockOf peer isn start all emission) joined
-              (block-longer peer isn start (blocks ++ one.more) two.more emission (one.emits emission early))
+        | inl early ↦ subst (λ all. IsBlockOf peer isn start all emission) joined
+            (block-longer peer isn start (blocks ++ one.more) two.more emission (one.emits emission early))
         | inr late ↦ subst (λ all. IsBlockOf peer isn start all emission) joined (two.emits emission late)
-        ];
+      ];
     }
 
 -- over all items, what is accepted is the blocks that they add, and what is emitted carries blocks
@@ -201,9 +196,9 @@ emits-items s start blocks (item ∷ items) legal id_fits is_cut =
     let same = step-keeps s item.event in
     let stepped = emits-step s start blocks item.event id_fits is_cut in
     let outs = subst (λ (outs : List Datagram). Emits s.peer s.sending.isn start blocks next.sending (with_offsets outs (named s item.event))
-            (taken_by item.event.act (step s item.event).reply)) (sym legal.1) stepped in
+    (taken_by item.event.act (step s item.event).reply)) (sym legal.1) stepped in
     let one = subst (λ reply. Emits s.peer s.sending.isn start blocks next.sending (with_offsets item.outs (named s item.event))
-            (taken_by item.event.act reply)) (sym legal.0) outs in
+    (taken_by item.event.act reply)) (sym legal.0) outs in
     let fits = subst (λ (peer : Peer). peer.id < 2 ^ 32) (sym same.peer) id_fits in
     let rest = emits-items next start (blocks ++ one.more) items legal.2 fits one.is_cut in
     let from = subst (λ (peer : Peer). Emits peer next.sending.isn start (blocks ++ one.more) (after_items next items).sending (emitted_by next items) (accepted_by items)) same.peer rest in
@@ -241,7 +236,7 @@ module _ (own : ℕ) (config : Config) (peer : Peer) (now start : ℕ) (h : Hist
   emits-history : Emits h.opening.peer h.opening.sending.isn start [] (state_of h).sending (emitted h) (accepted h)
   emits-history =
       emits-items h.opening start [] h.items legal (subst (λ (p : Peer). p.id < 2 ^ 32) (sym (opened_peer own config peer now start h opened)) in_range.id_fits)
-        (subst (λ (s : State). IsCut s.sending start []) (sym opened) (cut-opening own config peer now start in_range.payload_within.0 in_range.peer_payload))
+      (subst (λ (s : State). IsCut s.sending start []) (sym opened) (cut-opening own config peer now start in_range.payload_within.0 in_range.peer_payload))
 
   -- the datagrams of a history carry its blocks to its last peer
   carries-block : (emission : Emission) (number : ℕ) (flags : Flags) (stamp dest : ℕ) (payload : List ℕ) → Contains (emitted h) emission

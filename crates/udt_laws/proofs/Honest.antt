@@ -1,20 +1,19 @@
 -- Where records are lawful and honest, what arrives from a socket's peer was emitted by the peer alone, and is read as what it was.
-use Rattle.std.proofs.Common.{◌≡◌, ℕ, ◌+◌, ◌-◌, List, [], ◌∷◌, Some, Ok, refl, ap, ◌∙◌, sym, subst}
+use Rattle.std.proofs.Common.{◌≡◌, ℕ, List, [], ◌∷◌, Some, Ok, refl, ap, ◌∙◌, sym, subst}
 use Rattle.std.specs.List.{Contains}
 use Rattle.std.proofs.lemmas.Option.{same_Some}
 use Rattle.udt_model.specs.declared.addresses.Addr.{Addr}
 use Rattle.udt_model.specs.declared.answers.Peer.{Peer}
 use Rattle.udt_model.specs.declared.packets.Flags.{Flags}
-use Rattle.udt_model.specs.Numbers.{near}
-use Rattle.udt_model.specs.Wire.{Packet, Block, read}
+use Rattle.udt_model.specs.Wire.{Block, read}
 use Rattle.udt_model.specs.State.{State, Datagram}
 use Rattle.udt_model.specs.Step.{Act, Send, Recv, Pack, Arrive, step}
 use Rattle.udt_model.specs.History.{Item, History, state_of, accepted, delivered}
-use Rattle.udt_model.specs.Records.{IsPrefix, Emission, emitted, Enrolled, IsSocket, EndpointRecord, StandsAt, PeerPair, own_peer, IsPaired, IsLawful, AreLawful, WasEmitted, IsHonestAct, AreHonest, IsHonest}
+use Rattle.udt_model.specs.Records.{IsPrefix, emitted, Enrolled, EndpointRecord, StandsAt, PeerPair, own_peer, AreLawful, WasEmitted, IsHonestAct, AreHonest, IsHonest}
 use Rattle.udt_model.proofs.StepLemmas.{step-keeps, after_items-keeps}
 use Rattle.udt_laws.specs.Laws.{HasBlocks, Prefix}
 use Rattle.udt_laws.proofs.Receives.{MeetsAct, AllMeet}
-use Rattle.udt_laws.proofs.Mates.{IsEmittedNear, IsBlockAt, reads-block, AreMates, mates}
+use Rattle.udt_laws.proofs.Mates.{IsEmittedNear, IsBlockAt, reads-as, mates}
 
 pair_from : Addr → ℕ → PeerPair
 pair_from addr id = record { addr = addr; id = id }
@@ -59,7 +58,7 @@ module _ (net : List EndpointRecord) (lawful : AreLawful net) where
         let bytes_are : was.emission.datagram.bytes ≡ bytes = ap (λ (d : Datagram). d.bytes) was.datagram in
         let goes_to : was.emission.datagram.addr ≡ addr = ap (λ (d : Datagram). d.addr) was.datagram in
         let addressed = (lawful.each there.endpoint there.among).addressed was.socket was.emission (Block number flags stamp s.own payload)
-            there.enrolled was.emits (ap read bytes_are ∙ reads) refl in
+        there.enrolled was.emits (ap read bytes_are ∙ reads) refl in
         let peer = same_Some _ _ addressed in
         let named = names was.socket.history addr own (ap (λ (p : PeerPair). p.addr) peer ∙ goes_to) (ap (λ (p : PeerPair). p.id) peer ∙ own_is) in
         let same = same-peer sender_addr was.socket sender _ there stands named names_back in
@@ -77,17 +76,18 @@ module _ (net : List EndpointRecord) (lawful : AreLawful net) where
     act-meets s Pack own_is addr_is isn_is honest = tt
     act-meets s (Arrive from bytes) own_is addr_is isn_is honest = λ number flags stamp payload offset from_is reads found.
         let emitted_near = from-sender s from bytes payload number stamp flags own_is (from_is ∙ addr_is) honest reads in
-        reads-block sender.history has s.receiving.isn s.receiving.top number offset flags stamp s.own bytes payload isn_is emitted_near reads found
+        (reads-as sender.history has s.receiving.isn s.receiving.top number offset flags stamp s.own bytes payload isn_is emitted_near reads found).is_block
 
     items-meet : (s : State) (items : List Item) → s.own ≡ own → s.peer.addr ≡ sender_addr
         → (state_of sender.history).sending.isn ≡ s.receiving.isn → AreHonest net addr s items → AllMeet (IsBlockAt sender.history has) s items
     unfolding AreHonest
     items-meet s [] own_is addr_is isn_is honest = tt
     items-meet s (item ∷ items) own_is addr_is isn_is honest =
-        let same = step-keeps s item.event in
-        (act-meets s item.event.act own_is addr_is isn_is honest.0,
-         items-meet (step s item.event).after items (same.own ∙ own_is) (ap (λ (p : Peer). p.addr) same.peer ∙ addr_is)
-           (isn_is ∙ sym same.receiving.isn) honest.1)
+        let same = step-keeps s item.event in (
+          act-meets s item.event.act own_is addr_is isn_is honest.0,
+          items-meet (step s item.event).after items (same.own ∙ own_is) (ap (λ (p : Peer). p.addr) same.peer ∙ addr_is)
+              (isn_is ∙ sym same.receiving.isn) honest.1,
+        )
 
   -- the sockets that a script paired
   paired-prefix : (addr : Addr) (receiver : Enrolled) (peer : PeerPair) (sender : Enrolled) → IsHonest net → StandsAt net addr receiver
@@ -100,16 +100,16 @@ module _ (net : List EndpointRecord) (lawful : AreLawful net) where
       let other_law = lawful.each met.stands.endpoint met.stands.among in
       let other_in = other_law.sockets met.other met.stands.enrolled in
       let are = mates here.endpoint.addr receiver.own receiver.way receiver.history met.other_addr met.other.own met.other.way met.other.history
-          met.paired in_record.opened in_record.legal other_in.in_range other_in.opened other_in.legal in
+      met.paired in_record.opened in_record.legal other_in.in_range other_in.opened other_in.legal in
       let last = (after_items-keeps receiver.history.opening receiver.history.items).peer in
       let named = same_Some _ _ peer_is in
       let addr_is : peer.addr ≡ met.other_addr = sym (ap (λ (p : PeerPair). p.addr) named) ∙ ap (λ (p : Peer). p.addr) last ∙ are.peer_addr in
       let id_is : sender.own ≡ met.other.own = own_is ∙ sym (ap (λ (p : PeerPair). p.id) named) ∙ ap (λ (p : Peer). p.id) last ∙ are.peer_id in
       let same = same-socket met.other_addr met.other sender met.stands (subst (λ (a : Addr). StandsAt net a sender) addr_is there) (sym id_is) in
       let meets = items-meet here.endpoint.addr met.other_addr receiver.own met.other are.has met.stands
-          (names met.other.history here.endpoint.addr receiver.own are.back_addr are.back_id) receiver.history.opening receiver.history.items
-          are.own_is are.peer_addr are.same_isn
-          (subst (λ (a : Addr). AreHonest net a receiver.history.opening receiver.history.items) (sym here.addr_is) (honest addr receiver here)) in
+      (names met.other.history here.endpoint.addr receiver.own are.back_addr are.back_id) receiver.history.opening receiver.history.items
+      are.own_is are.peer_addr are.same_isn
+      (subst (λ (a : Addr). AreHonest net a receiver.history.opening receiver.history.items) (sym here.addr_is) (honest addr receiver here)) in
       subst (λ (x : Enrolled). IsPrefix (delivered receiver.history) (accepted x.history)) same (are.front meets)
 
 pub prefix : Prefix

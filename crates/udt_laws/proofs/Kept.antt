@@ -1,6 +1,6 @@
 -- What a receiving half keeps true of the bytes that it gave: they are a front of its blocks joined, and each block meets what every placed one met.
-use Rattle.std.proofs.Common.{◌≡◌, ℕ, suc, ◌+◌, ◌-◌, ◌<◌, ◌≤◌, Bool, true, false, List, [], ◌∷◌, ◌++◌, length, take, drop, Some, None, Ok, Err, refl, ap, ◌∙◌, sym, subst, inl, inr, arith}
-use Rattle.std.specs.Prelude.{nat_lt, nat_le, ◌==◌, Option, Result}
+use Rattle.std.proofs.Common.{◌≡◌, ℕ, ◌+◌, ◌≤◌, List, [], ◌++◌, length, take, drop, Some, Ok, Err, refl, ap, ◌∙◌, sym, subst, arith}
+use Rattle.std.specs.Prelude.{Result}
 use Rattle.std.specs.List.{concat}
 use Rattle.std.proofs.lemmas.Bool.Decides.{nat_tests}
 use Rattle.std.proofs.lemmas.List.{append_assoc, append-nil, length-append, length-take, length-drop, take-append-le, take_min, take-append-drop}
@@ -88,7 +88,7 @@ keep-block P start r got block low apart meets kept =
       got_is =
           kept.got_is
           ∙ ap (λ (bytes : List ℕ). concat kept.done ++ bytes)
-              (sym (take-append-le r.given before longer.0 kept.within) ∙ ap (take r.given) (sym longer.1));
+          (sym (take-append-le r.given before longer.0 kept.within) ∙ ap (take r.given) (sym longer.1));
     }
 
 keep-placing : (P : ℕ → List ℕ → Type 0) (start : ℕ) (r : Receiving) (got : List ℕ) (number : ℕ) (flags : Flags) (bytes : List ℕ) (p : Placing)
@@ -123,8 +123,10 @@ kept-front P start r got kept =
     record {
       blocks = kept.done ++ after.blocks;
       each = AllFrom-append P start kept.done after.blocks kept.each (subst (λ offset. AllFrom P offset after.blocks) kept.count after.each);
-      front = (drop r.given joined,
+      front = (
+        drop r.given joined,
         all ∙ ap (λ (bytes : List ℕ). concat kept.done ++ bytes) (sym after.joined ∙ sym (take-append-drop r.given joined))
-        ∙ sym (append_assoc (concat kept.done) (take r.given joined) (drop r.given joined))
-        ∙ ap (λ (bytes : List ℕ). bytes ++ drop r.given joined) (sym kept.got_is));
+            ∙ sym (append_assoc (concat kept.done) (take r.given joined) (drop r.given joined))
+            ∙ ap (λ (bytes : List ℕ). bytes ++ drop r.given joined) (sym kept.got_is),
+      );
     }

@@ -5,3 +5,4 @@ mod MadeOf
 mod Emits
 mod Mates
 mod Honest
+mod Pair

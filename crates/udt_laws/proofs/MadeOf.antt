@@ -1,25 +1,24 @@
 -- What a stream socket delivers is made of what arrived from its peer's address.
-use Rattle.std.proofs.Common.{◌≡◌, ℕ, zero, suc, ◌+◌, ◌%◌, ◌^◌, List, [], ◌∷◌, ◌++◌, Some, Ok, refl, ap, ◌∙◌, sym, subst, arith}
+use Rattle.std.proofs.Common.{◌≡◌, ℕ, zero, suc, ◌+◌, ◌%◌, ◌^◌, List, [], ◌∷◌, Some, Ok, refl, ap, ◌∙◌, sym, subst, arith}
 use Rattle.std.specs.Prelude.{slice_get}
-use Rattle.std.specs.List.{Contains, concat}
+use Rattle.std.specs.List.{Contains}
 use Rattle.std.proofs.lemmas.List.Elements.{Contains-append_left, Contains-append_right, Contains-push}
 use Rattle.udt_model.specs.declared.addresses.Addr.{Addr}
 use Rattle.udt_model.specs.declared.packets.Config.{Config}
 use Rattle.udt_model.specs.declared.answers.Peer.{Peer}
-use Rattle.udt_model.specs.declared.packets.Flags.{Flags}
-use Rattle.udt_model.specs.Numbers.{wire_number, near, IsNear}
-use Rattle.udt_model.specs.Wire.{Packet, Block, read}
+use Rattle.udt_model.specs.Numbers.{wire_number}
+use Rattle.udt_model.specs.Wire.{Block}
 use Rattle.udt_model.specs.State.{State, Datagram}
 use Rattle.udt_model.specs.Step.{Act, Send, Recv, Pack, Arrive, step, opening}
-use Rattle.udt_model.specs.History.{Item, History, after_items, state_of, IsLegal, AreLegal, delivered_by, delivered, start_of}
-use Rattle.udt_model.specs.Records.{arrived_by_act, arrived_by, arrivals, opened_by, IsCarried, IsMadeOf, Way, PairedAt, Enrolled, IsSocket, PeerPair, own_peer}
+use Rattle.udt_model.specs.History.{Item, History, IsLegal, delivered, start_of}
+use Rattle.udt_model.specs.Records.{arrived_by_act, arrived_by, arrivals, opened_by, IsCarried, IsMadeOf, Way, PairedAt, PeerPair, own_peer}
 use Rattle.udt_model.proofs.NearLemmas.{near-found}
 use Rattle.udt_model.proofs.ReceivingLemmas.{AllFrom}
-use Rattle.udt_model.proofs.StepLemmas.{KeepsIdentity, step-keeps, after_items-keeps}
+use Rattle.udt_model.proofs.StepLemmas.{step-keeps}
 use Rattle.std.proofs.lemmas.Option.{same_Some}
 use Rattle.udt_laws.specs.Laws.{OneHistory, peer_isn}
 use Rattle.udt_laws.proofs.Opened.{opened_own, opened_peer, opened_receiving, opened_start, last_peer}
-use Rattle.udt_laws.proofs.Kept.{Kept, IsFrontOf, kept-front}
+use Rattle.udt_laws.proofs.Kept.{Kept, kept-front}
 use Rattle.udt_laws.proofs.Receives.{MeetsAct, AllMeet, keep-items}
 
 -- what all blocks from an offset on meet, the one at a place meets
@@ -69,10 +68,11 @@ module _ (arrived : List Datagram) (own : ℕ) (addr : Addr) (isn : ℕ) where
   unfolding arrived_by
   all-arrived s [] is_own is_addr is_isn among = tt
   all-arrived s (item ∷ items) is_own is_addr is_isn among =
-      let same = step-keeps s item.event in
-      (act-arrived s item.event.act is_own is_addr is_isn (λ datagram h. among datagram (Contains-append_left _ _ datagram h)),
-       all-arrived (step s item.event).after items (same.own ∙ is_own) (ap (λ (peer : Peer). peer.addr) same.peer ∙ is_addr)
-         (same.receiving.isn ∙ is_isn) (λ datagram h. among datagram (Contains-append_right _ _ datagram h)))
+      let same = step-keeps s item.event in (
+        act-arrived s item.event.act is_own is_addr is_isn (λ datagram h. among datagram (Contains-append_left _ _ datagram h)),
+        all-arrived (step s item.event).after items (same.own ∙ is_own) (ap (λ (peer : Peer). peer.addr) same.peer ∙ is_addr)
+            (same.receiving.isn ∙ is_isn) (λ datagram h. among datagram (Contains-append_right _ _ datagram h)),
+      )
 
 -- the wire number of an offset is that of its place, in a direction that begins where the connection did
 same-number : (isn start n : ℕ) → wire_number isn (start + n) ≡ wire_number ((isn + start) % 2 ^ 31) n
@@ -86,7 +86,7 @@ module _ (own : ℕ) (config : Config) (peer : Peer) (now start : ℕ) (h : Hist
   made_of =
       let P = HasArrived (arrivals h) own peer.addr peer.isn in
       let meets = all-arrived (arrivals h) own peer.addr peer.isn h.opening h.items (opened_own own config peer now start h opened) (ap (λ (p : Peer). p.addr) (opened_peer own config peer now start h opened)) (opened_receiving own config peer now start h opened)
-          (λ datagram among. among) in
+      (λ datagram among. among) in
       let front = kept-front P start _ (delivered h) (keep-items P start h.opening h.items [] legal meets (opened_kept P)) in
       record {
         payloads = front.blocks;
@@ -99,12 +99,12 @@ module _ (own : ℕ) (config : Config) (peer : Peer) (now start : ℕ) (h : Hist
       → IsMadeOf (delivered h) (arrivals h) own pair.addr ((peer_isn h + start_of h) % 2 ^ 31)
   made_of_peer pair names =
       let addr : peer.addr ≡ pair.addr =
-          sym (ap (λ (p : Peer). p.addr) (last_peer own config peer now start h opened)) ∙ ap (λ (p : PeerPair). p.addr) (same_Some _ _ names) in
+      sym (ap (λ (p : Peer). p.addr) (last_peer own config peer now start h opened)) ∙ ap (λ (p : PeerPair). p.addr) (same_Some _ _ names) in
       let isn : (peer.isn + start) % 2 ^ 31 ≡ (peer_isn h + start_of h) % 2 ^ 31 =
-          ap (λ (n : ℕ). (n + start) % 2 ^ 31) (sym (ap (λ (p : Peer). p.isn) (last_peer own config peer now start h opened)))
-          ∙ ap (λ (n : ℕ). (peer_isn h + n) % 2 ^ 31) (sym (opened_start own config peer now start h opened)) in
+      ap (λ (n : ℕ). (n + start) % 2 ^ 31) (sym (ap (λ (p : Peer). p.isn) (last_peer own config peer now start h opened)))
+      ∙ ap (λ (n : ℕ). (peer_isn h + n) % 2 ^ 31) (sym (opened_start own config peer now start h opened)) in
       subst (λ (number : ℕ). IsMadeOf (delivered h) (arrivals h) own pair.addr number) isn
-        (subst (λ (from : Addr). IsMadeOf (delivered h) (arrivals h) own from ((peer.isn + start) % 2 ^ 31)) addr made_of)
+      (subst (λ (from : Addr). IsMadeOf (delivered h) (arrivals h) own from ((peer.isn + start) % 2 ^ 31)) addr made_of)
 
 by_way : (own : ℕ) (way : Way) (h : History) (pair : PeerPair) → h.opening ≡ opened_by own way → IsLegal h → own_peer h ≡ Some pair
     → IsMadeOf (delivered h) (arrivals h) own pair.addr ((peer_isn h + start_of h) % 2 ^ 31)

@@ -1,11 +1,10 @@
 -- What a history that begins with an opening begins with and keeps.
-use Rattle.std.proofs.Common.{◌≡◌, ℕ, List, [], refl, ap, ◌∙◌, sym, subst, arith}
+use Rattle.std.proofs.Common.{◌≡◌, ℕ, ap, ◌∙◌}
 use Rattle.udt_model.specs.declared.answers.Peer.{Peer}
 use Rattle.udt_model.specs.declared.packets.Config.{Config}
 use Rattle.udt_model.specs.State.{State}
 use Rattle.udt_model.specs.Step.{opening}
 use Rattle.udt_model.specs.History.{History, state_of, start_of}
-use Rattle.udt_model.specs.Records.{PeerPair, own_peer}
 use Rattle.udt_model.proofs.StepLemmas.{after_items-keeps}
 
 module _ (own : ℕ) (config : Config) (peer : Peer) (now start : ℕ) (h : History) (opened : h.opening ≡ opening own config peer now start) where
@@ -28,6 +27,14 @@ module _ (own : ℕ) (config : Config) (peer : Peer) (now start : ℕ) (h : Hist
   pub opened_start : start_of h ≡ start
   unfolding opening
   opened_start = ap (λ (s : State). s.sending.acked) opened
+
+  pub opened_next : h.opening.sending.next ≡ start
+  unfolding opening
+  opened_next = ap (λ (s : State). s.sending.next) opened
+
+  pub opened_top : h.opening.receiving.top ≡ start
+  unfolding opening
+  opened_top = ap (λ (s : State). s.receiving.top) opened
 
   pub last_peer : (state_of h).peer ≡ peer
   last_peer = (after_items-keeps h.opening h.items).peer ∙ opened_peer

@@ -1,6 +1,6 @@
 -- What a socket delivers over a history: a front of blocks that meet whatever each block meets that an arrival places.
-use Rattle.std.proofs.Common.{◌≡◌, ℕ, ◌+◌, Bool, true, false, List, [], ◌∷◌, ◌++◌, Some, None, Ok, Err, refl, ap, ◌∙◌, sym, subst}
-use Rattle.std.specs.Prelude.{Option, Result, ◌==◌, ◌&&◌, if◌then◌else◌}
+use Rattle.std.proofs.Common.{◌≡◌, ℕ, true, false, List, [], ◌∷◌, ◌++◌, Some, Ok, Err, refl, sym, subst}
+use Rattle.std.specs.Prelude.{Result, ◌==◌, ◌&&◌, if◌then◌else◌}
 use Rattle.std.proofs.lemmas.Bool.{and_parts, eqb-true}
 use Rattle.std.proofs.lemmas.List.{append_assoc, append-nil}
 use Rattle.udt_model.specs.declared.addresses.Addr.{Addr}
@@ -51,16 +51,16 @@ keep-on_block : (P : ℕ → List ℕ → Type 0) (start : ℕ) (s : State) (got
     → Keeps P start got (on_block s number flags bytes)
 keep-on_block P start s got number flags bytes meets kept =
     elim (has_bad_length s.receiving bytes) as (λ bad. Keeps P start got (
-        if bad
-        then answered (record s { counters = count_stale s.counters }) (DidHear heard.BadLength)
-        else answered
-        (record s {
-          receiving = after_arrival s.receiving number flags bytes;
-          counters = count_placing s.counters (placing s.receiving number);
-        })
-        (DidHear (heard_of (placing s.receiving number))))) [
-      true ↦ keep-none P start s.receiving got kept
-    | false ↦ keep-none P start (after_arrival s.receiving number flags bytes) got (keep-arrival P start s.receiving got number flags bytes meets kept)
+    if bad
+    then answered (record s { counters = count_stale s.counters }) (DidHear heard.BadLength)
+    else answered
+    (record s {
+      receiving = after_arrival s.receiving number flags bytes;
+      counters = count_placing s.counters (placing s.receiving number);
+    })
+    (DidHear (heard_of (placing s.receiving number))))) [
+      | true ↦ keep-none P start s.receiving got kept
+      | false ↦ keep-none P start (after_arrival s.receiving number flags bytes) got (keep-arrival P start s.receiving got number flags bytes meets kept)
     ]
 
 keep-on_read : (P : ℕ → List ℕ → Type 0) (start : ℕ) (s : State) (got : List ℕ) (from : Addr) (bytes : List ℕ) (result : Result Packet Malformed)
@@ -68,17 +68,17 @@ keep-on_read : (P : ℕ → List ℕ → Type 0) (start : ℕ) (s : State) (got 
 keep-on_read P start s got from bytes (Err why) reads meets kept = keep-none P start s.receiving got kept
 keep-on_read P start s got from bytes (Ok (Block number flags stamp dest payload)) reads meets kept =
     elim (same_addr from s.peer.addr && (dest == s.own)) as (λ own. (same_addr from s.peer.addr && (dest == s.own)) ≡ own
-        → Keeps P start got (
-          if own
-          then on_block s number flags payload
-          else answered (record s { counters = count_foreign s.counters }) (DidHear heard.Foreign))) [
-      true ↦ λ test.
-        let parts = and_parts (same_addr from s.peer.addr) (dest == s.own) test in
-        let sender = same_addr-is from s.peer.addr parts.0 in
-        let own = eqb-true dest s.own parts.1 in
-        let told = subst (λ (id : ℕ). read bytes ≡ Ok (Block number flags stamp id payload)) own reads in
-        keep-on_block P start s got number flags payload (λ offset is_near. meets number flags stamp payload offset sender told is_near) kept
-    | false ↦ λ test. keep-none P start s.receiving got kept
+    → Keeps P start got (
+    if own
+    then on_block s number flags payload
+    else answered (record s { counters = count_foreign s.counters }) (DidHear heard.Foreign))) [
+      | true ↦ λ test.
+          let parts = and_parts (same_addr from s.peer.addr) (dest == s.own) test in
+          let sender = same_addr-is from s.peer.addr parts.0 in
+          let own = eqb-true dest s.own parts.1 in
+          let told = subst (λ (id : ℕ). read bytes ≡ Ok (Block number flags stamp id payload)) own reads in
+          keep-on_block P start s got number flags payload (λ offset is_near. meets number flags stamp payload offset sender told is_near) kept
+      | false ↦ λ test. keep-none P start s.receiving got kept
     ] refl
 
 keep-act : (P : ℕ → List ℕ → Type 0) (start : ℕ) (s : State) (got : List ℕ) (act : Act) → MeetsAct P s act → Kept P start s.receiving got
@@ -89,7 +89,7 @@ keep-act P start s got Pack meets kept = keep-packed P start s got (packing s.se
 keep-act P start s got (Arrive from bytes) meets kept = keep-on_read P start s got from bytes (read bytes) refl meets kept
 
 -- a moment changes nothing of this
-meets-at_moment : (P : ℕ → List ℕ → Type 0) (s : State) (now : ℕ) (act : Act) → MeetsAct P s act → MeetsAct P (at_moment s now) act
+pub meets-at_moment : (P : ℕ → List ℕ → Type 0) (s : State) (now : ℕ) (act : Act) → MeetsAct P s act → MeetsAct P (at_moment s now) act
 meets-at_moment P s now (Send bytes) meets = tt
 meets-at_moment P s now (Recv room) meets = tt
 meets-at_moment P s now Pack meets = tt

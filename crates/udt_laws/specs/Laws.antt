@@ -23,7 +23,7 @@ abbrev pub OneHistory : Type 0
 OneHistory =
     (socket : Enrolled) (peer : PeerPair) → IsSocket socket → IsStream socket.history → own_peer socket.history ≡ Some peer
     → IsMadeOf (delivered socket.history) (arrivals socket.history) socket.own peer.addr
-        ((peer_isn socket.history + start_of socket.history) % 2 ^ 31)
+    ((peer_isn socket.history + start_of socket.history) % 2 ^ 31)
 
 -- a data packet that was emitted carries the block of the one offset that it names, to the peer, under the wire number of that offset
 pub record CarriesBlock (h : History) (blocks : List (List ℕ)) (emission : Emission) (number dest : ℕ) (payload : List ℕ) : Type 0 where
