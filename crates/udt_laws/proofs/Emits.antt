@@ -216,6 +216,15 @@ read-once : (bytes : List ℕ) (number told : ℕ) (flags others : Flags) (stamp
     → IsOnePacket number told dest to payload block
 read-once bytes number told flags others stamp time dest to payload block reads again = record { same_number = cc; same_dest = cc; same_payload = cc }
 
+-- the datagram is a data packet
+pub record ReadsAsBlock (emission : Emission) : Type 0 where
+  pub number : ℕ
+  pub flags : Flags
+  pub stamp : ℕ
+  pub dest : ℕ
+  pub payload : List ℕ
+  pub reads : read emission.datagram.bytes ≡ Ok (Block number flags stamp dest payload)
+
 -- a half that begins has accepted no block
 cut-opening : (own : ℕ) (config : Config) (peer : Peer) (now start : ℕ) → 1 ≤ config.payload → 1 ≤ peer.payload
     → IsCut (opening own config peer now start).sending start []
@@ -265,8 +274,18 @@ module _ (own : ℕ) (config : Config) (peer : Peer) (now start : ℕ) (h : Hist
     emits = carries-block;
   }
 
-blocks_by_way : (own : ℕ) (way : Way) (h : History) → IsWay own way → h.opening ≡ opened_by own way → IsLegal h → HasBlocks h
+  -- and each datagram is one of these
+  pub reads_block : (emission : Emission) → Contains (emitted h) emission → ReadsAsBlock emission
+  reads_block emission among =
+      let is = emits-history.emits emission among in
+      record { number = _; flags = is.flags; stamp = is.stamp; dest = _; payload = is.block; reads = is.reads }
+
+pub blocks_by_way : (own : ℕ) (way : Way) (h : History) → IsWay own way → h.opening ≡ opened_by own way → IsLegal h → HasBlocks h
 blocks_by_way own (PairedAt config peer now start) h in_range opened legal = has_blocks own config peer now start h in_range opened legal
 
 pub emitted_blocks : EmittedBlocks
 emitted_blocks socket is_socket stream = blocks_by_way socket.own socket.way socket.history is_socket.in_range is_socket.opened is_socket.legal
+
+pub reads_by_way : (own : ℕ) (way : Way) (h : History) → IsWay own way → h.opening ≡ opened_by own way → IsLegal h
+    → (emission : Emission) → Contains (emitted h) emission → ReadsAsBlock emission
+reads_by_way own (PairedAt config peer now start) h in_range opened legal = reads_block own config peer now start h in_range opened legal

@@ -8,24 +8,13 @@ use Rattle.udt_model.specs.declared.packets.Flags.{Flags}
 use Rattle.udt_model.specs.Wire.{Block, read}
 use Rattle.udt_model.specs.State.{State, Datagram}
 use Rattle.udt_model.specs.Step.{Act, Send, Recv, Pack, Arrive, step}
-use Rattle.udt_model.specs.History.{Item, History, state_of, accepted, delivered}
+use Rattle.udt_model.specs.History.{Item, state_of, accepted, delivered}
 use Rattle.udt_model.specs.Records.{IsPrefix, emitted, Enrolled, EndpointRecord, StandsAt, PeerPair, own_peer, AreLawful, WasEmitted, IsHonestAct, AreHonest, IsHonest}
 use Rattle.udt_model.proofs.StepLemmas.{step-keeps, after_items-keeps}
 use Rattle.udt_laws.specs.Laws.{HasBlocks, Prefix}
 use Rattle.udt_laws.proofs.Receives.{MeetsAct, AllMeet}
+use Rattle.udt_laws.proofs.Opened.{names}
 use Rattle.udt_laws.proofs.Mates.{IsEmittedNear, IsBlockAt, reads-as, mates}
-
-pair_from : Addr → ℕ → PeerPair
-pair_from addr id = record { addr = addr; id = id }
-
-pair_from-same : (a b : Addr) (m n : ℕ) → a ≡ b → m ≡ n → pair_from a m ≡ pair_from b n
-pair_from-same a b m n addr id = cc
-
--- a history that ends with this peer names it
-names : (h : History) (addr : Addr) (id : ℕ) → (state_of h).peer.addr ≡ addr → (state_of h).peer.id ≡ id
-    → own_peer h ≡ Some (record { addr = addr; id = id })
-unfolding pair_from
-names h addr id addr_is id_is = ap (λ (p : PeerPair). Some p) (pair_from-same (state_of h).peer.addr addr (state_of h).peer.id id addr_is id_is)
 
 module _ (net : List EndpointRecord) (lawful : AreLawful net) where
   -- the records have one endpoint of an address

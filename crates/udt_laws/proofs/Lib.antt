@@ -3,6 +3,10 @@ mod Kept
 mod Receives
 mod MadeOf
 mod Emits
+mod GoesToPeer
 mod Mates
 mod Honest
+mod Named
+mod Stands
 mod Pair
+mod PairHonest

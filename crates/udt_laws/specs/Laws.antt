@@ -1,14 +1,14 @@
 -- The main theorems, as statements about histories and records.
-use Rattle.std.specs.Prelude.{◌≡◌, ℕ, ◌+◌, ◌-◌, ◌%◌, ◌^◌, ◌<◌, ◌≤◌, List, [], ◌∷◌, drop, length, map, Some, Ok, slice_get}
+use Rattle.std.specs.Prelude.{◌≡◌, ℕ, ◌+◌, ◌-◌, ◌%◌, ◌^◌, ◌<◌, ◌≤◌, List, [], ◌∷◌, drop, length, map, Some, Ok, slice_get, false}
 use Rattle.std.specs.List.{Contains, concat}
 use Rattle.udt_model.specs.declared.packets.Flags.{Flags}
 use Rattle.udt_model.specs.declared.packets.Kind.TheVariants.{Stream}
 use Rattle.udt_model.specs.declared.addresses.Addr.{Addr}
 use Rattle.udt_model.specs.Numbers.{wire_number}
-use Rattle.udt_model.specs.Wire.{Block, read, target}
+use Rattle.udt_model.specs.Wire.{Packet, Block, read, target}
 use Rattle.udt_model.specs.State.{KeptBlock, Datagram}
 use Rattle.udt_model.specs.History.{History, state_of, start_of, accepted, delivered}
-use Rattle.udt_model.specs.Records.{IsPrefix, Emission, emitted, sent, arrivals, IsMadeOf, Enrolled, IsSocket, EndpointRecord, StandsAt, PeerPair, own_peer, ArePaired, AreLawful, IsHonest}
+use Rattle.udt_model.specs.Records.{IsPrefix, Emission, emitted, sent, arrivals, IsMadeOf, Enrolled, IsSocket, EndpointRecord, StandsAt, PeerPair, own_peer, ArePaired, is_handshake, destination, AreLawful, IsHonest}
 
 -- the socket carries a stream of bytes
 abbrev pub IsStream : History → Type 0
@@ -49,6 +49,13 @@ pub record HasBlocks (h : History) : Type 0 where
 abbrev pub EmittedBlocks : Type 0
 EmittedBlocks = (socket : Enrolled) → IsSocket socket → IsStream socket.history → HasBlocks socket.history
 
+-- Addressed: what a socket emits that isn't a handshake goes to its own peer
+abbrev pub Addressed : Type 0
+Addressed =
+    (socket : Enrolled) (emission : Emission) (packet : Packet) → IsSocket socket → Contains (emitted socket.history) emission
+    → read emission.datagram.bytes ≡ Ok packet → is_handshake packet ≡ false
+    → own_peer socket.history ≡ Some (record { addr = emission.datagram.addr; id = destination packet })
+
 -- Prefix: where records are lawful and honest, what a stream socket delivered is a prefix of what its own peer accepted
 abbrev pub Prefix : Type 0
 Prefix =
@@ -57,12 +64,16 @@ Prefix =
     → StandsAt net peer.addr sender → sender.own ≡ peer.id
     → IsPrefix (delivered receiver.history) (accepted sender.history)
 
+-- a datagram has the bytes of one that the socket emitted
+abbrev pub WasSentBy : Enrolled → Datagram → Type 0
+WasSentBy sender datagram = (sent_one : Datagram) × Contains (sent sender.history) sent_one × (sent_one.bytes ≡ datagram.bytes)
+
 -- each datagram that came from this address for the receiver has the bytes of one that the sender emitted
 abbrev pub ComesFrom : Enrolled → Addr → Enrolled → Type 0
 ComesFrom receiver from sender =
     (datagram : Datagram) → Contains (arrivals receiver.history) datagram → datagram.addr ≡ from
     → target datagram.bytes ≡ Some receiver.own
-    → (sent_one : Datagram) × Contains (sent sender.history) sent_one × (sent_one.bytes ≡ datagram.bytes)
+    → WasSentBy sender datagram
 
 -- Pair prefix: the same for two sockets that were made as a pair, where the one emitted fewer than 2^30 datagrams and the other got no others from there
 abbrev pub PairPrefix : Type 0
@@ -71,3 +82,21 @@ PairPrefix =
     → ArePaired addr receiver.own receiver.way peer_addr sender.own sender.way → IsStream receiver.history
     → ComesFrom receiver peer_addr sender → length (sent sender.history) < 2 ^ 30
     → IsPrefix (delivered receiver.history) (accepted sender.history)
+
+-- each datagram that came at all came from this address, and has the bytes of one that the sender emitted
+abbrev pub AllComesFrom : Enrolled → Addr → Enrolled → Type 0
+AllComesFrom receiver from sender =
+    (datagram : Datagram) → Contains (arrivals receiver.history) datagram → (datagram.addr ≡ from) × WasSentBy sender datagram
+
+-- the records of two endpoints with one socket each
+abbrev pub both_records : Addr → Enrolled → Addr → Enrolled → List EndpointRecord
+both_records addr socket other_addr other =
+    record { addr = addr; sockets = socket ∷ [] } ∷ record { addr = other_addr; sockets = other ∷ [] } ∷ []
+
+-- Pair honest: the records of two sockets that were made as a pair, of which each got from the other alone, and that emitted fewer than 2^30 datagrams each, are lawful and honest
+abbrev pub PairHonest : Type 0
+PairHonest =
+    (addr other_addr : Addr) (socket other : Enrolled) → (addr ≡ other_addr → ⊥) → IsSocket socket → IsSocket other
+    → ArePaired addr socket.own socket.way other_addr other.own other.way → AllComesFrom socket other_addr other → AllComesFrom other addr socket
+    → length (sent socket.history) < 2 ^ 30 → length (sent other.history) < 2 ^ 30
+    → AreLawful (both_records addr socket other_addr other) × IsHonest (both_records addr socket other_addr other)

@@ -1,7 +1,7 @@
 //! The main theorems of the protocol, each the contract of an empty function.
 #![tactic(auto)]
 
-ghost use Rattle.udt_laws.specs.Laws.{OneHistory, EmittedBlocks, Prefix, PairPrefix};
+ghost use Rattle.udt_laws.specs.Laws.{OneHistory, EmittedBlocks, Addressed, Prefix, PairPrefix, PairHonest};
 
 /// Whatever arrives, a stream socket delivers a front of the payloads that came from its peer's
 /// address, each under the wire number of its place.
@@ -15,6 +15,11 @@ pub fn emitted_blocks()
     ensures { EmittedBlocks }
 {}
 
+/// What a socket emits once it has a peer goes to that peer.
+pub fn addressed()
+    ensures { Addressed }
+{}
+
 /// Where no datagram is forged and none outlives 2^30 packets, what a stream socket delivers is a
 /// prefix of what its own peer accepted.
 pub fn prefix()
@@ -25,4 +30,10 @@ pub fn prefix()
 /// datagrams.
 pub fn pair_prefix()
     ensures { PairPrefix }
+{}
+
+/// The records of two sockets that were made as a pair are lawful and honest, where each got from
+/// the other alone and both emitted fewer than 2^30 datagrams.
+pub fn pair_honest()
+    ensures { PairHonest }
 {}

@@ -1,5 +1,5 @@
 -- Addresses that test as the same are equal.
-use Rattle.std.proofs.Common.{◌≡◌, ℕ, true, false, ap, refl}
+use Rattle.std.proofs.Common.{◌≡◌, ℕ, true, ap}
 use Rattle.std.proofs.lemmas.Bool.{eqb-true, and_parts}
 use Rattle.udt_model.specs.declared.addresses.Addr.{Addr}
 use Rattle.udt_model.specs.declared.addresses.Ip.{Ip}

@@ -1,13 +1,12 @@
 -- What joined histories emit and what arrives in them.
-use Rattle.std.proofs.Common.{◌≡◌, ℕ, List, [], ◌∷◌, ◌++◌, length, refl, ap, ◌∙◌, sym, subst, inl, inr, arith}
+use Rattle.std.proofs.Common.{◌≡◌, List, [], ◌∷◌, ◌++◌, length, refl, ap, ◌∙◌, sym, subst, inl, inr, arith}
 use Rattle.std.specs.Prelude.{map}
 use Rattle.std.specs.List.{Contains}
-use Rattle.std.proofs.lemmas.List.{append_assoc, map-append, length-append, length-map}
+use Rattle.std.proofs.lemmas.List.{append_assoc, map-append, length-map}
 use Rattle.std.proofs.lemmas.List.Elements.{Contains-append_left, Contains-append_right, Contains-append_cases, Contains-push_cases, Contains-push}
-use Rattle.udt_model.specs.declared.addresses.Addr.{Addr}
 use Rattle.udt_model.specs.State.{State, Datagram}
 use Rattle.udt_model.specs.Sending.{Packing, Waits, Sends, Idles, packing}
-use Rattle.udt_model.specs.Step.{Act, Send, Recv, Pack, Arrive, Event, at_moment, packed_as, on_act, on_read, step}
+use Rattle.udt_model.specs.Step.{Act, Send, Recv, Pack, Arrive, Event, at_moment, packed_as, on_act, step}
 use Rattle.udt_model.specs.Wire.{read}
 use Rattle.udt_model.specs.History.{Item, after_items, AreLegal}
 use Rattle.udt_model.proofs.StepLemmas.{on_read-quiet}

@@ -1,16 +1,14 @@
 -- How the sending half keeps its blocks: a message cut into blocks is its bytes, and the kept blocks are the last ones accepted.
-use Rattle.std.proofs.Common.{◌≡◌, ℕ, zero, suc, ◌+◌, ◌-◌, ◌*◌, ◌/◌, ◌%◌, ◌^◌, ◌<◌, ◌≤◌, Bool, true, false, List, [], ◌∷◌, ◌++◌, length, take, drop, Some, None, Ok, Err, refl, ap, ◌∙◌, sym, subst, inl, inr, arith}
-use Rattle.std.specs.Prelude.{nat_lt, nat_le, ◌==◌, if◌then◌else◌, Option, slice_get, map}
+use Rattle.std.proofs.Common.{◌≡◌, ℕ, zero, suc, ◌+◌, ◌-◌, ◌*◌, ◌^◌, ◌<◌, ◌≤◌, Bool, true, false, List, [], ◌∷◌, ◌++◌, length, take, drop, Some, None, refl, ap, ◌∙◌, sym, subst, arith}
+use Rattle.std.specs.Prelude.{Option, slice_get, map}
 use Rattle.std.specs.List.{concat}
 use Rattle.std.specs.Option.{option_map}
-use Rattle.std.proofs.lemmas.Bool.{cases_eq, cases_lt}
 use Rattle.std.proofs.lemmas.Bool.Decides.{nat_tests}
-use Rattle.std.proofs.lemmas.Option.{slice_get-map, slice_get_within}
-use Rattle.std.proofs.lemmas.List.{append_assoc, append-nil, length-append, length-map, map-append, drop-append-le, take_all}
+use Rattle.std.proofs.lemmas.Option.{slice_get-map}
+use Rattle.std.proofs.lemmas.List.{length-append, length-map, map-append, drop-append-le, take_all}
 use Rattle.std.proofs.Math.Seq.{take-add}
-use Rattle.udt_model.specs.declared.limits.TheConstants.{LAST_MESSAGE}
 use Rattle.udt_model.specs.State.{KeptBlock, Sending}
-use Rattle.udt_model.specs.Sending.{end_of, blocks_for, cut, message_after, with_message, unsent, Packing, Waits, Sends, Idles, sends, packing}
+use Rattle.udt_model.specs.Sending.{blocks_for, cut, message_after, with_message, unsent, Sends, sends, packing}
 
 -- the bytes of blocks, one by one
 abbrev pub bytes_of : List KeptBlock → List (List ℕ)

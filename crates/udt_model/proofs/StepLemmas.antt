@@ -1,6 +1,6 @@
 -- What events of a socket don't change: who it is, who its peer is, and the initial numbers; and, where something arrives, the sending half.
-use Rattle.std.proofs.Common.{◌≡◌, ℕ, zero, suc, ◌-◌, ◌<◌, Bool, true, false, List, [], ◌∷◌, Some, None, Ok, Err, refl, ◌∙◌}
-use Rattle.std.specs.Prelude.{Option, Result, nat_lt, ◌==◌, ◌&&◌, if◌then◌else◌, min, length}
+use Rattle.std.proofs.Common.{◌≡◌, ℕ, zero, suc, true, false, List, [], ◌∷◌, Ok, Err, refl, ◌∙◌}
+use Rattle.std.specs.Prelude.{Result, ◌==◌, ◌&&◌, if◌then◌else◌, length}
 use Rattle.udt_model.specs.declared.addresses.Addr.{Addr}
 use Rattle.udt_model.specs.declared.answers.Refusal.{Refusal}
 use Rattle.udt_model.specs.declared.answers.Heard.TheVariants as heard
@@ -8,11 +8,11 @@ use Rattle.udt_model.specs.declared.packets.Flags.{Flags}
 use Rattle.udt_model.specs.declared.packets.Malformed.{Malformed}
 use Rattle.udt_model.specs.Addresses.{same_addr}
 use Rattle.udt_model.specs.Wire.{Packet, Block, read}
-use Rattle.udt_model.specs.State.{KeptBlock, Sending, Receiving, State}
+use Rattle.udt_model.specs.State.{Sending, Receiving, State}
 use Rattle.udt_model.specs.Sending.{send_answer, after_answer, after_send, Packing, Waits, Sends, Idles, packing, after_packing, after_pack}
 use Rattle.udt_model.specs.Receiving.{Placing, AtOffset, IsDouble, IsBelow, IsAbove, placing, after_placing, after_arrival, receive_answer, after_receive_answer, after_receive}
 use Rattle.udt_model.specs.Step.{Act, Send, Recv, Pack, Arrive, Event, Outcome, answered, DidHear, count_stale, count_placing, heard_of, count_foreign, has_bad_length, at_moment, packed_as, on_block, on_read, on_act, step}
-use Rattle.udt_model.specs.History.{Item, after_items, AreLegal}
+use Rattle.udt_model.specs.History.{Item, after_items}
 
 -- ---- the halves
 
