@@ -245,7 +245,7 @@ module _ (own : ℕ) (config : Config) (peer : Peer) (now start : ℕ) (h : Hist
   emits-history : Emits h.opening.peer h.opening.sending.isn start [] (state_of h).sending (emitted h) (accepted h)
   emits-history =
       emits-items h.opening start [] h.items legal (subst (λ (p : Peer). p.id < 2 ^ 32) (sym (opened_peer own config peer now start h opened)) in_range.id_fits)
-      (subst (λ (s : State). IsCut s.sending start []) (sym opened) (cut-opening own config peer now start in_range.payload_within.0 in_range.peer_payload))
+      (subst (λ (s : State). IsCut s.sending start []) (sym opened) (cut-opening own config peer now start in_range.values.payload in_range.values.peer_payload))
 
   -- the datagrams of a history carry its blocks to its last peer
   carries-block : (emission : Emission) (number : ℕ) (flags : Flags) (stamp dest : ℕ) (payload : List ℕ) → Contains (emitted h) emission

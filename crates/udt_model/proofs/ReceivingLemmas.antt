@@ -45,10 +45,10 @@ unfolding with_block
 AreRising-with_block from block [] low apart rising = (low, tt)
 AreRising-with_block from block (first ∷ others) low apart rising =
     elim (nat_lt block.offset first.offset) as (λ before. nat_lt block.offset first.offset ≡ before
-        → AreRising from (if before then block ∷ first ∷ others else first ∷ with_block block others)) [
-      true ↦ λ test. let less = ltb-true block.offset first.offset test in (low, (omega arith, rising.1))
-    | false ↦ λ test. let least = ltb-false block.offset first.offset test in
-        (rising.0, AreRising-with_block (first.offset + 1) block others (omega arith) apart.1 rising.1)
+    → AreRising from (if before then block ∷ first ∷ others else first ∷ with_block block others)) [
+      | true ↦ λ test. let less = ltb-true block.offset first.offset test in (low, (omega arith, rising.1))
+      | false ↦ λ test. let least = ltb-false block.offset first.offset test in
+          (rising.0, AreRising-with_block (first.offset + 1) block others (omega arith) apart.1 rising.1)
     ] refl
 
 pub AllPlaced-with_block : (P : ℕ → List ℕ → Type 0) (block : PlacedBlock) (placed : List PlacedBlock) → P block.offset block.bytes
@@ -57,9 +57,9 @@ unfolding with_block
 AllPlaced-with_block P block [] here all = (here, tt)
 AllPlaced-with_block P block (first ∷ others) here all =
     elim (nat_lt block.offset first.offset) as (λ before.
-        AllPlaced P (if before then block ∷ first ∷ others else first ∷ with_block block others)) [
-      true ↦ (here, all)
-    | false ↦ (all.0, AllPlaced-with_block P block others here all.1)
+    AllPlaced P (if before then block ∷ first ∷ others else first ∷ with_block block others)) [
+      | true ↦ (here, all)
+      | false ↦ (all.0, AllPlaced-with_block P block others here all.1)
     ]
 
 -- a block is placed only at an offset that is near, is not below the base, and at which none is placed
@@ -106,23 +106,23 @@ unfolding with_block contiguous
 contiguous-with_block from block [] low apart rising = (contiguous from (block ∷ []), refl)
 contiguous-with_block from block (first ∷ others) low apart rising =
     elim (nat_lt block.offset first.offset) as (λ before. nat_lt block.offset first.offset ≡ before
-        → IsPrefix (contiguous from (first ∷ others)) (contiguous from (if before then block ∷ first ∷ others else first ∷ with_block block others))) [
-      true ↦ λ test.
-        let less = ltb-true block.offset first.offset test in
-        let gap : (first.offset == from) ≡ false = grind (arith, nat_tests) in
-        rw gap (_, refl)
-    | false ↦ λ test.
-        let least = ltb-false block.offset first.offset test in
-        elim (first.offset == from) as (λ here. (first.offset == from) ≡ here
-            → IsPrefix (if here then first.bytes ++ contiguous (from + 1) others else [])
-                (if here then first.bytes ++ contiguous (from + 1) (with_block block others) else [])) [
-          true ↦ λ same.
-            let at = eqb-true first.offset from same in
-            let after = contiguous-with_block (from + 1) block others (omega arith) apart.1
+    → IsPrefix (contiguous from (first ∷ others)) (contiguous from (if before then block ∷ first ∷ others else first ∷ with_block block others))) [
+      | true ↦ λ test.
+          let less = ltb-true block.offset first.offset test in
+          let gap : (first.offset == from) ≡ false = grind (arith, nat_tests) in
+          rw gap (_, refl)
+      | false ↦ λ test.
+          let least = ltb-false block.offset first.offset test in
+          elim (first.offset == from) as (λ here. (first.offset == from) ≡ here
+          → IsPrefix (if here then first.bytes ++ contiguous (from + 1) others else [])
+          (if here then first.bytes ++ contiguous (from + 1) (with_block block others) else [])) [
+            | true ↦ λ same.
+                let at = eqb-true first.offset from same in
+                let after = contiguous-with_block (from + 1) block others (omega arith) apart.1
                 (AreRising-sooner (first.offset + 1) (from + 1) others (omega arith) rising.1) in
-            (after.0, ap (λ (rest : List ℕ). first.bytes ++ rest) after.1 ∙ sym (append_assoc first.bytes (contiguous (from + 1) others) after.0))
-        | false ↦ λ differs. ([], refl)
-        ] refl
+                (after.0, ap (λ (rest : List ℕ). first.bytes ++ rest) after.1 ∙ sym (append_assoc first.bytes (contiguous (from + 1) others) after.0))
+            | false ↦ λ differs. ([], refl)
+          ] refl
     ] refl
 
 -- these blocks meet this, the first at this offset and each at the next one
@@ -173,14 +173,14 @@ pub contiguous_blocks : (P : ℕ → List ℕ → Type 0) (from : ℕ) (placed :
 contiguous_blocks P from [] all = record { blocks = []; each = tt; joined = contiguous-none from }
 contiguous_blocks P from (block ∷ others) all =
     elim (cases_eq block.offset from) [
-      inl here ↦
-        let after = contiguous_blocks P (from + 1) others all.1 in
-        record {
-          blocks = block.bytes ∷ after.blocks;
-          each = (subst (λ offset. P offset block.bytes) here all.0, after.each);
-          joined = contiguous-here from block others here ∙ ap (λ (rest : List ℕ). block.bytes ++ rest) after.joined;
-        }
-    | inr gap ↦ record { blocks = []; each = tt; joined = contiguous-gap from block others gap }
+      | inl here ↦
+          let after = contiguous_blocks P (from + 1) others all.1 in
+          record {
+            blocks = block.bytes ∷ after.blocks;
+            each = (subst (λ offset. P offset block.bytes) here all.0, after.each);
+            joined = contiguous-here from block others here ∙ ap (λ (rest : List ℕ). block.bytes ++ rest) after.joined;
+          }
+      | inr gap ↦ record { blocks = []; each = tt; joined = contiguous-gap from block others gap }
     ]
 
 -- what was read up to a front: whole blocks, and a part of those that follow
@@ -242,19 +242,19 @@ unfolding front_after
 front_after-reads P base given [] rising all within = stays-reads P base given [] rising all within
 front_after-reads P base given (block ∷ others) rising all within =
     let stays = λ (unread : block.offset ≡ base → given < length block.bytes).
-        subst (HasRead P base given (block ∷ others)) (sym (front-stays base given block others unread))
-          (stays-reads P base given (block ∷ others) rising all within) in
+    subst (HasRead P base given (block ∷ others)) (sym (front-stays base given block others unread))
+    (stays-reads P base given (block ∷ others) rising all within) in
     elim (cases_eq block.offset base) [
-      inl here ↦ elim (cases_lt given (length block.bytes)) [
-        inl less ↦ stays (λ same. less)
-      | inr read ↦
-        let follows = contiguous (base + 1) others in
-        let fits : given - length block.bytes ≤ length follows =
+      | inl here ↦ elim (cases_lt given (length block.bytes)) [
+        | inl less ↦ stays (λ same. less)
+        | inr read ↦
+            let follows = contiguous (base + 1) others in
+            let fits : given - length block.bytes ≤ length follows =
             omega (arith, ap length (contiguous-here base block others here), length-append block.bytes follows) in
-        let next = AreRising-sooner (block.offset + 1) (base + 1) others (omega arith) rising.1 in
-        let after = front_after-reads P (base + 1) (given - length block.bytes) others next all.1 fits in
-        subst (HasRead P base given (block ∷ others)) (sym (front-moves base given block others here read))
-          (moves-reads P base given block others _ here read all.0 after)
+            let next = AreRising-sooner (block.offset + 1) (base + 1) others (omega arith) rising.1 in
+            let after = front_after-reads P (base + 1) (given - length block.bytes) others next all.1 fits in
+            subst (HasRead P base given (block ∷ others)) (sym (front-moves base given block others here read))
+            (moves-reads P base given block others _ here read all.0 after)
       ]
-    | inr gap ↦ stays (λ same. absurd (gap same))
+      | inr gap ↦ stays (λ same. absurd (gap same))
     ]

@@ -85,17 +85,17 @@ pub emission-of : (emissions : List Emission) (datagram : Datagram) → Contains
 emission-of [] datagram among = absurd (omega (arith, among.1))
 emission-of (first ∷ others) datagram among =
     elim (Contains-append_cases (first.datagram ∷ []) (map datagram_of others) datagram among) [
-      inl here ↦ elim (Contains-push_cases [] first.datagram datagram here) [
-        inl none ↦ absurd (omega (arith, none.1))
-      | inr same ↦ record { emission = first; among = Contains-append_left (first ∷ []) others first (Contains-push [] first); datagram_is = same }
+      | inl here ↦ elim (Contains-push_cases [] first.datagram datagram here) [
+        | inl none ↦ absurd (omega (arith, none.1))
+        | inr same ↦ record { emission = first; among = Contains-append_left (first ∷ []) others first (Contains-push [] first); datagram_is = same }
       ]
-    | inr there ↦
-      let found = emission-of others datagram there in
-      record {
-        emission = found.emission;
-        among = Contains-append_right (first ∷ []) others found.emission found.among;
-        datagram_is = found.datagram_is;
-      }
+      | inr there ↦
+          let found = emission-of others datagram there in
+          record {
+            emission = found.emission;
+            among = Contains-append_right (first ∷ []) others found.emission found.among;
+            datagram_is = found.datagram_is;
+          }
     ]
 
 -- each datagram that legal items sent is one of their emissions
@@ -103,4 +103,4 @@ pub emitted-from_sent : (s : State) (items : List Item) (datagram : Datagram) �
     → IsEmission (emitted_by s items) datagram
 emitted-from_sent s items datagram legal among =
     emission-of (emitted_by s items) datagram
-      (subst (λ (sent : List Datagram). Contains sent datagram) (sym (emitted_by-sent s items legal)) among)
+    (subst (λ (sent : List Datagram). Contains sent datagram) (sym (emitted_by-sent s items legal)) among)

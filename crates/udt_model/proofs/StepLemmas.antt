@@ -85,7 +85,10 @@ same_identity s =
 packed-keeps : (s : State) (p : Packing) → KeepsIdentity s (packed_as s p).after
 packed-keeps s (Waits until) = same_identity s
 packed-keeps s (Sends block) = record {
-  own = refl; kind = refl; peer = refl; opened = refl;
+  own = refl;
+  kind = refl;
+  peer = refl;
+  opened = refl;
   sending = after_pack-keeps s.sending s.last;
   receiving = same_receiving s.receiving;
 }
@@ -94,17 +97,20 @@ packed-keeps s Idles = same_identity s
 on_block-keeps : (s : State) (number : ℕ) (flags : Flags) (bytes : List ℕ) → KeepsIdentity s (on_block s number flags bytes).after
 on_block-keeps s number flags bytes =
     elim (has_bad_length s.receiving bytes) as (λ bad. KeepsIdentity s (
-        if bad
-        then answered (record s { counters = count_stale s.counters }) (DidHear heard.BadLength)
-        else answered
-        (record s {
-          receiving = after_arrival s.receiving number flags bytes;
-          counters = count_placing s.counters (placing s.receiving number);
-        })
-        (DidHear (heard_of (placing s.receiving number)))).after) [
-      true ↦ record { own = refl; kind = refl; peer = refl; opened = refl; sending = same_sending s.sending; receiving = same_receiving s.receiving }
-    | false ↦ record {
-        own = refl; kind = refl; peer = refl; opened = refl;
+    if bad
+    then answered (record s { counters = count_stale s.counters }) (DidHear heard.BadLength)
+    else answered
+    (record s {
+      receiving = after_arrival s.receiving number flags bytes;
+      counters = count_placing s.counters (placing s.receiving number);
+    })
+    (DidHear (heard_of (placing s.receiving number)))).after) [
+      | true ↦ record { own = refl; kind = refl; peer = refl; opened = refl; sending = same_sending s.sending; receiving = same_receiving s.receiving }
+      | false ↦ record {
+        own = refl;
+        kind = refl;
+        peer = refl;
+        opened = refl;
         sending = same_sending s.sending;
         receiving = after_arrival-keeps s.receiving number flags bytes;
       }
@@ -115,21 +121,27 @@ on_read-keeps s from (Err why) =
     record { own = refl; kind = refl; peer = refl; opened = refl; sending = same_sending s.sending; receiving = same_receiving s.receiving }
 on_read-keeps s from (Ok (Block number flags stamp dest bytes)) =
     elim (same_addr from s.peer.addr && (dest == s.own)) as (λ own. KeepsIdentity s (
-        if own
-        then on_block s number flags bytes
-        else answered (record s { counters = count_foreign s.counters }) (DidHear heard.Foreign)).after) [
-      true ↦ on_block-keeps s number flags bytes
-    | false ↦ record { own = refl; kind = refl; peer = refl; opened = refl; sending = same_sending s.sending; receiving = same_receiving s.receiving }
+    if own
+    then on_block s number flags bytes
+    else answered (record s { counters = count_foreign s.counters }) (DidHear heard.Foreign)).after) [
+      | true ↦ on_block-keeps s number flags bytes
+      | false ↦ record { own = refl; kind = refl; peer = refl; opened = refl; sending = same_sending s.sending; receiving = same_receiving s.receiving }
     ]
 
 on_act-keeps : (s : State) (act : Act) → KeepsIdentity s (on_act s act).after
 on_act-keeps s (Send bytes) = record {
-  own = refl; kind = refl; peer = refl; opened = refl;
+  own = refl;
+  kind = refl;
+  peer = refl;
+  opened = refl;
   sending = after_send-keeps s.sending bytes;
   receiving = same_receiving s.receiving;
 }
 on_act-keeps s (Recv room) = record {
-  own = refl; kind = refl; peer = refl; opened = refl;
+  own = refl;
+  kind = refl;
+  peer = refl;
+  opened = refl;
   sending = same_sending s.sending;
   receiving = after_receive-keeps s.receiving room;
 }
@@ -138,7 +150,7 @@ on_act-keeps s (Arrive from bytes) = on_read-keeps s from (read bytes)
 
 pub step-keeps : (s : State) (event : Event) → KeepsIdentity s (step s event).after
 unfolding step
-step-keeps s event = 
+step-keeps s event =
     let kept = on_act-keeps (at_moment s event.now) event.act in
     record { own = kept.own; kind = kept.kind; peer = kept.peer; opened = kept.opened; sending = kept.sending; receiving = kept.receiving }
 
@@ -175,25 +187,25 @@ pub record IsQuiet (s : State) (outcome : Outcome) : Type 0 where
 on_block-quiet : (s : State) (number : ℕ) (flags : Flags) (bytes : List ℕ) → IsQuiet s (on_block s number flags bytes)
 on_block-quiet s number flags bytes =
     elim (has_bad_length s.receiving bytes) as (λ bad. IsQuiet s (
-        if bad
-        then answered (record s { counters = count_stale s.counters }) (DidHear heard.BadLength)
-        else answered
-        (record s {
-          receiving = after_arrival s.receiving number flags bytes;
-          counters = count_placing s.counters (placing s.receiving number);
-        })
-        (DidHear (heard_of (placing s.receiving number))))) [
-      true ↦ record { sending = refl; outs = refl }
-    | false ↦ record { sending = refl; outs = refl }
+    if bad
+    then answered (record s { counters = count_stale s.counters }) (DidHear heard.BadLength)
+    else answered
+    (record s {
+      receiving = after_arrival s.receiving number flags bytes;
+      counters = count_placing s.counters (placing s.receiving number);
+    })
+    (DidHear (heard_of (placing s.receiving number))))) [
+      | true ↦ record { sending = refl; outs = refl }
+      | false ↦ record { sending = refl; outs = refl }
     ]
 
 pub on_read-quiet : (s : State) (from : Addr) (result : Result Packet Malformed) → IsQuiet s (on_read s from result)
 on_read-quiet s from (Err why) = record { sending = refl; outs = refl }
 on_read-quiet s from (Ok (Block number flags stamp dest bytes)) =
     elim (same_addr from s.peer.addr && (dest == s.own)) as (λ own. IsQuiet s (
-        if own
-        then on_block s number flags bytes
-        else answered (record s { counters = count_foreign s.counters }) (DidHear heard.Foreign))) [
-      true ↦ on_block-quiet s number flags bytes
-    | false ↦ record { sending = refl; outs = refl }
+    if own
+    then on_block s number flags bytes
+    else answered (record s { counters = count_foreign s.counters }) (DidHear heard.Foreign))) [
+      | true ↦ on_block-quiet s number flags bytes
+      | false ↦ record { sending = refl; outs = refl }
     ]

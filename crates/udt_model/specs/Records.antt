@@ -98,16 +98,23 @@ pub record IsMadeOf (bytes : List ℕ) (datagrams : List Datagram) (id : ℕ) (a
 
 -- ---- sockets and endpoints
 
--- the values with which a socket is opened that is connected from then on are in their ranges
+-- the values with which a socket can be opened: the payload and the blocks lie in their ranges, the agreed payload isn't 0, and the start isn't too late
+pub record CanOpen (config : Config) (peer : Peer) (start : ℕ) : Type 0 where
+  pub payload : 1 ≤ config.payload
+  pub most_payload : config.payload ≤ MOST_PAYLOAD
+  pub snd_blocks : FEWEST_BLOCKS ≤ config.snd_blocks
+  pub most_snd_blocks : config.snd_blocks ≤ MOST_BLOCKS
+  pub rcv_blocks : FEWEST_BLOCKS ≤ config.rcv_blocks
+  pub most_rcv_blocks : config.rcv_blocks ≤ MOST_BLOCKS
+  pub peer_payload : 1 ≤ peer.payload
+  pub within : start ≤ LAST_START
+
+-- and the IDs and the initial number fit their places
 pub record IsOpening (own : ℕ) (config : Config) (peer : Peer) (start : ℕ) : Type 0 where
+  pub values : CanOpen config peer start
   pub own_fits : own < 2 ^ 32
   pub id_fits : peer.id < 2 ^ 32
   pub isn_fits : peer.isn < 2 ^ 31
-  pub payload_within : (1 ≤ config.payload) × (config.payload ≤ MOST_PAYLOAD)
-  pub peer_payload : 1 ≤ peer.payload
-  pub snd_within : (FEWEST_BLOCKS ≤ config.snd_blocks) × (config.snd_blocks ≤ MOST_BLOCKS)
-  pub rcv_within : (FEWEST_BLOCKS ≤ config.rcv_blocks) × (config.rcv_blocks ≤ MOST_BLOCKS)
-  pub start_within : start ≤ LAST_START
 
 -- how a socket was opened. So far only a script opens one, with its peer and the offset at which both directions begin
 pub data Way : Type 0 where
