@@ -1,2 +1,4 @@
 pub mod CutLemmas
 pub mod PackLemmas
+pub mod CellLemmas
+pub mod PlaceLemmas

@@ -4,3 +4,8 @@ pub mod Emitted
 pub mod SendBlocks
 pub mod SendHalf
 pub mod Packings
+pub mod Cells
+pub mod ReceiveHalf
+pub mod Receipts
+pub mod Opening
+pub mod Sockets

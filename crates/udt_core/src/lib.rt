@@ -7,7 +7,11 @@
 mod memory;
 mod outs;
 mod pool;
+mod receiving;
 mod sending;
+mod socket;
 
 pub use memory::OutOfMemory;
 pub use outs::Outs;
+pub use socket::{OpenNo, Socket};
+pub use udt_model::{Cause, Heard, Packed, Peer, Refusal};

@@ -1,0 +1,31 @@
+-- The receiving half, as it lies in memory.
+use Rattle.std.specs.Prelude.{◌≡◌, ℕ, ◌<◌, ◌≤◌, true, false, List, [], ◌∷◌, length, All, slice_get, Some, ◌+◌}
+use Rattle.std.specs.VecDeque.{deque_len}
+use Rattle.udt_model.specs.declared.limits.TheConstants.{MOST_PAYLOAD, MOST_BLOCKS, PACKET_LIMIT}
+use Rattle.udt_model.specs.State.{Receiving}
+use Rattle.udt_core.specs.declared.receiving.Receiver.TheInside.{Inside}
+use Rattle.udt_core.specs.Cells.{IsCell, IsGivenOf, AreBelow, placed_from}
+
+abbrev pub receiving_of : Inside → Receiving
+receiving_of r = record {
+  isn = r.isn;
+  payload = r.payload;
+  blocks = r.blocks;
+  base = r.base;
+  top = r.top;
+  given = r.given;
+  placed = placed_from r.base r.cells.items;
+}
+
+-- there is a cell for each offset from the base on, and the offsets lie within the limit of packets
+pub record IsReceiver (r : Inside) : Type 0 where
+  pub payload : r.payload ≤ MOST_PAYLOAD
+  pub some : 0 < r.blocks
+  pub most : r.blocks ≤ MOST_BLOCKS
+  pub cells : deque_len r.cells ≡ r.blocks
+  pub sound : All (IsCell r.payload) r.cells.items
+  pub base : r.base ≤ PACKET_LIMIT
+  pub top : r.top ≤ PACKET_LIMIT
+  -- a block lies below the limit
+  pub below : AreBelow r.base r.cells.items
+  pub given : IsGivenOf r.given r.cells.items
