@@ -1,12 +1,13 @@
 mod Opened
 mod Kept
 mod Receives
-mod MadeOf
-mod Emits
-mod GoesToPeer
+pub mod MadeOf
+pub mod Emits
+pub mod GoesToPeer
 mod Mates
-mod Honest
+pub mod Honest
 mod Named
 mod Stands
-mod Pair
-mod PairHonest
+pub mod Pair
+pub mod PairHonest
+mod Seats
