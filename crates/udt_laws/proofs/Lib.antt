@@ -11,3 +11,5 @@ mod Stands
 pub mod Pair
 pub mod PairHonest
 mod Seats
+mod ScriptLines
+mod Networks
