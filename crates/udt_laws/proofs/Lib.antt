@@ -13,3 +13,4 @@ pub mod PairHonest
 mod Seats
 mod ScriptLines
 mod Networks
+pub mod Scripts

@@ -1,21 +1,20 @@
 -- What every network of a script keeps: its sockets are pairs, and what arrives at one was emitted by its peer.
-use Rattle.std.proofs.Common.{◌≡◌, ℕ, zero, suc, ◌+◌, ◌-◌, ◌^◌, ◌<◌, ◌≤◌, List, [], ◌∷◌, ◌++◌, length, Some, None, Bool, true, false, refl, ap, ◌∙◌, sym, subst, inl, inr, ◌⊎◌, arith}
-use Rattle.std.specs.Prelude.{Option, slice_get, slice_set, map}
+use Rattle.std.proofs.Common.{◌≡◌, ℕ, ◌+◌, ◌≤◌, List, ◌++◌, length, Some, refl, ap, ◌∙◌, sym, subst, inl, inr, ◌⊎◌, arith}
+use Rattle.std.specs.Prelude.{slice_get, slice_set, map}
 use Rattle.std.specs.List.{Contains}
 use Rattle.std.proofs.lemmas.Bool.{cases_eq}
 use Rattle.std.proofs.lemmas.List.{append-nil, length-append, length-map, length-set}
-use Rattle.std.proofs.lemmas.List.Elements.{Contains-append_left, Contains-append_right, Contains-append_cases, Contains-push, Contains-push_cases}
+use Rattle.std.proofs.lemmas.List.Elements.{Contains-append_left, Contains-append_right, Contains-append_cases}
 use Rattle.udt_model.specs.declared.addresses.Addr.{Addr}
-use Rattle.udt_model.specs.State.{State, Datagram}
-use Rattle.udt_model.specs.Step.{Act, Send, Recv, Pack, Arrive, Event, step, opening}
-use Rattle.udt_model.specs.History.{Item, History, state_of, IsLegal, happened}
-use Rattle.udt_model.specs.Records.{sent_by, sent, arrived_by_act, arrived_by, arrivals, Way, PairedAt, Enrolled, IsSocket, ArePaired}
-use Rattle.udt_model.specs.Lines.{Pairing}
-use Rattle.udt_model.specs.Script.{Seat, Letter, Network, first_host, second_host, config_of, peer_of, paired_seat, paired, letter_from, event_at}
+use Rattle.udt_model.specs.State.{Datagram}
+use Rattle.udt_model.specs.Step.{Event, step}
+use Rattle.udt_model.specs.History.{History, state_of, happened}
+use Rattle.udt_model.specs.Records.{sent_by, sent, arrived_by_act, arrived_by, arrivals, Way, Enrolled, IsSocket, ArePaired}
+use Rattle.udt_model.specs.Script.{Seat, Letter, Network, letter_from, event_at}
 use Rattle.udt_model.proofs.HistoryLemmas.{IsLegal-happened}
 use Rattle.udt_model.proofs.RecordLemmas.{sent_by-append, arrived_by-append}
-use Rattle.udt_laws.proofs.Seats.{set-other, set-same, append-found, append-first, append-second, found-once, map-among}
-use Rattle.udt_laws.proofs.ScriptLines.{IsPairing}
+use Rattle.udt_laws.specs.Laws.{IsStream}
+use Rattle.udt_laws.proofs.Seats.{set-other, set-same, found-once, map-among}
 
 -- where a socket stands and how it was opened, which never changes
 pub record Plan : Type 0 where
@@ -30,6 +29,7 @@ pub record IsPlanned (plans : List Plan) (k : ℕ) (seat : Seat) : Type 0 where
   pub plan : Plan
   pub at : slice_get plans k ≡ Some plan
   pub host : seat.host ≡ plan.host
+  pub stream : IsStream seat.history
   pub socket : IsSocket (enrolled_at k plan.way seat.history)
 
 pub record HasMate (plans : List Plan) (k : ℕ) (plan : Plan) : Type 0 where
@@ -84,10 +84,10 @@ module _ (n : Network) (place : ℕ) (seat : Seat) (event : Event) (here : slice
       → ((place ≡ k) × (after_seat ≡ found)) ⊎ (slice_get n.seats k ≡ Some found)
   seat-cases k found is =
       elim (cases_eq place k) [
-        inl same ↦
-          let there = subst (λ (at : ℕ). slice_get (slice_set n.seats place after_seat) at ≡ Some after_seat) same (set-same n.seats place seat after_seat here) in
-          inl (same, found-once _ k after_seat found there is)
-      | inr apart ↦ inr (sym (set-other n.seats place k after_seat apart) ∙ is)
+        | inl same ↦
+            let there = subst (λ (at : ℕ). slice_get (slice_set n.seats place after_seat) at ≡ Some after_seat) same (set-same n.seats place seat after_seat here) in
+            inl (same, found-once _ k after_seat found there is)
+        | inr apart ↦ inr (sym (set-other n.seats place k after_seat apart) ∙ is)
       ]
 
   after_letters : List Letter
@@ -98,19 +98,19 @@ module _ (n : Network) (place : ℕ) (seat : Seat) (event : Event) (here : slice
   unfolding after_seat
   still-sent letter is =
       elim (cases_eq place is.place) [
-        inl same ↦
-          let there = subst (λ (at : ℕ). slice_get n.seats at ≡ Some seat) same here in
-          let seat_is = found-once n.seats is.place seat is.seat there is.at in
-          let sent_here = subst (λ (s : Seat). Contains (sent s.history) (record { addr = letter.to; bytes = letter.bytes })) (sym seat_is) is.among in
-          let longer = Contains-append_left (sent seat.history) (step (state_of seat.history) event).outs _ sent_here in
-          record {
-            place = place;
-            seat = after_seat;
-            at = set-same n.seats place seat after_seat here;
-            from = is.from ∙ ap (λ (s : Seat). s.host) (sym seat_is);
-            among = subst (λ (l : List Datagram). Contains l (record { addr = letter.to; bytes = letter.bytes })) (sym (sent-happened seat.history 0 event)) longer;
-          }
-      | inr apart ↦ record {
+        | inl same ↦
+            let there = subst (λ (at : ℕ). slice_get n.seats at ≡ Some seat) same here in
+            let seat_is = found-once n.seats is.place seat is.seat there is.at in
+            let sent_here = subst (λ (s : Seat). Contains (sent s.history) (record { addr = letter.to; bytes = letter.bytes })) (sym seat_is) is.among in
+            let longer = Contains-append_left (sent seat.history) (step (state_of seat.history) event).outs _ sent_here in
+            record {
+              place = place;
+              seat = after_seat;
+              at = set-same n.seats place seat after_seat here;
+              from = is.from ∙ ap (λ (s : Seat). s.host) (sym seat_is);
+              among = subst (λ (l : List Datagram). Contains l (record { addr = letter.to; bytes = letter.bytes })) (sym (sent-happened seat.history 0 event)) longer;
+            }
+        | inr apart ↦ record {
           place = is.place;
           seat = is.seat;
           at = set-other n.seats place is.place after_seat apart ∙ is.at;
@@ -149,39 +149,47 @@ module _ (n : Network) (place : ℕ) (seat : Seat) (event : Event) (here : slice
     plans = is.plans;
     count = is.count ∙ sym (length-set n.seats place after_seat);
     seats = λ k found at. elim (seat-cases k found at) [
-        inl new ↦
+      | inl new ↦
           let planned = is.seats place seat here in
           let socket = planned.socket in
           let mine : IsPlanned is.plans place after_seat = record {
             plan = planned.plan;
             at = planned.at;
             host = planned.host;
+            stream = planned.stream;
             socket = record { in_range = socket.in_range; opened = socket.opened; legal = IsLegal-happened seat.history 0 event socket.legal };
           } in
           subst (λ (j : ℕ). IsPlanned is.plans j found) new.0 (subst (IsPlanned is.plans place) new.1 mine)
       | inr old ↦ is.seats k found old
-      ];
+    ];
     mates = is.mates;
     letters = λ letter among. elim (Contains-append_cases n.letters _ letter among) [
-        inl old ↦ still-sent letter (is.letters letter old)
+      | inl old ↦ still-sent letter (is.letters letter old)
       | inr new ↦ new-sent letter new
-      ];
+    ];
     arrived = λ k found datagram at among. elim (seat-cases k found at) [
-        inl new ↦
+      | inl new ↦
           let mine = subst (λ (s : Seat). Contains (arrivals s.history) datagram) (sym new.1) among in
           let split = subst (λ (l : List Datagram). Contains l datagram) (arrivals-happened seat.history 0 event) mine in
           elim (Contains-append_cases (arrivals seat.history) _ datagram split) [
-            inl old ↦ came-longer datagram (is.arrived place seat datagram here old)
-          | inr now ↦ came-longer datagram (comes datagram now)
+            | inl old ↦ came-longer datagram (is.arrived place seat datagram here old)
+            | inr now ↦ came-longer datagram (comes datagram now)
           ]
       | inr old ↦ came-longer datagram (is.arrived k found datagram old among)
-      ];
+    ];
     few = λ k found at. elim (seat-cases k found at) [
-        inl new ↦
+      | inl new ↦
           let lengths = ap (λ (s : Seat). length (sent s.history)) (sym new.1) in
           let longer = ap length (sent-happened seat.history 0 event) in
-          omega (arith, lengths, longer, length-append (sent seat.history) outs, is.few place seat here,
-            length-append n.letters (map (letter_from seat.host) outs), length-map outs (letter_from seat.host))
+          omega (
+            arith,
+            lengths,
+            longer,
+            length-append (sent seat.history) outs,
+            is.few place seat here,
+            length-append n.letters (map (letter_from seat.host) outs),
+            length-map outs (letter_from seat.host),
+          )
       | inr old ↦ omega (arith, is.few k found old, length-append n.letters (map (letter_from seat.host) outs))
-      ];
+    ];
   }

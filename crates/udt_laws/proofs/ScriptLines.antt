@@ -1,10 +1,10 @@
 -- Which lines make a pair, and that its values are in their ranges.
-use Rattle.std.proofs.Common.{◌≡◌, ℕ, ◌+◌, ◌-◌, ◌^◌, ◌<◌, ◌≤◌, Bool, true, false, List, [], ◌∷◌, Some, None, refl, ap, ◌∙◌, sym, subst, inl, inr, ◌⊎◌, arith}
-use Rattle.std.specs.Prelude.{Option, if◌then◌else◌, ◌&&◌, nat_le, codes, ◌==◌}
+use Rattle.std.proofs.Common.{◌≡◌, ℕ, ◌-◌, ◌^◌, ◌<◌, ◌≤◌, Bool, true, false, List, [], ◌∷◌, Some, None, refl, inl, inr, ◌⊎◌, arith}
+use Rattle.std.specs.Prelude.{Option, if◌then◌else◌, ◌&&◌, codes}
 use Rattle.std.proofs.lemmas.Bool.Decides.{nat_tests}
 use Rattle.udt_model.specs.declared.limits.TheConstants.{MOST_PAYLOAD, FEWEST_BLOCKS, MOST_BLOCKS, LAST_START}
 use Rattle.udt_model.specs.Words.{◌>>=◌, words_of, is_word, name_of, number_of, if_within, number_within, bytes_of}
-use Rattle.udt_model.specs.Lines.{Pairing, Line, Silent, PairLine, SendLine, RecvLine, PackLine, DeliverLine, is_silent, moment_of, pairing_of, pair_line, send_line, recv_line, pack_line, deliver_line, line_by_words, read_line}
+use Rattle.udt_model.specs.Lines.{Pairing, Line, PairLine, is_silent, moment_of, pairing_of, pair_line, send_line, recv_line, pack_line, deliver_line, line_by_words, read_line}
 
 -- the values of a pair are in their ranges
 pub record IsPairing (p : Pairing) : Type 0 where
@@ -115,16 +115,16 @@ words-in_range [] p is = absurd (cc)
 words-in_range (first ∷ []) p is = absurd (cc)
 words-in_range (first ∷ second ∷ others) p is =
     elim (if-some (is_word second (codes "send")) _ _ _ is) [
-      inl is_send ↦ absurd (send-no_pair first others p is_send)
-    | inr one ↦ elim (if-some (is_word second (codes "recv")) _ _ _ one) [
-        inl is_recv ↦ absurd (recv-no_pair first others p is_recv)
-      | inr two ↦ elim (if-some (is_word second (codes "pack")) _ _ _ two) [
-          inl is_pack ↦ absurd (pack-no_pair first others p is_pack)
-        | inr three ↦ elim (if-some (is_word first (codes "deliver")) _ _ _ three) [
-            inl is_deliver ↦ absurd (deliver-no_pair second others p is_deliver)
-          | inr four ↦ elim (if-some (is_word first (codes "pair") && is_word second (codes "stream")) _ _ _ four) [
-              inl is_pair ↦ pair-in_range others p is_pair
-            | inr none ↦ absurd (cc)
+      | inl is_send ↦ absurd (send-no_pair first others p is_send)
+      | inr one ↦ elim (if-some (is_word second (codes "recv")) _ _ _ one) [
+        | inl is_recv ↦ absurd (recv-no_pair first others p is_recv)
+        | inr two ↦ elim (if-some (is_word second (codes "pack")) _ _ _ two) [
+          | inl is_pack ↦ absurd (pack-no_pair first others p is_pack)
+          | inr three ↦ elim (if-some (is_word first (codes "deliver")) _ _ _ three) [
+            | inl is_deliver ↦ absurd (deliver-no_pair second others p is_deliver)
+            | inr four ↦ elim (if-some (is_word first (codes "pair") && is_word second (codes "stream")) _ _ _ four) [
+              | inl is_pair ↦ pair-in_range others p is_pair
+              | inr none ↦ absurd (cc)
             ]
           ]
         ]
@@ -136,6 +136,6 @@ pub line-in_range : (line : List ℕ) (p : Pairing) → read_line line ≡ Some 
 unfolding read_line
 line-in_range line p is =
     elim (if-some (is_silent line) _ _ _ is) [
-      inl silent ↦ absurd (cc)
-    | inr words ↦ words-in_range (words_of line) p words
+      | inl silent ↦ absurd (cc)
+      | inr words ↦ words-in_range (words_of line) p words
     ]

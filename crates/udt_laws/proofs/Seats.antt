@@ -1,6 +1,6 @@
 -- Lists with one element replaced, and what they contain.
-use Rattle.std.proofs.Common.{◌≡◌, ℕ, zero, suc, ◌+◌, ◌-◌, ◌<◌, ◌≤◌, List, [], ◌∷◌, ◌++◌, length, Some, None, refl, ap, ◌∙◌, sym, subst, inl, inr, ◌⊎◌, arith}
-use Rattle.std.specs.Prelude.{Option, slice_get, slice_set, map}
+use Rattle.std.proofs.Common.{◌≡◌, ℕ, zero, suc, ◌+◌, List, [], ◌∷◌, ◌++◌, length, Some, refl, ap, subst, inl, inr, ◌⊎◌, arith}
+use Rattle.std.specs.Prelude.{slice_get, slice_set, map}
 use Rattle.std.specs.List.{Contains}
 use Rattle.std.proofs.lemmas.List.Elements.{Contains-append_left, Contains-append_right, Contains-append_cases, Contains-push, Contains-push_cases}
 
@@ -25,8 +25,8 @@ append-found [] ys k x found = inr (k, omega arith, found)
 append-found (first ∷ others) ys zero x found = inl found
 append-found (first ∷ others) ys (suc k) x found =
     elim (append-found others ys k x found) [
-      inl there ↦ inl there
-    | inr past ↦ inr (past.0, omega (arith, past.1), past.2)
+      | inl there ↦ inl there
+      | inr past ↦ inr (past.0, omega (arith, past.1), past.2)
     ]
 
 pub append-first : {X : Type 0} (xs ys : List X) (k : ℕ) (x : X) → slice_get xs k ≡ Some x → slice_get (xs ++ ys) k ≡ Some x
@@ -57,11 +57,11 @@ pub map-among : {X Y : Type 0} (f : X → Y) (xs : List X) (y : Y) → Contains 
 map-among f [] y among = absurd (omega (arith, among.1))
 map-among f (first ∷ others) y among =
     elim (Contains-append_cases (f first ∷ []) (map f others) y among) [
-      inl here ↦ elim (Contains-push_cases [] (f first) y here) [
-        inl none ↦ absurd (omega (arith, none.1))
-      | inr same ↦ (first, Contains-append_left (first ∷ []) others first (Contains-push [] first), same)
+      | inl here ↦ elim (Contains-push_cases [] (f first) y here) [
+        | inl none ↦ absurd (omega (arith, none.1))
+        | inr same ↦ (first, Contains-append_left (first ∷ []) others first (Contains-push [] first), same)
       ]
-    | inr there ↦
-      let found = map-among f others y there in
-      (found.0, Contains-append_right (first ∷ []) others found.0 found.1, found.2)
+      | inr there ↦
+          let found = map-among f others y there in
+          (found.0, Contains-append_right (first ∷ []) others found.0 found.1, found.2)
     ]

@@ -8,6 +8,7 @@ use Rattle.udt_model.specs.Numbers.{wire_number}
 use Rattle.udt_model.specs.Wire.{Packet, Block, read, target}
 use Rattle.udt_model.specs.State.{KeptBlock, Datagram}
 use Rattle.udt_model.specs.History.{History, state_of, start_of, accepted, delivered}
+use Rattle.udt_model.specs.Script.{Seat, network_after}
 use Rattle.udt_model.specs.Records.{IsPrefix, Emission, emitted, sent, arrivals, IsMadeOf, Enrolled, IsSocket, EndpointRecord, StandsAt, PeerPair, own_peer, ArePaired, is_handshake, destination, AreLawful, IsHonest}
 
 -- the socket carries a stream of bytes
@@ -100,3 +101,11 @@ PairHonest =
     → ArePaired addr socket.own socket.way other_addr other.own other.way → AllComesFrom socket other_addr other → AllComesFrom other addr socket
     → length (sent socket.history) < 2 ^ 30 → length (sent other.history) < 2 ^ 30
     → AreLawful (both_records addr socket other_addr other) × IsHonest (both_records addr socket other_addr other)
+
+-- Script prefix: whatever the lines of a script deliver, lose, repeat and reorder, what a socket of it delivered is a prefix of what its own peer accepted
+abbrev pub ScriptPrefix : Type 0
+ScriptPrefix =
+    (lines : List (List ℕ)) (place peer_place : ℕ) (seat peer : Seat) → length lines < 2 ^ 30
+    → slice_get (network_after lines).seats place ≡ Some seat → slice_get (network_after lines).seats peer_place ≡ Some peer
+    → own_peer seat.history ≡ Some (record { addr = peer.host; id = peer_place + 1 })
+    → IsPrefix (delivered seat.history) (accepted peer.history)

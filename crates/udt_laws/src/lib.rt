@@ -1,7 +1,7 @@
 //! The main theorems of the protocol, each the contract of an empty function.
 #![tactic(auto)]
 
-ghost use Rattle.udt_laws.specs.Laws.{OneHistory, EmittedBlocks, Addressed, Prefix, PairPrefix, PairHonest};
+ghost use Rattle.udt_laws.specs.Laws.{OneHistory, EmittedBlocks, Addressed, Prefix, PairPrefix, PairHonest, ScriptPrefix};
 
 /// Whatever arrives, a stream socket delivers a front of the payloads that came from its peer's
 /// address, each under the wire number of its place.
@@ -36,4 +36,10 @@ pub fn pair_prefix()
 /// the other alone and both emitted fewer than 2^30 datagrams.
 pub fn pair_honest()
     ensures { PairHonest }
+{}
+
+/// Whatever the lines of a script deliver, what a socket of it delivers is a prefix of what its own
+/// peer accepted.
+pub fn script_prefix()
+    ensures { ScriptPrefix }
 {}
