@@ -2,3 +2,4 @@ pub mod CutLemmas
 pub mod PackLemmas
 pub mod CellLemmas
 pub mod PlaceLemmas
+pub mod SettleLemmas

@@ -134,8 +134,9 @@ fn settle(cells: &mut VecDeque<Cell>, base: &mut u64, given: &mut usize)
     requires some { 0 < deque_len cells.old }
     requires first { IsRead cells.old.items given.old }
     requires base { base.old < PACKET_LIMIT }
-    ensures front { front_after base.old given.old (placed_from base.old cells.old.items)
-        ≡ record { base = base.new; given = given.new; placed = placed_from base.new cells.new.items } }
+    ensures front { (payload : ℕ) → All (IsCell payload) cells.old.items
+        → front_after base.old given.old (placed_from base.old cells.old.items)
+            ≡ record { base = base.new; given = given.new; placed = placed_from base.new cells.new.items } }
     ensures waiting { drop given.old (contiguous base.old (placed_from base.old cells.old.items))
         ≡ drop given.new (contiguous base.new (placed_from base.new cells.new.items)) }
     ensures len { deque_len cells.new ≡ deque_len cells.old }
