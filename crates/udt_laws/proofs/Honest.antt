@@ -1,4 +1,5 @@
--- Where records are lawful and honest, what arrives from a socket's peer was emitted by the peer alone, and is read as what it was.
+-- Where records are lawful and honest, what arrives from a socket's peer was emitted by the peer alone, and is read
+-- as what it was.
 use Rattle.std.proofs.Common.{◌≡◌, ℕ, List, [], ◌∷◌, Some, Ok, refl, ap, ◌∙◌, sym, subst}
 use Rattle.std.specs.List.{Contains}
 use Rattle.std.proofs.lemmas.Option.{same_Some}

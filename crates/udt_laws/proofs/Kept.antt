@@ -1,4 +1,5 @@
--- What a receiving half keeps true of the bytes that it gave: they are a front of its blocks joined, and each block meets what every placed one met.
+-- What a receiving half keeps true of the bytes that it gave: they are a front of its blocks joined, and each block
+-- meets what every placed one met.
 use Rattle.std.proofs.Common.{◌≡◌, ℕ, ◌+◌, ◌≤◌, List, [], ◌++◌, length, take, drop, Some, Ok, Err, refl, ap, ◌∙◌, sym, subst, arith}
 use Rattle.std.specs.Prelude.{Result}
 use Rattle.std.specs.List.{concat}

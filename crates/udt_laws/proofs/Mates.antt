@@ -93,7 +93,8 @@ module _ (g : History) (has : HasBlocks g) where
 
 -- ---- pairs
 
--- two sockets name each other as peer, count from one initial number and one offset, and the one delivers a front of what the other accepted where it places only its blocks
+-- two sockets name each other as peer, count from one initial number and one offset, and the one delivers a front of
+-- what the other accepted where it places only its blocks
 pub record AreMates (addr : Addr) (own : ℕ) (h : History) (other_addr : Addr) (other_own : ℕ) (g : History) : Type 0 where
   pub has : HasBlocks g
   pub own_is : h.opening.own ≡ own

@@ -1,4 +1,5 @@
--- Of two sockets that were made as a pair, fewer than 2^30 datagrams can name no offset too far from where the other stands.
+-- Of two sockets that were made as a pair, fewer than 2^30 datagrams can name no offset too far from where the other
+-- stands.
 use Rattle.std.proofs.Common.{◌≡◌, ℕ, ◌+◌, ◌^◌, ◌<◌, ◌≤◌, List, [], ◌∷◌, length, Some, Ok, refl, ap, ◌∙◌, sym, subst, inl, inr, arith}
 use Rattle.std.specs.List.{Contains}
 use Rattle.std.proofs.lemmas.List.Elements.{Contains-append_left, Contains-append_right, Contains-push, Contains-push_cases}

@@ -4,6 +4,7 @@ use Rattle.std.specs.Prelude.{Option, slice_get, map, codes, option_map, if◌th
 use Rattle.std.specs.List.{Contains}
 use Rattle.std.proofs.lemmas.Bool.{and_parts, leb-true}
 use Rattle.std.proofs.lemmas.Option.{same_Some}
+use Rattle.std.proofs.lemmas.List.Sums.{sum_by-cons}
 use Rattle.std.proofs.lemmas.List.{length-append, length-map}
 use Rattle.std.proofs.lemmas.List.Elements.{Contains-push_cases}
 use Rattle.udt_model.specs.declared.limits.TheConstants.{MOST_SOCKETS}
@@ -18,7 +19,7 @@ use Rattle.udt_model.specs.History.{History, AreLegal, state_of}
 use Rattle.udt_model.specs.Records.{sent_by, sent, arrived_by_act, arrived_by, arrivals, Way, PairedAt, opened_by, IsSocket, CanOpen, ArePaired, PeerPair}
 use Rattle.udt_model.specs.Words.{◌>>=◌}
 use Rattle.udt_model.specs.Lines.{Pairing, Line, Silent, PairLine, SendLine, RecvLine, PackLine, DeliverLine, read_line}
-use Rattle.udt_model.specs.Script.{Seat, Letter, Network, Printed, empty_network, first_host, second_host, config_of, peer_of, paired_seat, paired, may_pair, letter_from, event_at, event_there, place_of, Route, ToSeat, Nowhere, route_to, route_by, route, arrived, delivery, on_line, played_line, left_by, network_from, network_after}
+use Rattle.udt_model.specs.Script.{Seat, Letter, Network, Printed, empty_network, first_host, second_host, config_of, peer_of, paired_seat, paired, may_pair, letter_from, event_at, event_there, place_of, Route, ToSeat, Nowhere, route_to, route_by, route, arrived, delivery, on_line, played_line, left_by, network_from, network_after, size_of}
 use Rattle.udt_model.proofs.StepLemmas.{on_read-quiet}
 use Rattle.udt_laws.specs.Laws.{ComesFrom, ScriptPrefix}
 use Rattle.udt_laws.proofs.Seats.{append-found, append-first, append-second, found-once, found-among}
@@ -433,3 +434,8 @@ script_prefix lines place peer_place seat peer few at peer_at names =
     let count : length (sent peer.history) < 2 ^ 30 = omega (arith, made.network.few peer_place peer peer_at, made.within, few) in
     pair_prefix a.plan.host b.plan.host (enrolled_at place a.plan.way seat.history) (enrolled_at peer_place b.plan.way peer.history) a.socket b.socket are
     a.stream (comes-from n made.network place peer_place seat peer at peer_at id a b) count
+
+-- there are at most as many lines as bytes with their line feeds, so the lines of a script are few enough
+pub lines-within : (lines : List (List ℕ)) → length lines ≤ size_of lines
+lines-within [] = omega arith
+lines-within (line ∷ lines) = omega (arith, sum_by-cons (λ (l : List ℕ). length l + 1) line lines, lines-within lines)

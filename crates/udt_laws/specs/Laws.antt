@@ -26,7 +26,8 @@ OneHistory =
     → IsMadeOf (delivered socket.history) (arrivals socket.history) socket.own peer.addr
     ((peer_isn socket.history + start_of socket.history) % 2 ^ 31)
 
--- a data packet that was emitted carries the block of the one offset that it names, to the peer, under the wire number of that offset
+-- a data packet that was emitted carries the block of the one offset that it names, to the peer, under the wire
+-- number of that offset
 pub record CarriesBlock (h : History) (blocks : List (List ℕ)) (emission : Emission) (number dest : ℕ) (payload : List ℕ) : Type 0 where
   pub offset : ℕ
   pub names : emission.offsets ≡ offset ∷ []
@@ -36,7 +37,8 @@ pub record CarriesBlock (h : History) (blocks : List (List ℕ)) (emission : Emi
   pub sent_to : emission.datagram.addr ≡ (state_of h).peer.addr
   pub destined : dest ≡ (state_of h).peer.id
 
--- the blocks of a history, the first at the offset at which it begins: joined they are what was accepted, the kept ones are the last of them, and data packets carry no others
+-- the blocks of a history, the first at the offset at which it begins: joined they are what was accepted, the kept
+-- ones are the last of them, and data packets carry no others
 pub record HasBlocks (h : History) : Type 0 where
   pub blocks : List (List ℕ)
   pub joined : concat blocks ≡ accepted h
@@ -76,7 +78,8 @@ ComesFrom receiver from sender =
     → target datagram.bytes ≡ Some receiver.own
     → WasSentBy sender datagram
 
--- Pair prefix: the same for two sockets that were made as a pair, where the one emitted fewer than 2^30 datagrams and the other got no others from there
+-- Pair prefix: the same for two sockets that were made as a pair, where the one emitted fewer than 2^30 datagrams and
+-- the other got no others from there
 abbrev pub PairPrefix : Type 0
 PairPrefix =
     (addr peer_addr : Addr) (receiver sender : Enrolled) → IsSocket receiver → IsSocket sender
@@ -94,7 +97,8 @@ abbrev pub both_records : Addr → Enrolled → Addr → Enrolled → List Endpo
 both_records addr socket other_addr other =
     record { addr = addr; sockets = socket ∷ [] } ∷ record { addr = other_addr; sockets = other ∷ [] } ∷ []
 
--- Pair honest: the records of two sockets that were made as a pair, of which each got from the other alone, and that emitted fewer than 2^30 datagrams each, are lawful and honest
+-- Pair honest: the records of two sockets that were made as a pair, of which each got from the other alone, and that
+-- emitted fewer than 2^30 datagrams each, are lawful and honest
 abbrev pub PairHonest : Type 0
 PairHonest =
     (addr other_addr : Addr) (socket other : Enrolled) → (addr ≡ other_addr → ⊥) → IsSocket socket → IsSocket other
@@ -102,7 +106,8 @@ PairHonest =
     → length (sent socket.history) < 2 ^ 30 → length (sent other.history) < 2 ^ 30
     → AreLawful (both_records addr socket other_addr other) × IsHonest (both_records addr socket other_addr other)
 
--- Script prefix: whatever the lines of a script deliver, lose, repeat and reorder, what a socket of it delivered is a prefix of what its own peer accepted
+-- Script prefix: whatever the lines of a script deliver, lose, repeat and reorder, what a socket of it delivered is a
+-- prefix of what its own peer accepted
 abbrev pub ScriptPrefix : Type 0
 ScriptPrefix =
     (lines : List (List ℕ)) (place peer_place : ℕ) (seat peer : Seat) → length lines < 2 ^ 30

@@ -1,4 +1,5 @@
--- How the receiving half keeps its blocks: placed ones stay in order, and what was read is a front of the blocks joined.
+-- How the receiving half keeps its blocks: placed ones stay in order, and what was read is a front of the blocks
+-- joined.
 use Rattle.std.proofs.Common.{◌≡◌, ℕ, ◌+◌, ◌-◌, ◌<◌, ◌≤◌, true, false, List, [], ◌∷◌, ◌++◌, length, take, Some, None, refl, ap, ◌∙◌, sym, subst, inl, inr, arith}
 use Rattle.std.specs.Prelude.{nat_lt, nat_le, ◌==◌, ◌&&◌, if◌then◌else◌, Option}
 use Rattle.std.specs.List.{concat}

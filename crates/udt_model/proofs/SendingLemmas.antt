@@ -1,4 +1,5 @@
--- How the sending half keeps its blocks: a message cut into blocks is its bytes, and the kept blocks are the last ones accepted.
+-- How the sending half keeps its blocks: a message cut into blocks is its bytes, and the kept blocks are the last
+-- ones accepted.
 use Rattle.std.proofs.Common.{◌≡◌, ℕ, zero, suc, ◌+◌, ◌-◌, ◌*◌, ◌^◌, ◌<◌, ◌≤◌, Bool, true, false, List, [], ◌∷◌, ◌++◌, length, take, drop, Some, None, refl, ap, ◌∙◌, sym, subst, arith}
 use Rattle.std.specs.Prelude.{Option, slice_get, map}
 use Rattle.std.specs.List.{concat}
@@ -75,7 +76,8 @@ slice_get-drop (suc k) n (x ∷ xs) =
     let same : suc k + n ≡ suc (k + n) = omega arith in
     rw same (slice_get-drop k n xs)
 
--- these are all blocks that the half ever accepted, in a direction that begins at this offset: the kept ones are the last of them
+-- these are all blocks that the half ever accepted, in a direction that begins at this offset: the kept ones are the
+-- last of them
 pub record IsCut (s : Sending) (start : ℕ) (blocks : List (List ℕ)) : Type 0 where
   pub not_before : start ≤ s.acked
   pub count : s.acked + length s.kept ≡ start + length blocks

@@ -1,4 +1,5 @@
--- What events of a socket don't change: who it is, who its peer is, and the initial numbers; and, where something arrives, the sending half.
+-- What events of a socket don't change: who it is, who its peer is, and the initial numbers; and, where something
+-- arrives, the sending half.
 use Rattle.std.proofs.Common.{◌≡◌, ℕ, zero, suc, true, false, List, [], ◌∷◌, Ok, Err, refl, ◌∙◌}
 use Rattle.std.specs.Prelude.{Result, ◌==◌, ◌&&◌, if◌then◌else◌, length}
 use Rattle.udt_model.specs.declared.addresses.Addr.{Addr}

@@ -1,5 +1,6 @@
 -- Records of endpoints: what their sockets emitted and what it names, and when the records are lawful and honest.
--- The network may lose, repeat and reorder (Gu and Grossman, Computer Networks 51, 2007, section 3): a record keeps all that was ever emitted, and each arrival is one of these.
+-- The network may lose, repeat and reorder (Gu and Grossman, Computer Networks, 2007), so a record keeps all that was
+-- ever emitted, and each arrival is one of these.
 use Rattle.std.specs.Prelude.{◌≡◌, ℕ, ◌+◌, ◌^◌, ◌<◌, ◌≤◌, Bool, false, List, [], ◌∷◌, ◌++◌, Option, Some, Ok, slice_get}
 use Rattle.std.specs.List.{Contains, concat}
 use Rattle.udt_model.specs.declared.limits.TheConstants.{LAST_START, MOST_PAYLOAD, FEWEST_BLOCKS, MOST_BLOCKS}
@@ -89,7 +90,8 @@ pub record IsCarried (datagrams : List Datagram) (id : ℕ) (addr : Addr) (numbe
   pub from : datagram.addr ≡ addr
   pub reads : read datagram.bytes ≡ Ok (Block number flags stamp id payload)
 
--- the bytes are a prefix of payloads that the datagrams from this address carry to this ID, the n-th under the wire number of n
+-- the bytes are a prefix of payloads that the datagrams from this address carry to this ID, the n-th under the wire
+-- number of n
 pub record IsMadeOf (bytes : List ℕ) (datagrams : List Datagram) (id : ℕ) (addr : Addr) (isn : ℕ) : Type 0 where
   pub payloads : List (List ℕ)
   pub carried : (n : ℕ) (payload : List ℕ) → slice_get payloads n ≡ Some payload
@@ -98,7 +100,8 @@ pub record IsMadeOf (bytes : List ℕ) (datagrams : List Datagram) (id : ℕ) (a
 
 -- ---- sockets and endpoints
 
--- the values with which a socket can be opened: the payload and the blocks lie in their ranges, the agreed payload isn't 0, and the start isn't too late
+-- the values with which a socket can be opened: the payload and the blocks lie in their ranges, the agreed payload
+-- isn't 0, and the start isn't too late
 pub record CanOpen (config : Config) (peer : Peer) (start : ℕ) : Type 0 where
   pub payload : 1 ≤ config.payload
   pub most_payload : config.payload ≤ MOST_PAYLOAD
@@ -156,7 +159,8 @@ pub record PeerPair : Type 0 where
   pub addr : Addr
   pub id : ℕ
 
--- the own peer: the pair that the state after a history names as peer. It never changes once it is set, which so far it is from the opening on
+-- the own peer: the pair that the state after a history names as peer. It never changes once it is set, which so far
+-- it is from the opening on
 abbrev pub own_peer : History → Option PeerPair
 own_peer h = Some (record { addr = (state_of h).peer.addr; id = (state_of h).peer.id })
 
@@ -170,7 +174,8 @@ is_handshake (Block seq flags stamp dest bytes) = false
 abbrev pub destination : Packet → ℕ
 destination (Block seq flags stamp dest bytes) = dest
 
--- a script made both sockets as a pair: each is the other's peer, and kind, initial number and first offset are the same
+-- a script made both sockets as a pair: each is the other's peer, and kind, initial number and first offset are the
+-- same
 abbrev pub ArePaired : Addr → ℕ → Way → Addr → ℕ → Way → Type 0
 ArePaired addr own (PairedAt config peer now start) other_addr other_own (PairedAt other_config other_peer other_now other_start) =
     (peer.addr ≡ other_addr) × (peer.id ≡ other_own) × (other_peer.addr ≡ addr) × (other_peer.id ≡ own) × (other_config.kind ≡ config.kind)
@@ -196,7 +201,8 @@ pub record IsLawful (net : List EndpointRecord) (endpoint : EndpointRecord) : Ty
   -- no two sockets have the same peer
   pub peers : (socket other : Enrolled) (peer : PeerPair) → Contains endpoint.sockets socket → Contains endpoint.sockets other
       → own_peer socket.history ≡ Some peer → own_peer other.history ≡ Some peer → socket ≡ other
-  -- what isn't a handshake goes to the own peer of the socket that emits it. What handshakes carry is said here once there are any
+  -- what isn't a handshake goes to the own peer of the socket that emits it. What handshakes carry is said here once
+  -- there are any
   pub addressed : (socket : Enrolled) (emission : Emission) (packet : Packet) → Contains endpoint.sockets socket
       → Contains (emitted socket.history) emission → read emission.datagram.bytes ≡ Ok packet → is_handshake packet ≡ false
       → own_peer socket.history ≡ Some (record { addr = emission.datagram.addr; id = destination packet })
@@ -218,7 +224,8 @@ IsClose offset other = (offset < other + 2 ^ 30) × (other < offset + 2 ^ 30)
 abbrev pub read_by : State → Packet → ℕ
 read_by s (Block seq flags stamp dest bytes) = s.receiving.top
 
--- these bytes from this address were emitted there, to the other address, and all that they name lies near where a socket in this state reads them
+-- these bytes from this address were emitted there, to the other address, and all that they name lies near where a
+-- socket in this state reads them
 pub record WasEmitted (net : List EndpointRecord) (s : State) (from to : Addr) (bytes : List ℕ) : Type 0 where
   pub socket : Enrolled
   pub emission : Emission
