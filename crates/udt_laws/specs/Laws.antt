@@ -7,7 +7,7 @@ use Rattle.udt_model.specs.declared.addresses.Addr.{Addr}
 use Rattle.udt_model.specs.Numbers.{wire_number}
 use Rattle.udt_model.specs.Wire.{Packet, Block, read, target}
 use Rattle.udt_model.specs.State.{KeptBlock, Datagram}
-use Rattle.udt_model.specs.History.{History, state_of, start_of, accepted, delivered}
+use Rattle.udt_model.specs.History.{History, IsLegal, state_of, start_of, accepted, delivered}
 use Rattle.udt_model.specs.Script.{Seat, network_after}
 use Rattle.udt_model.specs.Records.{IsPrefix, Emission, emitted, sent, arrivals, IsMadeOf, Enrolled, IsSocket, EndpointRecord, StandsAt, PeerPair, own_peer, ArePaired, is_handshake, destination, AreLawful, IsHonest}
 
@@ -51,6 +51,10 @@ pub record HasBlocks (h : History) : Type 0 where
 -- Emitted blocks: what a stream socket sends are the blocks of what it accepted, each under its own number
 abbrev pub EmittedBlocks : Type 0
 EmittedBlocks = (socket : Enrolled) → IsSocket socket → IsStream socket.history → HasBlocks socket.history
+
+-- All named: of a legal history all datagrams that it sent are emitted ones with the offsets that they name, in order
+abbrev pub AllNamed : Type 0
+AllNamed = (h : History) → IsLegal h → map (λ (emission : Emission). emission.datagram) (emitted h) ≡ sent h
 
 -- Addressed: what a socket emits that isn't a handshake goes to its own peer
 abbrev pub Addressed : Type 0

@@ -1,7 +1,8 @@
 //! The main theorems of the protocol, each the contract of an empty function.
 #![tactic(auto)]
 
-ghost use Rattle.udt_laws.specs.Laws.{OneHistory, EmittedBlocks, Addressed, Prefix, PairPrefix, PairHonest, ScriptPrefix};
+ghost use Rattle.udt_laws.specs.Laws.{OneHistory, EmittedBlocks, AllNamed, Addressed};
+ghost use Rattle.udt_laws.specs.Laws.{Prefix, PairPrefix, PairHonest, ScriptPrefix};
 
 /// Whatever arrives, a stream socket delivers a front of the payloads that came from its peer's
 /// address, each under the wire number of its place.
@@ -13,6 +14,11 @@ pub fn one_history()
 /// number of its offset.
 pub fn emitted_blocks()
     ensures { EmittedBlocks }
+{}
+
+/// Each datagram that a history sent stands among the emitted ones, in order.
+pub fn all_named()
+    ensures { AllNamed }
 {}
 
 /// What a socket emits once it has a peer goes to that peer.

@@ -32,6 +32,7 @@ named_by_packing s (Waits until) = []
 named_by_packing s (Sends block) = (s.sending.next ∷ []) ∷ []
 named_by_packing s Idles = []
 
+-- packing alone emits anything so far
 abbrev pub named_by_act : State → Act → List (List ℕ)
 named_by_act s (Send bytes) = []
 named_by_act s (Recv room) = []
@@ -49,6 +50,7 @@ with_offsets (datagram ∷ datagrams) [] = []
 with_offsets (datagram ∷ datagrams) (named ∷ others) =
     record { datagram = datagram; offsets = named } ∷ with_offsets datagrams others
 
+-- what these items emitted, from this state on
 unfoldable pub emitted_by : State → List Item → List Emission
 emitted_by s [] = []
 emitted_by s (item ∷ items) = with_offsets item.outs (named s item.event) ++ emitted_by (step s item.event).after items
@@ -57,6 +59,7 @@ emitted_by s (item ∷ items) = with_offsets item.outs (named s item.event) ++ e
 abbrev pub emitted : History → List Emission
 emitted h = emitted_by h.opening h.items
 
+-- what these items emitted, without the offsets
 unfoldable pub sent_by : List Item → List Datagram
 sent_by [] = []
 sent_by (item ∷ items) = item.outs ++ sent_by items
@@ -67,12 +70,14 @@ sent h = sent_by h.items
 
 -- ---- what arrived
 
+-- what arrives with an event, with the address that it comes from
 abbrev pub arrived_by_act : Act → List Datagram
 arrived_by_act (Send bytes) = []
 arrived_by_act (Recv room) = []
 arrived_by_act Pack = []
 arrived_by_act (Arrive from bytes) = record { addr = from; bytes = bytes } ∷ []
 
+-- what arrived with these items
 unfoldable pub arrived_by : List Item → List Datagram
 arrived_by [] = []
 arrived_by (item ∷ items) = arrived_by_act item.event.act ++ arrived_by items
@@ -127,6 +132,7 @@ pub data Way : Type 0 where
 abbrev pub opened_by : ℕ → Way → State
 opened_by own (PairedAt config peer now start) = opening own config peer now start
 
+-- the values of an opening are in their ranges
 abbrev pub IsWay : ℕ → Way → Type 0
 IsWay own (PairedAt config peer now start) = IsOpening own config peer start
 
@@ -194,6 +200,7 @@ IsMet net addr socket = IsPaired net addr socket
 
 -- the record of an endpoint, among these records, is one that sockets and routes make
 pub record IsLawful (net : List EndpointRecord) (endpoint : EndpointRecord) : Type 0 where
+  -- each socket was opened as it says, and its history is legal
   pub sockets : (socket : Enrolled) → Contains endpoint.sockets socket → IsSocket socket
   -- an ID names one socket
   pub ids : (socket other : Enrolled) → Contains endpoint.sockets socket → Contains endpoint.sockets other
@@ -206,6 +213,7 @@ pub record IsLawful (net : List EndpointRecord) (endpoint : EndpointRecord) : Ty
   pub addressed : (socket : Enrolled) (emission : Emission) (packet : Packet) → Contains endpoint.sockets socket
       → Contains (emitted socket.history) emission → read emission.datagram.bytes ≡ Ok packet → is_handshake packet ≡ false
       → own_peer socket.history ≡ Some (record { addr = emission.datagram.addr; id = destination packet })
+  -- each socket has met its peer
   pub met : (socket : Enrolled) → Contains endpoint.sockets socket → IsMet net endpoint.addr socket
 
 -- all records are lawful, and an address has one
@@ -235,13 +243,14 @@ pub record WasEmitted (net : List EndpointRecord) (s : State) (from to : Addr) (
   pub close : (packet : Packet) (offset : ℕ) → read bytes ≡ Ok packet → Contains emission.offsets offset
       → IsClose offset (read_by s packet)
 
+-- an arrival at a socket of this address in this state was so emitted. Calls are free
 abbrev pub IsHonestAct : List EndpointRecord → Addr → State → Act → Type 0
 IsHonestAct net addr s (Send bytes) = Unit {0}
 IsHonestAct net addr s (Recv room) = Unit {0}
 IsHonestAct net addr s Pack = Unit {0}
 IsHonestAct net addr s (Arrive from bytes) = WasEmitted net s from addr bytes
 
--- each arrival of these items at a socket of this address was so emitted. No order in time is asked
+-- and so was each arrival of these items. No order in time is asked
 unfoldable pub AreHonest : List EndpointRecord → Addr → State → List Item → Type 0
 AreHonest net addr s [] = Unit {0}
 AreHonest net addr s (item ∷ items) = IsHonestAct net addr s item.event.act × AreHonest net addr (step s item.event).after items
