@@ -3,3 +3,4 @@ pub mod PackLemmas
 pub mod CellLemmas
 pub mod PlaceLemmas
 pub mod SettleLemmas
+pub mod ReadLemmas

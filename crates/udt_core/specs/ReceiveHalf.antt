@@ -3,6 +3,7 @@ use Rattle.std.specs.Prelude.{◌≡◌, ℕ, ◌<◌, ◌≤◌, true, false, L
 use Rattle.std.specs.VecDeque.{deque_len}
 use Rattle.udt_model.specs.declared.limits.TheConstants.{MOST_PAYLOAD, MOST_BLOCKS, PACKET_LIMIT}
 use Rattle.udt_model.specs.State.{Receiving}
+use Rattle.udt_model.specs.Receiving.{Front}
 use Rattle.udt_core.specs.declared.receiving.Receiver.TheInside.{Inside}
 use Rattle.udt_core.specs.Cells.{IsCell, IsGivenOf, AreBelow, placed_from}
 
@@ -29,3 +30,7 @@ pub record IsReceiver (r : Inside) : Type 0 where
   -- a block lies below the limit
   pub below : AreBelow r.base r.cells.items
   pub given : IsGivenOf r.given r.cells.items
+
+-- where it stands
+abbrev pub front_of : Inside → Front
+front_of r = record { base = r.base; given = r.given; placed = placed_from r.base r.cells.items }

@@ -227,16 +227,18 @@ impl Receiver {
 
     /// Gives the bytes that follow one another from the base on, as far as there is room, and says
     /// how many.
+    #[tactic(auto, unfolding(udt_model::specs::Receiving::receive_answer))]
     pub fn recv(&mut self, into: &mut [u8]) -> Result<usize, Refusal>
         ensures reply { receive_answer self.old (length into.old) ≡ received_in result into.new }
         ensures after { self.new ≡ after_receive self.old (length into.old) }
         ensures rest { IfOk result (λ count. drop count into.new ≡ drop count into.old) }
         ensures err { OnErr result (into.new ≡ into.old) }
     {
+        let waits = self.cells[0].used;
         if into.is_empty() {
             return Ok(0);
         }
-        if !self.cells[0].used {
+        if !waits {
             return Err(Refusal::AgainRecv);
         }
         let mut filled = 0;

@@ -3,6 +3,7 @@
 ghost use Rattle.std.specs.Prelude.{◌≡◌, ◌≢◌, ◌+◌, ◌<◌, ◌≤◌, ◌^◌, length, take, drop, Ok, IfOk, OnErr, IsErrOf, IsTrue, ◌↔◌};
 ghost use Rattle.udt_model.specs.declared.packets.Kind.TheVariants.{Stream};
 ghost use Rattle.udt_model.specs.declared.limits.TheConstants.{LAST_START};
+ghost use Rattle.udt_model.specs.Addresses.{same_addr};
 ghost use Rattle.udt_model.specs.State.{Datagram};
 ghost use Rattle.udt_model.specs.Step.{Send, Recv, Pack, Arrive, Sent, Received, DidPack, DidHear, step, opening, at_moment, risen as one_more, on_block as block_arrives};
 ghost use Rattle.udt_core.specs.Opening.{IsInRange};
@@ -125,6 +126,7 @@ impl Socket {
     }
 
     // Takes the memory of both halves.
+    #[tactic(auto, unfolding(udt_model::specs::Step::opening))]
     fn taken(
         alloc: Global,
         own: u32,
@@ -156,6 +158,7 @@ impl Socket {
 
     /// Takes as many of the bytes as fit into the free blocks. Spent comes where the direction has
     /// carried all the packets that it may, AgainSend where no block is free.
+    #[tactic(auto, unfolding(udt_model::specs::Step::step))]
     pub fn send(&mut self, now: u64, bytes: &[u8]) -> Result<usize, Refusal>
         ensures reply {
             Sent result ≡ (step self.old (record { now = now; act = Send bytes.now })).reply }
@@ -167,6 +170,7 @@ impl Socket {
     }
 
     /// Gives the first bytes that wait, as far as there is room. AgainRecv comes where none waits.
+    #[tactic(auto, unfolding(udt_model::specs::Step::step))]
     pub fn recv(&mut self, now: u64, into: &mut [u8]) -> Result<usize, Refusal>
         ensures reply { Received (received_in result into.new)
             ≡ (step self.old (record { now = now; act = Recv (length into.old) })).reply }
@@ -180,6 +184,7 @@ impl Socket {
     }
 
     /// Emits the next block, where the time has come and both windows allow it.
+    #[tactic(auto, unfolding(udt_model::specs::Step::step, udt_model::specs::Sending::after_pack))]
     pub fn pack(&mut self, now: u64, outs: &mut Outs) -> Packed
         ensures reply { DidPack result ≡ (step self.old (record { now = now; act = Pack })).reply }
         ensures after { self.new ≡ (step self.old (record { now = now; act = Pack })).after }
@@ -196,6 +201,7 @@ impl Socket {
     }
 
     /// Takes in a datagram that came from this address.
+    #[tactic(auto, unfolding(udt_model::specs::Step::step))]
     pub fn arrive(&mut self, now: u64, from: Addr, bytes: &[u8], outs: &mut Outs) -> Heard
         ensures reply {
             DidHear result ≡ (step self.old (record { now = now; act = Arrive from bytes.now })).reply }
@@ -212,7 +218,7 @@ impl Socket {
                 Heard::Malformed(why)
             }
             Ok(Packet::Block { seq, flags, dest, bytes, .. }) => {
-                if from != self.peer.addr || dest != self.own {
+                if !is_same(from, self.peer.addr) || dest != self.own {
                     self.counts.foreign = risen(self.counts.foreign);
                     return Heard::Foreign;
                 }
@@ -257,6 +263,13 @@ impl Socket {
         self.last = now.min(LAST_MOMENT).max(self.last);
         self.count = risen(self.count);
     }
+}
+
+// The addresses are the same.
+fn is_same(one: Addr, other: Addr) -> bool
+    ensures { result ≡ same_addr one other }
+{
+    one == other
 }
 
 // One more, where there is one.
