@@ -1,5 +1,6 @@
 -- Records of endpoints: what their sockets emitted and what it names, and when the records are lawful and honest.
--- The network may lose, repeat and reorder (Gu and Grossman, Computer Networks 51, 2007, section 3): a record keeps all that was ever emitted, and each arrival is one of these.
+-- The network may lose, repeat and reorder (Gu and Grossman, Computer Networks, 2007), so a record keeps all that was
+-- ever emitted, and each arrival is one of these.
 use Rattle.std.specs.Prelude.{◌≡◌, ℕ, ◌+◌, ◌^◌, ◌<◌, ◌≤◌, Bool, false, List, [], ◌∷◌, ◌++◌, Option, Some, Ok, slice_get}
 use Rattle.std.specs.List.{Contains, concat}
 use Rattle.udt_model.specs.declared.limits.TheConstants.{LAST_START, MOST_PAYLOAD, FEWEST_BLOCKS, MOST_BLOCKS}
@@ -31,6 +32,7 @@ named_by_packing s (Waits until) = []
 named_by_packing s (Sends block) = (s.sending.next ∷ []) ∷ []
 named_by_packing s Idles = []
 
+-- packing alone emits anything so far
 abbrev pub named_by_act : State → Act → List (List ℕ)
 named_by_act s (Send bytes) = []
 named_by_act s (Recv room) = []
@@ -48,6 +50,7 @@ with_offsets (datagram ∷ datagrams) [] = []
 with_offsets (datagram ∷ datagrams) (named ∷ others) =
     record { datagram = datagram; offsets = named } ∷ with_offsets datagrams others
 
+-- what these items emitted, from this state on
 unfoldable pub emitted_by : State → List Item → List Emission
 emitted_by s [] = []
 emitted_by s (item ∷ items) = with_offsets item.outs (named s item.event) ++ emitted_by (step s item.event).after items
@@ -56,14 +59,25 @@ emitted_by s (item ∷ items) = with_offsets item.outs (named s item.event) ++ e
 abbrev pub emitted : History → List Emission
 emitted h = emitted_by h.opening h.items
 
+-- what these items emitted, without the offsets
+unfoldable pub sent_by : List Item → List Datagram
+sent_by [] = []
+sent_by (item ∷ items) = item.outs ++ sent_by items
+
+-- all datagrams that a socket emitted, in order
+abbrev pub sent : History → List Datagram
+sent h = sent_by h.items
+
 -- ---- what arrived
 
+-- what arrives with an event, with the address that it comes from
 abbrev pub arrived_by_act : Act → List Datagram
 arrived_by_act (Send bytes) = []
 arrived_by_act (Recv room) = []
 arrived_by_act Pack = []
 arrived_by_act (Arrive from bytes) = record { addr = from; bytes = bytes } ∷ []
 
+-- what arrived with these items
 unfoldable pub arrived_by : List Item → List Datagram
 arrived_by [] = []
 arrived_by (item ∷ items) = arrived_by_act item.event.act ++ arrived_by items
@@ -81,7 +95,8 @@ pub record IsCarried (datagrams : List Datagram) (id : ℕ) (addr : Addr) (numbe
   pub from : datagram.addr ≡ addr
   pub reads : read datagram.bytes ≡ Ok (Block number flags stamp id payload)
 
--- the bytes are a prefix of payloads that the datagrams from this address carry to this ID, the n-th under the wire number of n
+-- the bytes are a prefix of payloads that the datagrams from this address carry to this ID, the n-th under the wire
+-- number of n
 pub record IsMadeOf (bytes : List ℕ) (datagrams : List Datagram) (id : ℕ) (addr : Addr) (isn : ℕ) : Type 0 where
   pub payloads : List (List ℕ)
   pub carried : (n : ℕ) (payload : List ℕ) → slice_get payloads n ≡ Some payload
@@ -90,16 +105,24 @@ pub record IsMadeOf (bytes : List ℕ) (datagrams : List Datagram) (id : ℕ) (a
 
 -- ---- sockets and endpoints
 
--- the values with which a socket is opened that is connected from then on are in their ranges
+-- the values with which a socket can be opened: the payload and the blocks lie in their ranges, the agreed payload
+-- isn't 0, and the start isn't too late
+pub record CanOpen (config : Config) (peer : Peer) (start : ℕ) : Type 0 where
+  pub payload : 1 ≤ config.payload
+  pub most_payload : config.payload ≤ MOST_PAYLOAD
+  pub snd_blocks : FEWEST_BLOCKS ≤ config.snd_blocks
+  pub most_snd_blocks : config.snd_blocks ≤ MOST_BLOCKS
+  pub rcv_blocks : FEWEST_BLOCKS ≤ config.rcv_blocks
+  pub most_rcv_blocks : config.rcv_blocks ≤ MOST_BLOCKS
+  pub peer_payload : 1 ≤ peer.payload
+  pub within : start ≤ LAST_START
+
+-- and the IDs and the initial number fit their places
 pub record IsOpening (own : ℕ) (config : Config) (peer : Peer) (start : ℕ) : Type 0 where
+  pub values : CanOpen config peer start
   pub own_fits : own < 2 ^ 32
   pub id_fits : peer.id < 2 ^ 32
   pub isn_fits : peer.isn < 2 ^ 31
-  pub payload_within : (1 ≤ config.payload) × (config.payload ≤ MOST_PAYLOAD)
-  pub peer_payload : 1 ≤ peer.payload
-  pub snd_within : (FEWEST_BLOCKS ≤ config.snd_blocks) × (config.snd_blocks ≤ MOST_BLOCKS)
-  pub rcv_within : (FEWEST_BLOCKS ≤ config.rcv_blocks) × (config.rcv_blocks ≤ MOST_BLOCKS)
-  pub start_within : start ≤ LAST_START
 
 -- how a socket was opened. So far only a script opens one, with its peer and the offset at which both directions begin
 pub data Way : Type 0 where
@@ -109,6 +132,7 @@ pub data Way : Type 0 where
 abbrev pub opened_by : ℕ → Way → State
 opened_by own (PairedAt config peer now start) = opening own config peer now start
 
+-- the values of an opening are in their ranges
 abbrev pub IsWay : ℕ → Way → Type 0
 IsWay own (PairedAt config peer now start) = IsOpening own config peer start
 
@@ -129,12 +153,20 @@ pub record EndpointRecord : Type 0 where
   pub addr : Addr
   pub sockets : List Enrolled
 
+-- the records have this socket at an endpoint of this address
+pub record StandsAt (net : List EndpointRecord) (addr : Addr) (socket : Enrolled) : Type 0 where
+  pub endpoint : EndpointRecord
+  pub among : Contains net endpoint
+  pub addr_is : endpoint.addr ≡ addr
+  pub enrolled : Contains endpoint.sockets socket
+
 -- an address and the ID of a socket there
 pub record PeerPair : Type 0 where
   pub addr : Addr
   pub id : ℕ
 
--- the own peer: the pair that the state after a history names as peer. It never changes once it is set, which so far it is from the opening on
+-- the own peer: the pair that the state after a history names as peer. It never changes once it is set, which so far
+-- it is from the opening on
 abbrev pub own_peer : History → Option PeerPair
 own_peer h = Some (record { addr = (state_of h).peer.addr; id = (state_of h).peer.id })
 
@@ -148,19 +180,19 @@ is_handshake (Block seq flags stamp dest bytes) = false
 abbrev pub destination : Packet → ℕ
 destination (Block seq flags stamp dest bytes) = dest
 
--- a script made both sockets as a pair: each is the other's peer, and kind, initial number and first offset are the same
+-- a script made both sockets as a pair: each is the other's peer, and kind, initial number and first offset are the
+-- same
 abbrev pub ArePaired : Addr → ℕ → Way → Addr → ℕ → Way → Type 0
-ArePaired addr own (PairedAt config peer now start) addr′ own′ (PairedAt config′ peer′ now′ start′) =
-    (peer.addr ≡ addr′) × (peer.id ≡ own′) × (peer′.addr ≡ addr) × (peer′.id ≡ own) × (config′.kind ≡ config.kind)
-    × (peer′.isn ≡ peer.isn) × (start′ ≡ start)
+ArePaired addr own (PairedAt config peer now start) other_addr other_own (PairedAt other_config other_peer other_now other_start) =
+    (peer.addr ≡ other_addr) × (peer.id ≡ other_own) × (other_peer.addr ≡ addr) × (other_peer.id ≡ own) × (other_config.kind ≡ config.kind)
+    × (other_peer.isn ≡ peer.isn) × (other_start ≡ start)
 
 -- the records have the socket's other half
 pub record IsPaired (net : List EndpointRecord) (addr : Addr) (socket : Enrolled) : Type 0 where
-  pub endpoint : EndpointRecord
+  pub other_addr : Addr
   pub other : Enrolled
-  pub among : Contains net endpoint
-  pub enrolled : Contains endpoint.sockets other
-  pub paired : ArePaired addr socket.own socket.way endpoint.addr other.own other.way
+  pub stands : StandsAt net other_addr other
+  pub paired : ArePaired addr socket.own socket.way other_addr other.own other.way
 
 -- why a socket may be connected to its peer: so far, since a script paired them
 abbrev pub IsMet : List EndpointRecord → Addr → Enrolled → Type 0
@@ -168,6 +200,7 @@ IsMet net addr socket = IsPaired net addr socket
 
 -- the record of an endpoint, among these records, is one that sockets and routes make
 pub record IsLawful (net : List EndpointRecord) (endpoint : EndpointRecord) : Type 0 where
+  -- each socket was opened as it says, and its history is legal
   pub sockets : (socket : Enrolled) → Contains endpoint.sockets socket → IsSocket socket
   -- an ID names one socket
   pub ids : (socket other : Enrolled) → Contains endpoint.sockets socket → Contains endpoint.sockets other
@@ -175,10 +208,12 @@ pub record IsLawful (net : List EndpointRecord) (endpoint : EndpointRecord) : Ty
   -- no two sockets have the same peer
   pub peers : (socket other : Enrolled) (peer : PeerPair) → Contains endpoint.sockets socket → Contains endpoint.sockets other
       → own_peer socket.history ≡ Some peer → own_peer other.history ≡ Some peer → socket ≡ other
-  -- what isn't a handshake goes to the own peer of the socket that emits it. What handshakes carry is said here once there are any
+  -- what isn't a handshake goes to the own peer of the socket that emits it. What handshakes carry is said here once
+  -- there are any
   pub addressed : (socket : Enrolled) (emission : Emission) (packet : Packet) → Contains endpoint.sockets socket
       → Contains (emitted socket.history) emission → read emission.datagram.bytes ≡ Ok packet → is_handshake packet ≡ false
       → own_peer socket.history ≡ Some (record { addr = emission.datagram.addr; id = destination packet })
+  -- each socket has met its peer
   pub met : (socket : Enrolled) → Contains endpoint.sockets socket → IsMet net endpoint.addr socket
 
 -- all records are lawful, and an address has one
@@ -197,26 +232,25 @@ IsClose offset other = (offset < other + 2 ^ 30) × (other < offset + 2 ^ 30)
 abbrev pub read_by : State → Packet → ℕ
 read_by s (Block seq flags stamp dest bytes) = s.receiving.top
 
--- these bytes from this address were emitted there, to the other address, and all that they name lies near where a socket in this state reads them
+-- these bytes from this address were emitted there, to the other address, and all that they name lies near where a
+-- socket in this state reads them
 pub record WasEmitted (net : List EndpointRecord) (s : State) (from to : Addr) (bytes : List ℕ) : Type 0 where
-  pub endpoint : EndpointRecord
   pub socket : Enrolled
   pub emission : Emission
-  pub among : Contains net endpoint
-  pub addr : endpoint.addr ≡ from
-  pub enrolled : Contains endpoint.sockets socket
+  pub stands : StandsAt net from socket
   pub emits : Contains (emitted socket.history) emission
   pub datagram : emission.datagram ≡ record { addr = to; bytes = bytes }
   pub close : (packet : Packet) (offset : ℕ) → read bytes ≡ Ok packet → Contains emission.offsets offset
       → IsClose offset (read_by s packet)
 
+-- an arrival at a socket of this address in this state was so emitted. Calls are free
 abbrev pub IsHonestAct : List EndpointRecord → Addr → State → Act → Type 0
 IsHonestAct net addr s (Send bytes) = Unit {0}
 IsHonestAct net addr s (Recv room) = Unit {0}
 IsHonestAct net addr s Pack = Unit {0}
 IsHonestAct net addr s (Arrive from bytes) = WasEmitted net s from addr bytes
 
--- each arrival of these items at a socket of this address was so emitted. No order in time is asked
+-- and so was each arrival of these items. No order in time is asked
 unfoldable pub AreHonest : List EndpointRecord → Addr → State → List Item → Type 0
 AreHonest net addr s [] = Unit {0}
 AreHonest net addr s (item ∷ items) = IsHonestAct net addr s item.event.act × AreHonest net addr (step s item.event).after items
@@ -224,5 +258,5 @@ AreHonest net addr s (item ∷ items) = IsHonestAct net addr s item.event.act ×
 -- nothing that arrived was forged, and nothing outlived the passing of 2^30 packets
 abbrev pub IsHonest : List EndpointRecord → Type 0
 IsHonest net =
-    (endpoint : EndpointRecord) (socket : Enrolled) → Contains net endpoint → Contains endpoint.sockets socket
-    → AreHonest net endpoint.addr socket.history.opening socket.history.items
+    (addr : Addr) (socket : Enrolled) → StandsAt net addr socket
+    → AreHonest net addr socket.history.opening socket.history.items

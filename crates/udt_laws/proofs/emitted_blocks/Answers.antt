@@ -1,0 +1,6 @@
+-- The law is proved beside the lemmas on which it stands.
+use Rattle.udt_laws.proofs.Emits.{emitted_blocks}
+use Rattle.udt_laws.proofs.emitted_blocks.Goals as goal
+
+pub returns : goal.returns
+returns c = emitted_blocks

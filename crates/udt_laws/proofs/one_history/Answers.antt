@@ -1,0 +1,6 @@
+-- The law is proved beside the lemmas on which it stands.
+use Rattle.udt_laws.proofs.MadeOf.{one_history}
+use Rattle.udt_laws.proofs.one_history.Goals as goal
+
+pub returns : goal.returns
+returns c = one_history

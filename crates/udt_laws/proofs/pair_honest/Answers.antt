@@ -1,0 +1,6 @@
+-- The law is proved beside the lemmas on which it stands.
+use Rattle.udt_laws.proofs.PairHonest.{pair_honest}
+use Rattle.udt_laws.proofs.pair_honest.Goals as goal
+
+pub returns : goal.returns
+returns c = pair_honest

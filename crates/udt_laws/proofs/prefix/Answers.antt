@@ -1,0 +1,6 @@
+-- The law is proved beside the lemmas on which it stands.
+use Rattle.udt_laws.proofs.Honest.{prefix}
+use Rattle.udt_laws.proofs.prefix.Goals as goal
+
+pub returns : goal.returns
+returns c = prefix

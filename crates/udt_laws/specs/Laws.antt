@@ -1,0 +1,120 @@
+-- The main theorems, as statements about histories and records.
+use Rattle.std.specs.Prelude.{◌≡◌, ℕ, ◌+◌, ◌-◌, ◌%◌, ◌^◌, ◌<◌, ◌≤◌, List, [], ◌∷◌, drop, length, map, Some, Ok, slice_get, false}
+use Rattle.std.specs.List.{Contains, concat}
+use Rattle.udt_model.specs.declared.packets.Flags.{Flags}
+use Rattle.udt_model.specs.declared.packets.Kind.TheVariants.{Stream}
+use Rattle.udt_model.specs.declared.addresses.Addr.{Addr}
+use Rattle.udt_model.specs.Numbers.{wire_number}
+use Rattle.udt_model.specs.Wire.{Packet, Block, read, target}
+use Rattle.udt_model.specs.State.{KeptBlock, Datagram}
+use Rattle.udt_model.specs.History.{History, IsLegal, state_of, start_of, accepted, delivered}
+use Rattle.udt_model.specs.Script.{Seat, network_after}
+use Rattle.udt_model.specs.Records.{IsPrefix, Emission, emitted, sent, arrivals, IsMadeOf, Enrolled, IsSocket, EndpointRecord, StandsAt, PeerPair, own_peer, ArePaired, is_handshake, destination, AreLawful, IsHonest}
+
+-- the socket carries a stream of bytes
+abbrev pub IsStream : History → Type 0
+IsStream h = h.opening.kind ≡ Stream
+
+-- the initial number of what the peer sends
+abbrev pub peer_isn : History → ℕ
+peer_isn h = (state_of h).peer.isn
+
+-- One history: what a stream socket delivered is made of what arrived from its peer's address, whoever sent it
+abbrev pub OneHistory : Type 0
+OneHistory =
+    (socket : Enrolled) (peer : PeerPair) → IsSocket socket → IsStream socket.history → own_peer socket.history ≡ Some peer
+    → IsMadeOf (delivered socket.history) (arrivals socket.history) socket.own peer.addr
+    ((peer_isn socket.history + start_of socket.history) % 2 ^ 31)
+
+-- a data packet that was emitted carries the block of the one offset that it names, to the peer, under the wire
+-- number of that offset
+pub record CarriesBlock (h : History) (blocks : List (List ℕ)) (emission : Emission) (number dest : ℕ) (payload : List ℕ) : Type 0 where
+  pub offset : ℕ
+  pub names : emission.offsets ≡ offset ∷ []
+  pub not_before : start_of h ≤ offset
+  pub carries : slice_get blocks (offset - start_of h) ≡ Some payload
+  pub numbered : number ≡ wire_number (state_of h).sending.isn offset
+  pub sent_to : emission.datagram.addr ≡ (state_of h).peer.addr
+  pub destined : dest ≡ (state_of h).peer.id
+
+-- the blocks of a history, the first at the offset at which it begins: joined they are what was accepted, the kept
+-- ones are the last of them, and data packets carry no others
+pub record HasBlocks (h : History) : Type 0 where
+  pub blocks : List (List ℕ)
+  pub joined : concat blocks ≡ accepted h
+  pub kept : map (λ (block : KeptBlock). block.bytes) (state_of h).sending.kept
+      ≡ drop ((state_of h).sending.acked - start_of h) blocks
+  pub emits : (emission : Emission) (number : ℕ) (flags : Flags) (stamp dest : ℕ) (payload : List ℕ)
+      → Contains (emitted h) emission → read emission.datagram.bytes ≡ Ok (Block number flags stamp dest payload)
+      → CarriesBlock h blocks emission number dest payload
+
+-- Emitted blocks: what a stream socket sends are the blocks of what it accepted, each under its own number
+abbrev pub EmittedBlocks : Type 0
+EmittedBlocks = (socket : Enrolled) → IsSocket socket → IsStream socket.history → HasBlocks socket.history
+
+-- All named: of a legal history all datagrams that it sent are emitted ones with the offsets that they name, in order
+abbrev pub AllNamed : Type 0
+AllNamed = (h : History) → IsLegal h → map (λ (emission : Emission). emission.datagram) (emitted h) ≡ sent h
+
+-- Addressed: what a socket emits that isn't a handshake goes to its own peer
+abbrev pub Addressed : Type 0
+Addressed =
+    (socket : Enrolled) (emission : Emission) (packet : Packet) → IsSocket socket → Contains (emitted socket.history) emission
+    → read emission.datagram.bytes ≡ Ok packet → is_handshake packet ≡ false
+    → own_peer socket.history ≡ Some (record { addr = emission.datagram.addr; id = destination packet })
+
+-- Prefix: where records are lawful and honest, what a stream socket delivered is a prefix of what its own peer accepted
+abbrev pub Prefix : Type 0
+Prefix =
+    (net : List EndpointRecord) (addr : Addr) (receiver sender : Enrolled) (peer : PeerPair) → AreLawful net → IsHonest net
+    → StandsAt net addr receiver → IsStream receiver.history → own_peer receiver.history ≡ Some peer
+    → StandsAt net peer.addr sender → sender.own ≡ peer.id
+    → IsPrefix (delivered receiver.history) (accepted sender.history)
+
+-- a datagram has the bytes of one that the socket emitted
+abbrev pub WasSentBy : Enrolled → Datagram → Type 0
+WasSentBy sender datagram = (sent_one : Datagram) × Contains (sent sender.history) sent_one × (sent_one.bytes ≡ datagram.bytes)
+
+-- each datagram that came from this address for the receiver has the bytes of one that the sender emitted
+abbrev pub ComesFrom : Enrolled → Addr → Enrolled → Type 0
+ComesFrom receiver from sender =
+    (datagram : Datagram) → Contains (arrivals receiver.history) datagram → datagram.addr ≡ from
+    → target datagram.bytes ≡ Some receiver.own
+    → WasSentBy sender datagram
+
+-- Pair prefix: the same for two sockets that were made as a pair, where the one emitted fewer than 2^30 datagrams and
+-- the other got no others from there
+abbrev pub PairPrefix : Type 0
+PairPrefix =
+    (addr peer_addr : Addr) (receiver sender : Enrolled) → IsSocket receiver → IsSocket sender
+    → ArePaired addr receiver.own receiver.way peer_addr sender.own sender.way → IsStream receiver.history
+    → ComesFrom receiver peer_addr sender → length (sent sender.history) < 2 ^ 30
+    → IsPrefix (delivered receiver.history) (accepted sender.history)
+
+-- each datagram that came at all came from this address, and has the bytes of one that the sender emitted
+abbrev pub AllComesFrom : Enrolled → Addr → Enrolled → Type 0
+AllComesFrom receiver from sender =
+    (datagram : Datagram) → Contains (arrivals receiver.history) datagram → (datagram.addr ≡ from) × WasSentBy sender datagram
+
+-- the records of two endpoints with one socket each
+abbrev pub both_records : Addr → Enrolled → Addr → Enrolled → List EndpointRecord
+both_records addr socket other_addr other =
+    record { addr = addr; sockets = socket ∷ [] } ∷ record { addr = other_addr; sockets = other ∷ [] } ∷ []
+
+-- Pair honest: the records of two sockets that were made as a pair, of which each got from the other alone, and that
+-- emitted fewer than 2^30 datagrams each, are lawful and honest
+abbrev pub PairHonest : Type 0
+PairHonest =
+    (addr other_addr : Addr) (socket other : Enrolled) → (addr ≡ other_addr → ⊥) → IsSocket socket → IsSocket other
+    → ArePaired addr socket.own socket.way other_addr other.own other.way → AllComesFrom socket other_addr other → AllComesFrom other addr socket
+    → length (sent socket.history) < 2 ^ 30 → length (sent other.history) < 2 ^ 30
+    → AreLawful (both_records addr socket other_addr other) × IsHonest (both_records addr socket other_addr other)
+
+-- Script prefix: whatever the lines of a script deliver, lose, repeat and reorder, what a socket of it delivered is a
+-- prefix of what its own peer accepted
+abbrev pub ScriptPrefix : Type 0
+ScriptPrefix =
+    (lines : List (List ℕ)) (place peer_place : ℕ) (seat peer : Seat) → length lines < 2 ^ 30
+    → slice_get (network_after lines).seats place ≡ Some seat → slice_get (network_after lines).seats peer_place ≡ Some peer
+    → own_peer seat.history ≡ Some (record { addr = peer.host; id = peer_place + 1 })
+    → IsPrefix (delivered seat.history) (accepted peer.history)

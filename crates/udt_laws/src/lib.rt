@@ -1,0 +1,51 @@
+//! The main theorems of the protocol, each the contract of an empty function.
+#![tactic(auto)]
+
+ghost use Rattle.udt_laws.specs.Laws.{OneHistory, EmittedBlocks, AllNamed, Addressed};
+ghost use Rattle.udt_laws.specs.Laws.{Prefix, PairPrefix, PairHonest, ScriptPrefix};
+
+/// Whatever arrives, a stream socket delivers a front of the payloads that came from its peer's
+/// address, each under the wire number of its place.
+pub fn one_history()
+    ensures { OneHistory }
+{}
+
+/// What a stream socket sends are the blocks of the bytes that it accepted, each under the wire
+/// number of its offset.
+pub fn emitted_blocks()
+    ensures { EmittedBlocks }
+{}
+
+/// Each datagram that a history sent stands among the emitted ones, in order.
+pub fn all_named()
+    ensures { AllNamed }
+{}
+
+/// What a socket emits once it has a peer goes to that peer.
+pub fn addressed()
+    ensures { Addressed }
+{}
+
+/// Where no datagram is forged and none outlives 2^30 packets, what a stream socket delivers is a
+/// prefix of what its own peer accepted.
+pub fn prefix()
+    ensures { Prefix }
+{}
+
+/// The same for two sockets that were made as a pair, of which the sender emitted fewer than 2^30
+/// datagrams.
+pub fn pair_prefix()
+    ensures { PairPrefix }
+{}
+
+/// The records of two sockets that were made as a pair are lawful and honest, where each got from
+/// the other alone and both emitted fewer than 2^30 datagrams.
+pub fn pair_honest()
+    ensures { PairHonest }
+{}
+
+/// Whatever the lines of a script deliver, what a socket of it delivers is a prefix of what its own
+/// peer accepted.
+pub fn script_prefix()
+    ensures { ScriptPrefix }
+{}
