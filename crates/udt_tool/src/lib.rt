@@ -1,0 +1,4 @@
+//! The commands of the program, over sources and sinks of bytes.
+#![tactic(auto)]
+
+mod world;
