@@ -6,7 +6,10 @@ pub mod Sending
 pub mod Receiving
 pub mod Step
 pub mod History
-pub mod Records
 pub mod Words
 pub mod Lines
 pub mod Script
+pub mod Timing
+pub mod Records
+pub mod Controls
+pub mod Rate

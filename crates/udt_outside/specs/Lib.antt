@@ -2,3 +2,4 @@ pub mod Faults
 pub mod Streams
 pub mod Calls
 pub mod Memory
+pub mod Writing

@@ -9,8 +9,8 @@ pub record Input : Type 0 where
   pub calls : Schedule
 
 -- what it has left is told
-abbrev pub told_left : Input → Option (List ℕ)
-told_left s = Some s.left
+abbrev pub to_give : Input → Option (List ℕ)
+to_give s = Some s.left
 
 -- how many calls failed
 abbrev pub read_faults : Input → ℕ
@@ -43,8 +43,8 @@ pub record IsFreshOutput (s : Output) (room piece : ℕ) (failing : List ℕ) : 
   pub none_refused : s.refused ≡ 0
 
 -- what it took is told
-abbrev pub told_taken : Output → Option (List ℕ)
-told_taken s = Some s.taken
+abbrev pub took : Output → Option (List ℕ)
+took s = Some s.taken
 
 -- how many calls failed, by the list or for want of room
 abbrev pub write_faults : Output → ℕ

@@ -75,19 +75,19 @@ impl Sink for MemorySink {
     ghost use Rattle.std.specs.Prelude.{◌≡◌, ◌≤◌, ◌<◌, length, is_err, OnErr, IfOk};
     ghost use Rattle.udt_outside.specs.Faults.{Rose};
     ghost use Rattle.udt_outside.specs.Streams.{Takes};
-    ghost use Rattle.udt_outside.specs.Memory.{told_taken, write_faults, write_fails, taken_of, after_taking, after_failing};
+    ghost use Rattle.udt_outside.specs.Memory.{took, write_faults, write_fails, taken_of, after_taking, after_failing};
 
     ghost faults = { write_faults };
 
-    ghost taken = { told_taken };
+    ghost taken = { took };
 
     fn write(&mut self, bytes: &[u8]) -> Result<usize, Failed>
         ensures faults_stay { write_faults self.old ≤ write_faults self.new }
         ensures failed { OnErr result (Rose (write_faults self.old) (write_faults self.new)) }
         ensures within { IfOk result (λ n. n ≤ length bytes.now) }
         ensures some { IfOk result (λ n. 0 < length bytes.now → 0 < n) }
-        ensures ok { IfOk result (λ n. Takes (told_taken self.old) (told_taken self.new) bytes.now n) }
-        ensures err { OnErr result (told_taken self.new ≡ told_taken self.old) }
+        ensures ok { IfOk result (λ n. Takes (took self.old) (took self.new) bytes.now n) }
+        ensures err { OnErr result (took self.new ≡ took self.old) }
         ensures fails { is_err result ≡ write_fails self.old bytes.now }
         ensures value { IfOk result (λ n. n ≡ taken_of self.old bytes.now) }
         ensures next { IfOk result (λ n. self.new ≡ after_taking self.old bytes.now n) }

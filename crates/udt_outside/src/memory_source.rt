@@ -55,19 +55,19 @@ impl Source for MemorySource {
     ghost use Rattle.udt_outside.specs.Faults.{Rose};
     ghost use Rattle.udt_outside.specs.Streams.{Gives, EndsOnlyWhenEmpty};
     ghost use Rattle.udt_outside.specs.Calls.{fails_next};
-    ghost use Rattle.udt_outside.specs.Memory.{told_left, read_faults, given_of, after_giving};
+    ghost use Rattle.udt_outside.specs.Memory.{to_give, read_faults, given_of, after_giving};
 
     ghost faults = { read_faults };
 
-    ghost left = { told_left };
+    ghost left = { to_give };
 
     fn read(&mut self, into: &mut [u8]) -> Result<usize, Failed>
         ensures faults_stay { read_faults self.old ≤ read_faults self.new }
         ensures failed { OnErr result (Rose (read_faults self.old) (read_faults self.new)) }
         ensures within { IfOk result (λ n. n ≤ length into.old) }
-        ensures ok { IfOk result (λ n. Gives (told_left self.old) (told_left self.new) into.new n) }
-        ensures end { IfOk result (λ n. EndsOnlyWhenEmpty (told_left self.old) (length into.old) n) }
-        ensures err { OnErr result (told_left self.new ≡ told_left self.old) }
+        ensures ok { IfOk result (λ n. Gives (to_give self.old) (to_give self.new) into.new n) }
+        ensures end { IfOk result (λ n. EndsOnlyWhenEmpty (to_give self.old) (length into.old) n) }
+        ensures err { OnErr result (to_give self.new ≡ to_give self.old) }
         ensures fails_by_list { is_err result ≡ fails_next self.old.calls }
         ensures value { IfOk result (λ n. n ≡ given_of self.old (length into.old)) }
         ensures next { IfOk result (λ n. self.new ≡ after_giving self.old n) }

@@ -1,12 +1,12 @@
--- The header and the bytes behind it are the spelling, and each goes behind what was there.
-use Rattle.std.proofs.Common.{rules, ◌≡◌, ℕ, List, ◌++◌, append_assoc}
+-- The header and the bytes behind it are the spelling.
+use Rattle.std.proofs.Common.{rules, ◌≡◌, ℕ, List, ◌++◌, ◌∙◌, ap}
 use Rattle.udt_model.specs.Wire.{spelling}
 use Rattle.udt_packet.proofs.writing.append.Goals as goal
 
--- two parts that go behind a list, one after the other, go there as one
-joined : (into between after front back whole : List ℕ) → between ≡ into ++ front → after ≡ between ++ back → whole ≡ front ++ back → after ≡ into ++ whole
-joined into between after front back whole first second parts = rw (second, first, parts) (append_assoc into front back)
+-- the same list behind another, in another spelling
+behind : (front after part whole : List ℕ) → after ≡ front ++ part → part ≡ whole → after ≡ front ++ whole
+behind front after part whole put same = put ∙ ap (λ (rest : List ℕ). front ++ rest) same
 
 pub returns-clause-items : goal.returns-clause-items
 unfolding spelling
-returns-clause-items c = joined c.args.into.now.items _ _ c.header.result _ _ c.extend.ensures.items c.extend-2.ensures.items (search rules)
+returns-clause-items c = behind c.args.into.now.items _ _ _ c.extend.ensures.items (search rules)

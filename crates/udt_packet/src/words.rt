@@ -1,0 +1,58 @@
+// The words of a packet's header, and the bytes of a packet put behind one another.
+
+ghost use Rattle.std.specs.Prelude.{◌≡◌, ◌+◌, ◌≤◌, ◌++◌, length, take, drop};
+ghost use Rattle.std.specs.Vec.{vec_len, vec_capacity};
+ghost use Rattle.udt_model.specs.Wire as wire;
+ghost use Rattle.udt_model.specs.Wire.{word};
+
+/// How many bytes stand before the bytes of a block, or the fields of a control packet.
+pub const HEADER: usize = 16;
+
+/// The big-endian word at this place.
+pub fn word_at(bytes: &[u8], place: usize) -> u32
+    requires { place + 4 ≤ length bytes.now }
+    ensures { result ≡ wire.word_at place bytes.now }
+{
+    u32::from_be_bytes([
+        bytes[place],
+        bytes[place + 1],
+        bytes[place + 2],
+        bytes[place + 3],
+    ])
+}
+
+/// Four words, one behind the other.
+pub fn header(first: u32, second: u32, third: u32, fourth: u32) -> [u8; 16]
+    ensures { result ≡ word first ++ word second ++ word third ++ word fourth }
+{
+    let a = first.to_be_bytes();
+    let b = second.to_be_bytes();
+    let c = third.to_be_bytes();
+    let d = fourth.to_be_bytes();
+    [
+        a[0], a[1], a[2], a[3], b[0], b[1], b[2], b[3], c[0], c[1], c[2], c[3], d[0], d[1], d[2],
+        d[3],
+    ]
+}
+
+/// Writes the bytes at this place, and answers the place behind them.
+pub fn put(into: &mut [u8], place: usize, bytes: &[u8]) -> usize
+    requires { place + length bytes.now ≤ length into.old }
+    ensures value { result ≡ place + length bytes.now }
+    ensures after { into.new ≡ take place into.old ++ bytes.now ++ drop result into.old }
+{
+    let end = place + bytes.len();
+    into[place..end].copy_from_slice(bytes);
+    end
+}
+
+/// Adds a header and the bytes behind it, within the room that there is.
+#[tactic(auto, using(std::proofs::Common::append_assoc))]
+pub fn extend(into: &mut Vec<u8>, header: &[u8], rest: &[u8])
+    requires { vec_len into.old + (length header.now + length rest.now) ≤ vec_capacity into.old }
+    ensures items { into.new.items ≡ into.old.items ++ (header.now ++ rest.now) }
+    ensures capacity { vec_capacity into.old ≤ vec_capacity into.new }
+{
+    let _ = into.extend_from_slice(header);
+    let _ = into.extend_from_slice(rest);
+}

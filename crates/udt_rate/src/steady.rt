@@ -1,0 +1,45 @@
+// A control for tests.
+ghost use Rattle.udt_model.specs.Rate.{first_window};
+
+use crate::constants::FIRST_WINDOW;
+use crate::control::{Control, Seen};
+
+/// A control that stays as it is, whatever it is told: the first window, and no period.
+#[derive(Clone, Copy, Debug, PartialEq, Eq)]
+pub struct Steady;
+
+impl Control for Steady {
+    ghost use Rattle.udt_rate.specs.PacedStates.{first_is_in_bounds};
+
+    ghost started = { λ packet flow. record {} };
+
+    ghost window_of = { λ c. first_window };
+
+    ghost period_of = { λ c. 0 };
+
+    ghost after_ack = { λ c seen. c };
+
+    ghost after_nak = { λ c first sent seen. c };
+
+    ghost after_timeout = { λ c seen. c };
+
+    ghost stays_in_bounds = { λ packet flow calls positive allowed. first_is_in_bounds };
+
+    fn start(_packet: u32, _flow: u32) -> Self {
+        Steady
+    }
+
+    fn on_ack(&mut self, _seen: &Seen) {}
+
+    fn on_nak(&mut self, _first: u64, _sent: u64, _seen: &Seen) {}
+
+    fn on_timeout(&mut self, _seen: &Seen) {}
+
+    fn window(&self) -> u32 {
+        FIRST_WINDOW
+    }
+
+    fn period(&self) -> u64 {
+        0
+    }
+}

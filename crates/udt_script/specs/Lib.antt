@@ -1,0 +1,2 @@
+pub mod CodeAnswers
+pub mod CodeLines

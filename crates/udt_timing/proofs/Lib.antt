@@ -1,0 +1,5 @@
+mod Counts
+pub mod Medians
+mod Turns
+pub mod LastOnes
+pub mod Rates

@@ -1,0 +1,3 @@
+pub mod RoundTrips
+pub mod AckHistories
+pub mod Windows
