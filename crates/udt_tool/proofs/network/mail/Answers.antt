@@ -1,0 +1,19 @@
+use Rattle.std.proofs.Common.{rules, ◌≡◌, ℕ, ◌+◌, ◌<◌, ◌≤◌, ◌++◌, List, length, map, take, Some, slice_get, position, vec_len, IfSome, OnOk, OnErr, ◌-◌, ◌*◌, ◌/◌, ◌%◌, Bool, true, false, nat_eq, nat_lt, [], ◌∷◌, slice_index_or, slice_set, bit_and, bit_or, Fits, w8, w32, w64, Bor, MutBor}
+use Rattle.udt_model.specs.Words.{is_word}
+use Rattle.udt_model.specs.State.{Datagram}
+use Rattle.udt_model.specs.Step.{Send, Recv, Pack, Arrive}
+use Rattle.udt_model.specs.Script.{letters_text, letter_from}
+use Rattle.udt_tool.specs.Seats.{letter_of, HasEvent}
+use Rattle.udt_tool.proofs.network.mail.Goals as goal
+
+-- src/network.rt:58:5
+pub loop-i-init : goal.loop-i-init
+loop-i-init c = ?
+
+-- src/network.rt:60:9
+pub returns-in_err-print_letter-clause-err : goal.returns-in_err-print_letter-clause-err
+returns-in_err-print_letter-clause-err c = ?
+
+-- src/network.rt:58:5
+pub loop-i-preserved : goal.loop-i-preserved
+loop-i-preserved c = ?
