@@ -1,0 +1,21 @@
+//! What a value tells of itself, and the histories for which it may stand.
+ghost use Rattle.std.specs.Prelude.{◌≡◌};
+ghost use Rattle.udt_turn.specs.Story.{Telling};
+
+/// A value that stands for a history.
+pub trait Story {
+    /// What an item of a history says, beside the number of the pass that made it. No value of it is made.
+    type Entry;
+
+    // how its histories go on, and what a value tells
+    ghost tale: { Telling Self Self.Entry };
+
+    // some value, which stands in where there is none
+    ghost any: { Self };
+
+    fn count(&self) -> u64
+        ensures { result ≡ tale.count self.now };
+
+    fn bits(&self) -> u8
+        ensures { result ≡ tale.bits self.now };
+}
