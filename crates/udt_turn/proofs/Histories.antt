@@ -1,5 +1,5 @@
 -- Histories that go on: the value after one more item, what is legal still, and whose items they are.
-use Rattle.std.proofs.Common.{◌≡◌, ◌≢◌, ◌⊎◌, ℕ, zero, suc, ◌+◌, ◌<◌, ◌≤◌, Bool, true, false, ◌||◌, List, [], ◌∷◌, ◌++◌, length, refl, sym, ap, ◌∙◌, subst, inl, inr, ⊎_elim, arith, append-nil, append_assoc, length-append}
+use Rattle.std.proofs.Common.{◌≡◌, ◌≢◌, ◌⊎◌, ℕ, zero, suc, ◌+◌, ◌<◌, ◌≤◌, max, Bool, true, false, ◌||◌, List, [], ◌∷◌, ◌++◌, length, refl, sym, ap, ◌∙◌, subst, inl, inr, ⊎_elim, arith, append-nil, append_assoc, length-append}
 use Rattle.std.specs.Prelude.{eqb, if◌then◌else◌, leb}
 use Rattle.udt_turn.specs.Story.{Telling}
 use Rattle.udt_turn.specs.History.{has, keep_if, mine_in, Begins, longer, shorter, value_after, MayFollow, last_from}
@@ -116,3 +116,63 @@ seen_whole names seen items h all =
     let l : length (mine_in names seen) ≡ length seen + length h.rest = ap length e ∙ length-append seen h.rest in
     let none : h.rest ≡ [] = nothing_left h.rest (omega arith) in
     e ∙ ap (λ ys. seen ++ ys) none ∙ append-nil seen
+
+keep_if-empty : {A : Type 0} (b : Bool) (x : A) (xs : List A) → keep_if b x xs ≡ [] → (b ≡ false) × (xs ≡ [])
+keep_if-empty true x xs e = absurd (cc)
+keep_if-empty false x xs e = (refl, e)
+
+if_true : {A : Type 0} (b : Bool) (x y : A) → b ≡ true → (if b then x else y) ≡ x
+if_true true x y e = refl
+if_true false x y e = absurd (cc)
+
+if_false : {A : Type 0} (b : Bool) (x y : A) → b ≡ false → (if b then x else y) ≡ y
+if_false true x y e = absurd (cc)
+if_false false x y e = refl
+
+-- the later of two counts, where one that is new is above both
+later_of : (p q r : Bool) (a b n : ℕ) → r ≡ (p || q) → a ≤ n → b ≤ n → (if r then n else max a b) ≡ max (if p then n else a) (if q then n else b)
+later_of true true r a b n e la lb = ap (λ z. if z then n else max a b) e ∙ omega arith
+later_of true false r a b n e la lb = ap (λ z. if z then n else max a b) e ∙ omega arith
+later_of false true r a b n e la lb = ap (λ z. if z then n else max a b) e ∙ omega arith
+later_of false false r a b n e la lb = ap (λ z. if z then n else max a b) e
+
+no_later : (p : Bool) (a n m : ℕ) → a ≤ n → m ≡ n + 1 → (if p then m else a) ≤ m
+no_later true a n m h e = omega arith
+no_later false a n m h e = omega arith
+
+module _ {V E : Type 0} (t : Telling V E) where
+  pub last_from-append : (names : List ℕ) (s : V) (xs ys : List (ℕ × E)) (c : ℕ) → last_from t names s (xs ++ ys) c ≡ last_from t names (value_after t s xs) ys (last_from t names s xs c)
+  last_from-append names s [] ys c = refl
+  last_from-append names s (x ∷ xs) ys c = last_from-append names (t.after s x.1) xs ys (if has names x.0 then t.count (t.after s x.1) else c)
+
+  pub last_from-none : (names : List ℕ) (s : V) (xs : List (ℕ × E)) (c : ℕ) → mine_in names xs ≡ [] → last_from t names s xs c ≡ c
+  last_from-none names s [] c e = refl
+  last_from-none names s (x ∷ xs) c e =
+      let h = keep_if-empty (has names x.0) x (mine_in names xs) e in
+      last_from-none names (t.after s x.1) xs (if has names x.0 then t.count (t.after s x.1) else c) h.1 ∙ if_false (has names x.0) (t.count (t.after s x.1)) c h.0
+
+  -- an item of one's own is the last one
+  pub last_from-own : (names : List ℕ) (s : V) (xs : List (ℕ × E)) (y : ℕ × E) (c : ℕ) → has names y.0 ≡ true → last_from t names s (xs ++ y ∷ []) c ≡ t.count (t.after (value_after t s xs) y.1)
+  last_from-own names s xs y c h = last_from-append names s xs (y ∷ []) c ∙ if_true (has names y.0) (t.count (t.after (value_after t s xs) y.1)) (last_from t names s xs c) h
+
+  pub last_from-other : (names : List ℕ) (s : V) (xs : List (ℕ × E)) (y : ℕ × E) (c : ℕ) → has names y.0 ≡ false → last_from t names s (xs ++ y ∷ []) c ≡ last_from t names s xs c
+  last_from-other names s xs y c h = last_from-append names s xs (y ∷ []) c ∙ if_false (has names y.0) (t.count (t.after (value_after t s xs) y.1)) (last_from t names s xs c) h
+
+  -- what was seen has the last item of one's own
+  pub last_from-seen : (names : List ℕ) (s : V) (seen items : List (ℕ × E)) (c : ℕ) → Sees names seen items → last_from t names s items c ≡ last_from t names s seen c
+  last_from-seen names s seen items c h =
+      ap (λ xs. last_from t names s xs c) h.is ∙ last_from-append names s seen h.rest c
+      ∙ last_from-none names (value_after t s seen) h.rest (last_from t names s seen c) h.none_of
+
+  -- of two lists of names together the last item is the later of both
+  pub last_from-both : (ms ns : List ℕ) (s : V) (xs : List (ℕ × E)) (a b : ℕ) → a ≤ t.count s → b ≤ t.count s → MayFollow t s xs
+      → last_from t (ms ++ ns) s xs (max a b) ≡ max (last_from t ms s xs a) (last_from t ns s xs b)
+  last_from-both ms ns s [] a b la lb legal = refl
+  last_from-both ms ns s (x ∷ xs) a b la lb legal =
+      let n = t.count (t.after s x.1) in
+      let up : n ≡ t.count s + 1 = legal.1 in
+      let step : (if has (ms ++ ns) x.0 then n else max a b) ≡ max (if has ms x.0 then n else a) (if has ns x.0 then n else b) =
+          later_of (has ms x.0) (has ns x.0) (has (ms ++ ns) x.0) a b n (has-append ms ns x.0) (omega arith) (omega arith) in
+      ap (λ c. last_from t (ms ++ ns) (t.after s x.1) xs c) step
+      ∙ last_from-both ms ns (t.after s x.1) xs (if has ms x.0 then n else a) (if has ns x.0 then n else b)
+          (no_later (has ms x.0) a (t.count s) n la up) (no_later (has ns x.0) b (t.count s) n lb up) legal.2

@@ -9,7 +9,7 @@ use lib.ListN.{get_elem?}
 use Rattle.atomic_table.specs.Table.{State, Me, keeps, Allows, Joins, Step}
 use Rattle.atomic_table.proofs.Lists.{at_set, set_here, set_else}
 use Rattle.udt_turn.specs.Story.{Telling}
-use Rattle.udt_turn.specs.History.{has, mine_in, Begins, longer, shorter, value_after}
+use Rattle.udt_turn.specs.History.{has, mine_in, Begins, longer, shorter, value_after, last_from}
 use Rattle.udt_turn.specs.Rule.{total_of, ticket_of, queues, HasTurn, draws, owned_of, owns, IsLive, IsAlone, Knows, Claims, parts, Each, Some_view, Apart, Sees, IsView, Child, Named, EachItem, NamesInOrder, NumbersFit, AloneHasAll, Kept}
 use Rattle.udt_turn.specs.Kinds.{at_stage, spent, joined, IsWhole, Ends}
 use Rattle.udt_turn.specs.declared.view.View.{View}
@@ -17,7 +17,7 @@ use Rattle.udt_turn.specs.declared.view.Stage.{Stage}
 use Rattle.udt_turn.specs.declared.view.Stage.TheVariants.{Idle, Waiting, Holding, Done, Counting, Owning, Alone, Spent}
 use Rattle.udt_turn.proofs.Views.{total_set, total_two, total_only, total_ge, get_below, same_at, each_set}
 use Rattle.udt_turn.proofs.Parts.{here, some_set, tickets_same, turn_same, names_same, fit_same, each_item_map}
-use Rattle.udt_turn.proofs.Histories.{sees_longer, mine_in-none}
+use Rattle.udt_turn.proofs.Histories.{sees_longer, mine_in-none, last_from-both}
 use Rattle.udt_turn.proofs.Whole.{has_all}
 use Rattle.udt_turn.proofs.Lock.{live_parts, has_some, alone_set, read_back, nothing, staged}
 use Rattle.udt_turn.proofs.Passes.{has_both, has_left, has_right, has_head, child_both, child_left, child_right, longer_case, none_alone}
@@ -92,12 +92,14 @@ module _ {V E : Type 0} (t : Telling V E) (opening : V) where
         turn = turn_same k.served (value_after t opening k.items) s.homes first other u x there (λ h. absurd h) (λ h. absurd (subst HasTurn su h)) (λ h. absurd h)
             (turn_same k.served (value_after t opening k.items) s.homes s.views id v w at (λ h. h) (λ h. h) (λ _. refl) k.turn);
         history = k.history;
-        view = each (λ y. IsLive y.stage → IsView opening k.numbers k.items y) k.view
+        view = each (λ y. IsLive y.stage → IsView t opening k.numbers k.items y) k.view
             (λ _. record {
               opened = mine.opened;
               sees = see.0;
               told = see.1;
               knows = subst (λ z. Knows z w.seen.items k.items) (sym sv) tt;
+              last = ap (λ n. max n u.last) mine.last ∙ ap (λ n. max (last_from t v.names opening k.items 0) n) theirs.last
+                  ∙ sym (last_from-both t v.names u.names opening k.items 0 0 (omega arith) (omega arith) k.history.legal);
               drawn = let a = mine.drawn in let b = theirs.drawn in omega arith;
               own = has_left v.names u.names v.number mine.own;
               above = λ m q. absurd (bad_owned m q)
@@ -187,7 +189,7 @@ module _ {V E : Type 0} (t : Telling V E) (opening : V) where
                   tickets = tickets_same k.served k.drawn s.views id v w at (sym (ap ticket_of stage)) (sym (ap queues stage)) k.tickets;
                   turn = turn_same k.served (value_after t opening k.items) s.homes s.views id v w at (λ h. absurd h) (λ h. absurd (subst HasTurn stage h)) (λ h. absurd h) k.turn;
                   history = k.history;
-                  view = each_set (λ (u : View V E). IsLive u.stage → IsView opening k.numbers k.items u) s.views id w (λ j u _ g. k.view j u g)
+                  view = each_set (λ (u : View V E). IsLive u.stage → IsView t opening k.numbers k.items u) s.views id w (λ j u _ g. k.view j u g)
                       (λ _. staged t opening k.numbers k.items v Alone mine tt (λ m q. let bad : None ≡ Some m = q in absurd (cc)));
                   names = names_same k.numbers k.items s.views id v w at refl refl (sym (ap owned_of stage)) k.names;
                   fit = fit_same k.numbers s.views id v w at (sym (ap draws stage)) (ap (λ m. length v.names + m) (sym o)) k.fit;

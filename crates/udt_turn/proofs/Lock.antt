@@ -9,7 +9,7 @@ use lib.ListN.{get_elem?}
 use Rattle.atomic_table.specs.Table.{State, Me, Act, keeps, takes, gives, Allows, Step, step, put_back, rest}
 use Rattle.atomic_table.proofs.Lists.{at_set, set_here, set_else, set_again, one_turn}
 use Rattle.udt_turn.specs.Story.{Telling}
-use Rattle.udt_turn.specs.History.{has, mine_in, Begins, value_after, MayFollow}
+use Rattle.udt_turn.specs.History.{has, mine_in, Begins, value_after, MayFollow, last_from}
 use Rattle.udt_turn.specs.Rule.{total_of, ticket_of, queues, HasTurn, draws, owned_of, owns, IsLive, IsAlone, Knows, Claims, parts, Each, Some_view, Apart, Tickets, TicketsInOrder, OneHasTurn, Sees, IsView, Told, NamesInOrder, NumbersFit, AloneHasAll, Kept}
 use Rattle.udt_turn.specs.Kinds.{at_stage, seeing, ticket_in, IsWhole, IsSound, Draws, Takes, Reads, Calls}
 use Rattle.udt_turn.specs.declared.view.View.{View}
@@ -27,13 +27,13 @@ has_some [] m h = absurd (cc)
 has_some (n ∷ ns) m h = omega arith
 
 module _ {V E : Type 0} (t : Telling V E) (opening : V) where
-  pub live_parts : (numbers : ℕ) (items : List (ℕ × E)) (v : View V E) → IsView opening numbers items v → 1 ≤ parts v
+  pub live_parts : (numbers : ℕ) (items : List (ℕ × E)) (v : View V E) → IsView t opening numbers items v → 1 ≤ parts v
   live_parts numbers items v h = let n = has_some v.names v.number h.own in omega arith
 
   -- a view at another stage
-  pub staged : (numbers : ℕ) (items : List (ℕ × E)) (v : View V E) (st : Stage E) → IsView opening numbers items v → Knows st v.seen.items items → ((n : ℕ) → owned_of st ≡ Some n → v.number < n)
-      → IsView opening numbers items (at_stage v st)
-  staged numbers items v st h knows above = record { opened = h.opened; sees = h.sees; told = h.told; knows = knows; drawn = h.drawn; own = h.own; above = above }
+  pub staged : (numbers : ℕ) (items : List (ℕ × E)) (v : View V E) (st : Stage E) → IsView t opening numbers items v → Knows st v.seen.items items → ((n : ℕ) → owned_of st ≡ Some n → v.number < n)
+      → IsView t opening numbers items (at_stage v st)
+  staged numbers items v st h knows above = record { opened = h.opened; sees = h.sees; told = h.told; knows = knows; last = h.last; drawn = h.drawn; own = h.own; above = above }
 
   -- a pass in the queue is live
   queued_live : (st : Stage E) → 1 ≤ queues st → IsLive st
@@ -107,7 +107,7 @@ module _ {V E : Type 0} (t : Telling V E) (opening : V) where
           };
           turn = turn_same k.served (value_after t opening k.items) s.homes s.views id v w at (λ h. absurd h) (λ h. absurd (subst HasTurn e h)) (λ h. absurd h) k.turn;
           history = k.history;
-          view = each_set (λ (u : View V E). IsLive u.stage → IsView opening k.numbers k.items u) s.views id w (λ j u n g. k.view j u g)
+          view = each_set (λ (u : View V E). IsLive u.stage → IsView t opening k.numbers k.items u) s.views id w (λ j u n g. k.view j u g)
               (λ _. staged k.numbers k.items v (Waiting k.drawn) mine tt (λ n o. absurd (cc)));
           names = names_same k.numbers k.items s.views id v w at refl refl (sym (ap owned_of e)) k.names;
           fit = fit_same k.numbers s.views id v w at (sym (ap draws e)) (ap (λ n. length v.names + n) (sym (ap owns e))) k.fit;
@@ -163,7 +163,7 @@ module _ {V E : Type 0} (t : Telling V E) (opening : V) where
                   whose = each_set (λ (u : View V E). HasTurn u.stage → Tickets u k.served) s.views id w (λ j u _ g h. k.turn.whose j u g h) (λ _. here_now)
                 };
                 history = k.history;
-                view = each_set (λ (u : View V E). IsLive u.stage → IsView opening k.numbers k.items u) s.views id w (λ j u _ g. k.view j u g)
+                view = each_set (λ (u : View V E). IsLive u.stage → IsView t opening k.numbers k.items u) s.views id w (λ j u _ g. k.view j u g)
                     (λ _. staged k.numbers k.items v (Holding (ticket_in v.stage) k.items) mine refl (λ n o. absurd (cc)));
                 names = names_same k.numbers k.items s.views id v w at refl refl (sym (ap owned_of e)) k.names;
                 fit = fit_same k.numbers s.views id v w at (sym (ap draws e)) (ap (λ n. length v.names + n) (sym (ap owns e))) k.fit;
@@ -171,7 +171,8 @@ module _ {V E : Type 0} (t : Telling V E) (opening : V) where
               } in
               let sound : IsSound t (seeing v k.items Idle) = record {
                 legal = subst (λ o. MayFollow t o k.items) (sym mine.opened) k.history.legal;
-                whole = λ h. whole_has t opening s k id v at (record { first = h.first; children = h.children })
+                whole = λ h. whole_has t opening s k id v at (record { first = h.first; children = h.children });
+                last = subst (λ o. v.last ≡ last_from t v.names o k.items 0) (sym mine.opened) mine.last
               } in
               let slot : (0, Some x) ∷ me.1 ≡ (0, Some (value_after t v.seen.opening k.items)) ∷ me.1 = ap (λ o. (0, Some (value_after t o k.items)) ∷ me.1) (sym mine.opened) in (
                 w,
@@ -230,7 +231,7 @@ module _ {V E : Type 0} (t : Telling V E) (opening : V) where
             whose = each_set (λ (u : View V E). HasTurn u.stage → Tickets u (k.served + 1)) s.views id w (λ j u z g h. absurd (others j u z g (k.turn.whose j u g h))) (λ h. absurd h)
           };
           history = k.history;
-          view = each_set (λ (u : View V E). IsLive u.stage → IsView opening k.numbers k.items u) s.views id w (λ j u _ g. k.view j u g)
+          view = each_set (λ (u : View V E). IsLive u.stage → IsView t opening k.numbers k.items u) s.views id w (λ j u _ g. k.view j u g)
               (λ _. staged k.numbers k.items v Idle mine tt (λ n o. absurd (cc)));
           names = names_same k.numbers k.items s.views id v w at refl refl (sym (ap owned_of e)) k.names;
           fit = fit_same k.numbers s.views id v w at (sym (ap draws e)) (ap (λ n. length v.names + n) (sym (ap owns e))) k.fit;

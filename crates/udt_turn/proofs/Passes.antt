@@ -17,7 +17,7 @@ use Rattle.udt_turn.specs.declared.view.Stage.{Stage}
 use Rattle.udt_turn.specs.declared.view.Stage.TheVariants.{Idle, Waiting, Holding, Done, Counting, Owning, Alone, Spent}
 use Rattle.udt_turn.proofs.Views.{total_set, total_same, total_push, total_le, total_ge, total_two, total_only, at_end, get_below, same_at, each_set, each_push}
 use Rattle.udt_turn.proofs.Parts.{apart_set, apart_less, apart_push, here, some_set, some_push, tickets_same, tickets_push, turn_same, turn_push, names_same, fit_same, each_item_map}
-use Rattle.udt_turn.proofs.Histories.{sees_longer, mine_in-none, has-append, append_empty, mine_in-append}
+use Rattle.udt_turn.proofs.Histories.{sees_longer, mine_in-none, has-append, append_empty, mine_in-append, last_from-none}
 use Rattle.udt_turn.proofs.Whole.{has_all}
 use Rattle.udt_turn.proofs.Lock.{live_parts, alone_set, read_back, nothing, staged}
 
@@ -124,8 +124,8 @@ module _ {V E : Type 0} (t : Telling V E) (opening : V) where
             tickets = tickets_same k.served k.drawn s.views id v w at (ticket ∙ sym (ap ticket_of stage)) (queue ∙ sym (ap queues stage)) k.tickets;
             turn = turn_same k.served (value_after t opening k.items) s.homes s.views id v w at (λ h. absurd (turn h)) (λ h. absurd (subst HasTurn stage h)) (λ h. absurd (turn h)) k.turn;
             history = k.history;
-            view = each_set (λ (u : View V E). IsLive u.stage → IsView opening k.numbers k.items u) s.views id w (λ j u _ g. k.view j u g)
-                (λ _. record { opened = mine.opened; sees = mine.sees; told = mine.told; knows = knows; drawn = let f = found in omega arith; own = mine.own; above = λ m o. let bad : None ≡ Some m = sym owned ∙ o in absurd (cc) });
+            view = each_set (λ (u : View V E). IsLive u.stage → IsView t opening k.numbers k.items u) s.views id w (λ j u _ g. k.view j u g)
+                (λ _. record { opened = mine.opened; sees = mine.sees; told = mine.told; knows = knows; last = mine.last; drawn = let f = found in omega arith; own = mine.own; above = λ m o. let bad : None ≡ Some m = sym owned ∙ o in absurd (cc) });
             names = names_same k.numbers k.items s.views id v w at refl refl (owned ∙ sym (ap owned_of stage)) k.names;
             fit = record {
               few = let h = total_set (λ (u : View V E). draws u.stage) s.views id v w at in let z0 : draws v.stage ≡ 0 = ap draws stage in omega arith;
@@ -172,9 +172,9 @@ module _ {V E : Type 0} (t : Telling V E) (opening : V) where
         tickets = tickets_same k.served k.drawn s.views id v w at (ticket ∙ sym (ap ticket_of stage)) (queue ∙ sym (ap queues stage)) k.tickets;
         turn = turn_same k.served (value_after t opening k.items) s.homes s.views id v w at (λ h. absurd (turn h)) (λ h. absurd (subst HasTurn stage h)) (λ h. absurd (turn h)) k.turn;
         history = k.history;
-        view = each_set (λ (u : View V E). IsLive u.stage → IsView opening (k.numbers + 1) k.items u) s.views id w
-            (λ j u _ g live. let h = k.view j u g live in record { opened = h.opened; sees = h.sees; told = h.told; knows = h.knows; drawn = let q = h.drawn in omega arith; own = h.own; above = h.above })
-            (λ _. record { opened = mine.opened; sees = mine.sees; told = mine.told; knows = knows; drawn = let f = found in omega arith; own = mine.own;
+        view = each_set (λ (u : View V E). IsLive u.stage → IsView t opening (k.numbers + 1) k.items u) s.views id w
+            (λ j u _ g live. let h = k.view j u g live in record { opened = h.opened; sees = h.sees; told = h.told; knows = h.knows; last = h.last; drawn = let q = h.drawn in omega arith; own = h.own; above = h.above })
+            (λ _. record { opened = mine.opened; sees = mine.sees; told = mine.told; knows = knows; last = mine.last; drawn = let f = found in omega arith; own = mine.own;
               above = λ m q. let is = (owned m q).0 in let b = (k.names.below id v at v.number (inl mine.own)).0 in omega arith });
         names = record {
           below = each_set (λ (u : View V E). (m : ℕ) → Claims u m → (m < k.numbers + 1) × (m < 65535)) s.views id w
@@ -257,14 +257,15 @@ module _ {V E : Type 0} (t : Telling V E) (opening : V) where
         turn = turn_push k.served (value_after t opening k.items) s.homes middle right (λ h. h)
             (turn_same k.served (value_after t opening k.items) s.homes s.views id v left at (λ h. absurd h) (λ h. absurd (subst HasTurn stage h)) (λ h. absurd h) k.turn);
         history = k.history;
-        view = each_push (λ (u : View V E). IsLive u.stage → IsView opening k.numbers k.items u) middle right
-            (each_set (λ (u : View V E). IsLive u.stage → IsView opening k.numbers k.items u) s.views id left (λ j u _ g. k.view j u g)
-                (λ _. record { opened = mine.opened; sees = mine.sees; told = mine.told; knows = tt; drawn = mine.drawn; own = mine.own; above = λ m q. let bad : None ≡ Some m = q in absurd (cc) }))
+        view = each_push (λ (u : View V E). IsLive u.stage → IsView t opening k.numbers k.items u) middle right
+            (each_set (λ (u : View V E). IsLive u.stage → IsView t opening k.numbers k.items u) s.views id left (λ j u _ g. k.view j u g)
+                (λ _. record { opened = mine.opened; sees = mine.sees; told = mine.told; knows = tt; last = mine.last; drawn = mine.drawn; own = mine.own; above = λ m q. let bad : None ≡ Some m = q in absurd (cc) }))
             (λ _. record {
               opened = mine.opened;
               sees = record { rest = mine.sees.rest; is = mine.sees.is; none_of = subst (λ i. mine_in (i ∷ []) mine.sees.rest ≡ []) (sym number) rest_none };
               told = (k.items, refl);
               knows = tt;
+              last = sym (last_from-none t (number_in v.stage ∷ []) opening k.items 0 (subst (λ i. mine_in (i ∷ []) k.items ≡ []) (sym number) none));
               drawn = mine.drawn;
               own = has_head (number_in v.stage) [];
               above = λ m q. let bad : None ≡ Some m = q in absurd (cc)

@@ -8,15 +8,15 @@ use native.Mathlib.Decide.{ℕ_discrete}
 use lib.ListN.{get_elem?}
 use Rattle.atomic_table.specs.Table.{State, Me, Act, keeps, Allows, Step}
 use Rattle.udt_turn.specs.Story.{Telling}
-use Rattle.udt_turn.specs.History.{has, mine_in, Begins, value_after, MayFollow, IsLegal}
+use Rattle.udt_turn.specs.History.{has, mine_in, Begins, value_after, MayFollow, IsLegal, last_from}
 use Rattle.udt_turn.specs.Rule.{total_of, ticket_of, queues, HasTurn, draws, owned_of, owns, IsLive, IsAlone, Knows, Claims, parts, Each, Some_view, Apart, Tickets, TicketsInOrder, OneHasTurn, Sees, IsView, Told, Named, NamesInOrder, NumbersFit, AloneHasAll, Kept}
-use Rattle.udt_turn.specs.Kinds.{at_stage, seeing, ticket_in, found_in, IsWhole, IsSound, Says, Leaves, Looks, Shows, Settles}
+use Rattle.udt_turn.specs.Kinds.{at_stage, seeing, ticket_in, found_in, IsWhole, IsSound, saying, Says, Leaves, Looks, Shows, Settles}
 use Rattle.udt_turn.specs.declared.view.View.{View}
 use Rattle.udt_turn.specs.declared.view.Stage.{Stage}
 use Rattle.udt_turn.specs.declared.view.Stage.TheVariants.{Idle, Waiting, Holding, Done, Counting, Owning, Alone, Spent}
-use Rattle.udt_turn.proofs.Views.{same_at, each_set}
+use Rattle.udt_turn.proofs.Views.{same_at, each_set, total_ge}
 use Rattle.udt_turn.proofs.Parts.{here, some_set, tickets_same, turn_same, names_same, fit_same, each_item_push}
-use Rattle.udt_turn.proofs.Histories.{value_after-push, may_follow-push, may_follow-front, sees_all, sees_more, sees_mine, seen_whole, begins_more, begins_both}
+use Rattle.udt_turn.proofs.Histories.{value_after-push, may_follow-push, may_follow-front, sees_all, sees_more, sees_mine, seen_whole, begins_more, begins_both, last_from-own, last_from-other, last_from-seen}
 use Rattle.udt_turn.proofs.Whole.{whole_has}
 use Rattle.udt_turn.proofs.Lock.{live_parts, alone_set, read_back}
 
@@ -40,7 +40,8 @@ module _ {V E : Type 0} (t : Telling V E) (opening : V) where
   pub sound_now : (s : State (Option V) (View V E)) (k : Kept t opening s) (id : ℕ) (v : View V E) (st : Stage E) → get_elem? s.views id ≡ some v → IsLive v.stage → IsSound t (seeing v k.items st)
   sound_now s k id v st at live = record {
     legal = subst (λ o. MayFollow t o k.items) (sym (k.view id v at live).opened) k.history.legal;
-    whole = λ h. whole_has t opening s k id v at (record { first = h.first; children = h.children })
+    whole = λ h. whole_has t opening s k id v at (record { first = h.first; children = h.children });
+    last = let mine = k.view id v at live in subst (λ o. v.last ≡ last_from t v.names o k.items 0) (sym mine.opened) mine.last
   }
 
   -- K10 keeps the rule
@@ -62,17 +63,21 @@ module _ {V E : Type 0} (t : Telling V E) (opening : V) where
       let after : value_after t opening items ≡ t.after a e = value_after-push t opening k.items y in
       let legal' : t.legal a e = subst (λ x. t.legal x e) at_end legal in
       let count' : t.count (t.after a e) ≡ t.count a + 1 = subst (λ x. t.count (t.after x e) ≡ t.count x + 1) at_end count in
-      let w = seeing v (found_in v.stage ++ y ∷ []) (Done (ticket_in v.stage)) in
+      let w = saying t v e in
       let seen : found_in v.stage ++ y ∷ [] ≡ items = ap (λ xs. xs ++ y ∷ []) (ap found_in stage ∙ is) in
       let serve : Tickets v k.served = k.turn.whose id v at holds in
       let alone : (j : ℕ) (u : View V E) → j ≢ id → get_elem? s.views j ≡ some u → HasTurn u.stage → ⊥ = λ j u z g h. z (k.tickets.apart j id u v k.served g at (k.turn.whose j u g h) serve) in
-      let view : Each (set s.views id w) (λ u. IsLive u.stage → IsView opening k.numbers items u) =
-          each_set (λ (u : View V E). IsLive u.stage → IsView opening k.numbers items u) s.views id w
+      let last_here : w.last ≡ last_from t v.names opening items 0 =
+          ap (λ (x : List (ℕ × E)). t.count (t.after (value_after t v.seen.opening x) e)) (ap found_in stage)
+          ∙ ap (λ (x : V). t.count (t.after x e)) at_end ∙ sym (last_from-own t v.names opening k.items y 0 mine.own) in
+      let view : Each (set s.views id w) (λ u. IsLive u.stage → IsView t opening k.numbers items u) =
+          each_set (λ (u : View V E). IsLive u.stage → IsView t opening k.numbers items u) s.views id w
               (λ j u z g live. let h = k.view j u g live in record {
                 opened = h.opened;
                 sees = sees_more u.names u.seen.items k.items y (bool_false (has u.names v.number) (λ b. z (k.names.apart j id u v v.number g at (inl b) (inl mine.own)))) h.sees;
                 told = begins_more u.told k.items (y ∷ []) h.told;
                 knows = knows_less u.stage u.seen.items k.items items (alone j u z g) h.knows;
+                last = h.last ∙ sym (last_from-other t u.names opening k.items y 0 (bool_false (has u.names v.number) (λ b. z (k.names.apart j id u v v.number g at (inl b) (inl mine.own)))));
                 drawn = h.drawn;
                 own = h.own;
                 above = h.above
@@ -82,6 +87,7 @@ module _ {V E : Type 0} (t : Telling V E) (opening : V) where
                 sees = subst (λ xs. Sees v.names xs items) (sym seen) (sees_all v.names items);
                 told = begins_more v.told k.items (y ∷ []) mine.told;
                 knows = seen;
+                last = last_here;
                 drawn = mine.drawn;
                 own = mine.own;
                 above = λ m o. absurd (cc)
@@ -114,16 +120,17 @@ module _ {V E : Type 0} (t : Telling V E) (opening : V) where
         fit = fit_same k.numbers s.views id v w at (sym (ap draws stage)) (ap (λ m. length v.names + m) (sym (ap owns stage))) k.fit;
         alone = alone_set t opening k.numbers k.items s.views id v w at (live_parts t opening k.numbers k.items v mine) (λ q. q) k.alone
       } in
-      let now : IsSound t w = subst (λ xs. IsSound t (seeing v xs (Done (ticket_in v.stage)))) (sym seen)
+      let now : IsSound t w = subst (λ xs. IsSound t (record w { seen = record { opening = v.seen.opening; items = xs } })) (sym seen)
           (record {
             legal = subst (λ o. MayFollow t o items) (sym mine.opened) rule.history.legal;
-            whole = λ h. whole_has t opening record { words = slice_set s.words 0 new; homes = s.homes; views = slice_set s.views id w } rule id w (here s.views id v w at) (record { first = h.first; children = h.children })
+            whole = λ h. whole_has t opening record { words = slice_set s.words 0 new; homes = s.homes; views = slice_set s.views id w } rule id w (here s.views id v w at) (record { first = h.first; children = h.children });
+            last = subst (λ o. w.last ≡ last_from t v.names o items 0) (sym mine.opened) last_here
           }) in (
         w,
         keeps,
         tt,
         rule,
-        (λ e' same. let one : e ≡ e' = cc in (ap (λ z. (seeing v (found_in v.stage ++ (v.number, z) ∷ []) (Done (ticket_in v.stage)), me.1)) one, now)),
+        (λ e' same. let one : e ≡ e' = cc in (ap (λ z. (saying t v z, me.1)) one, now)),
       )
 
   -- K11 keeps the rule, for a pass that has the turn
@@ -149,12 +156,13 @@ module _ {V E : Type 0} (t : Telling V E) (opening : V) where
           tickets = tickets_same k.served k.drawn s.views id v w at ticket (sym (ap queues stage)) k.tickets;
           turn = turn_same k.served (value_after t opening k.items) s.homes s.views id v w at (λ _. subst HasTurn (sym stage) tt) (λ _. tt) (λ _. ticket) k.turn;
           history = k.history;
-          view = each_set (λ (u : View V E). IsLive u.stage → IsView opening k.numbers k.items u) s.views id w (λ j u _ g. k.view j u g)
+          view = each_set (λ (u : View V E). IsLive u.stage → IsView t opening k.numbers k.items u) s.views id w (λ j u _ g. k.view j u g)
               (λ _. record {
                 opened = mine.opened;
                 sees = subst (λ xs. Sees v.names xs k.items) (sym seen) (sees_all v.names k.items);
                 told = mine.told;
                 knows = seen;
+                last = mine.last;
                 drawn = mine.drawn;
                 own = mine.own;
                 above = λ m o. absurd (cc)
@@ -187,12 +195,13 @@ module _ {V E : Type 0} (t : Telling V E) (opening : V) where
           tickets = tickets_same k.served k.drawn s.views id v w at (sym (ap ticket_of stage)) (sym (ap queues stage)) k.tickets;
           turn = turn_same k.served (value_after t opening k.items) s.homes s.views id v w at (λ h. absurd h) (λ h. absurd (subst HasTurn stage h)) (λ h. absurd h) k.turn;
           history = k.history;
-          view = each_set (λ (u : View V E). IsLive u.stage → IsView opening k.numbers k.items u) s.views id w (λ j u _ g. k.view j u g)
+          view = each_set (λ (u : View V E). IsLive u.stage → IsView t opening k.numbers k.items u) s.views id w (λ j u _ g. k.view j u g)
               (λ _. record {
                 opened = mine.opened;
                 sees = sees_all v.names k.items;
                 told = mine.told;
                 knows = tt;
+                last = mine.last;
                 drawn = mine.drawn;
                 own = mine.own;
                 above = λ m o. absurd (cc)
@@ -231,8 +240,8 @@ module _ {V E : Type 0} (t : Telling V E) (opening : V) where
           tickets = tickets_same k.served k.drawn s.views id v w at refl refl k.tickets;
           turn = turn_same k.served (value_after t opening k.items) s.homes s.views id v w at (λ h. h) (λ h. h) (λ _. refl) k.turn;
           history = k.history;
-          view = each_set (λ (u : View V E). IsLive u.stage → IsView opening k.numbers k.items u) s.views id w (λ j u _ g. k.view j u g)
-              (λ _. record { opened = mine.opened; sees = mine.sees; told = (k.items, refl); knows = mine.knows; drawn = mine.drawn; own = mine.own; above = mine.above });
+          view = each_set (λ (u : View V E). IsLive u.stage → IsView t opening k.numbers k.items u) s.views id w (λ j u _ g. k.view j u g)
+              (λ _. record { opened = mine.opened; sees = mine.sees; told = (k.items, refl); knows = mine.knows; last = mine.last; drawn = mine.drawn; own = mine.own; above = mine.above });
           names = names_same k.numbers k.items s.views id v w at refl refl refl k.names;
           fit = fit_same k.numbers s.views id v w at refl refl k.fit;
           alone = alone_set t opening k.numbers k.items s.views id v w at (live_parts t opening k.numbers k.items v mine) (λ q. subst IsAlone stage q) k.alone
@@ -241,8 +250,10 @@ module _ {V E : Type 0} (t : Telling V E) (opening : V) where
           refl,
           record {
             legal = may_follow-front t v.seen.opening v.seen.items mine.sees.rest (subst (λ xs. MayFollow t v.seen.opening xs) mine.sees.is (subst (λ o. MayFollow t o k.items) (sym mine.opened) k.history.legal));
-            whole = λ h. seen_whole v.names v.seen.items k.items mine.sees (whole_has t opening s k id v at (record { first = h.first; children = h.children }))
+            whole = λ h. seen_whole v.names v.seen.items k.items mine.sees (whole_has t opening s k id v at (record { first = h.first; children = h.children }));
+            last = subst (λ o. v.last ≡ last_from t v.names o v.seen.items 0) (sym mine.opened) (mine.last ∙ last_from-seen t v.names opening v.seen.items k.items 0 mine.sees)
           },
           begins_both v.told v.seen.items mine.told.0 mine.sees.rest (sym mine.told.1 ∙ mine.sees.is) le,
+          let p = total_ge parts s.views id v at in let a = k.fit.all in omega arith,
         ),
       )

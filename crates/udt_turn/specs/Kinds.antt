@@ -2,7 +2,7 @@
 use Rattle.std.specs.Prelude.{◌≡◌, ◌≢◌, ℕ, ◌+◌, ◌*◌, ◌%◌, ◌^◌, ◌<◌, ◌≤◌, min, max, Bool, true, List, [], ◌∷◌, ◌++◌, length, Option, Some, None}
 use Rattle.atomic_table.specs.Table.{Step, Me, rest}
 use Rattle.udt_turn.specs.Story.{Telling}
-use Rattle.udt_turn.specs.History.{has, mine_in, Begins, longer, shorter, value_of, value_after, IsLegal}
+use Rattle.udt_turn.specs.History.{has, mine_in, Begins, longer, shorter, value_of, value_after, IsLegal, last_of}
 use Rattle.udt_turn.specs.Rule.{Sees, Child}
 use Rattle.udt_turn.specs.declared.view.View.{View}
 use Rattle.udt_turn.specs.declared.view.Stage.{Stage}
@@ -28,11 +28,11 @@ number_in _ = 0
 module _ {V E : Type 0} where
   -- the first pass
   abbrev pub newcomer : V → View V E
-  newcomer s = record { number = 0; names = 0 ∷ []; made = []; seen = record { opening = s; items = [] }; told = []; drawn = 0; stage = Idle }
+  newcomer s = record { number = 0; names = 0 ∷ []; made = []; seen = record { opening = s; items = [] }; told = []; last = 0; drawn = 0; stage = Idle }
 
   -- a pass that was joined into another
   abbrev pub spent : V → View V E
-  spent s = record { number = 0; names = []; made = []; seen = record { opening = s; items = [] }; told = []; drawn = 0; stage = Spent }
+  spent s = record { number = 0; names = []; made = []; seen = record { opening = s; items = [] }; told = []; last = 0; drawn = 0; stage = Spent }
 
   abbrev pub at_stage : View V E → Stage E → View V E
   at_stage v st = record v { stage = st }
@@ -45,10 +45,11 @@ module _ {V E : Type 0} where
     pub first : has v.names 0 ≡ true
     pub children : (p m : ℕ) → Child v.made p m → has v.names m ≡ true
 
-  -- what was seen is legal, and where the view is whole, all of it was made under its names
+  -- what was seen is legal, where the view is whole all of it was made under its names, and the count after the last item of its own is known
   pub record IsSound (t : Telling V E) (v : View V E) : Type 0 where
     pub legal : IsLegal t v.seen
     pub whole : IsWhole v → mine_in v.names v.seen.items ≡ v.seen.items
+    pub last : v.last ≡ last_of t v.names v.seen
 
   -- K1: it has the ticket that it found
   abbrev pub Draws : Step (Option V) → Me (Option V) (View V E) → ℕ → Me (Option V) (View V E) → Type 0
@@ -65,10 +66,18 @@ module _ {V E : Type 0} where
   abbrev pub Reads : Telling V E → Step (Option V) → Me (Option V) (View V E) → ℕ → Me (Option V) (View V E) → Type 0
   Reads t st me n me' = (n ≡ ticket_in me.0.stage % 2 ^ 64 → Takes t me me') × (n ≢ ticket_in me.0.stage % 2 ^ 64 → me' ≡ me)
 
+  -- the item was added to what it found
+  abbrev pub saying : Telling V E → View V E → E → View V E
+  saying t v e = record v {
+    seen = record { opening = v.seen.opening; items = found_in v.stage ++ (v.number, e) ∷ [] };
+    last = t.count (t.after (value_after t v.seen.opening (found_in v.stage)) e);
+    stage = Done (ticket_in v.stage)
+  }
+
   -- K10: it has seen the history that it found with its item behind
   abbrev pub Says : Telling V E → Option E → Step (Option V) → Me (Option V) (View V E) → ℕ → Me (Option V) (View V E) → Type 0
   Says t item st me n me' = (e : E) → item ≡ Some e
-      → (me' ≡ (seeing me.0 (found_in me.0.stage ++ (me.0.number, e) ∷ []) (Done (ticket_in me.0.stage)), me.1)) × IsSound t me'.0
+      → (me' ≡ (saying t me.0 e, me.1)) × IsSound t me'.0
 
   -- K11, with the turn: it has seen the history that it found
   abbrev pub Leaves : Step (Option V) → Me (Option V) (View V E) → ℕ → Me (Option V) (View V E) → Type 0
@@ -108,15 +117,15 @@ module _ {V E : Type 0} where
 
   -- and the number and only name of a new view, which has seen as much and made nothing
   abbrev pub child_of : View V E → View V E
-  child_of v = record { number = number_in v.stage; names = number_in v.stage ∷ []; made = []; seen = v.seen; told = []; drawn = v.drawn; stage = Idle }
+  child_of v = record { number = number_in v.stage; names = number_in v.stage ∷ []; made = []; seen = v.seen; told = []; last = 0; drawn = v.drawn; stage = Idle }
 
   -- K9: the names and pairs of both, and the longer of both histories; the shorter is told
   abbrev pub joined : View V E → View V E → View V E
-  joined v u = record v { names = v.names ++ u.names; made = v.made ++ u.made; seen = record { opening = v.seen.opening; items = longer v.seen.items u.seen.items }; told = shorter v.seen.items u.seen.items; drawn = max v.drawn u.drawn }
+  joined v u = record v { names = v.names ++ u.names; made = v.made ++ u.made; seen = record { opening = v.seen.opening; items = longer v.seen.items u.seen.items }; told = shorter v.seen.items u.seen.items; last = max v.last u.last; drawn = max v.drawn u.drawn }
 
   -- K11, after a join: what was told is forgotten, being the beginning of what was seen
   abbrev pub Settles : Telling V E → Step (Option V) → Me (Option V) (View V E) → ℕ → Me (Option V) (View V E) → Type 0
-  Settles t st me n me' = (me' ≡ (record me.0 { told = [] }, me.1)) × IsSound t me'.0 × Begins me.0.told me.0.seen.items
+  Settles t st me n me' = (me' ≡ (record me.0 { told = [] }, me.1)) × IsSound t me'.0 × Begins me.0.told me.0.seen.items × (length me.0.names ≤ 65535)
 
   -- K6, at the end: it has all the names there are exactly where it has as many names as numbers below 65535 were drawn
   abbrev pub Ends : Step (Option V) → Me (Option V) (View V E) → ℕ → Me (Option V) (View V E) → Type 0

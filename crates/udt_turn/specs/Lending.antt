@@ -9,5 +9,5 @@ use Rattle.udt_turn.specs.contracts.held.Held.{the_row}
 
 module _ (V E : RattleType) (g : story.Ghosts V.Denot E.Denot) where
   -- the held turn ends with the last value written through r. Its lifetime is the second of the signature
-  abbrev pub LendsValue : MutBor (Held V.Denot E.Denot) → MutBor V.Denot → Fml
+  abbrev pub LendsValue : MutBor (Held V.Denot E.Denot g) → MutBor V.Denot → Fml
   LendsValue h r = Lends (the_row (record { mir = named 1; lft = [] }) V E g) V h r (λ w. record h.now { value = w })

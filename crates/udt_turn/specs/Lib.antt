@@ -3,3 +3,4 @@ pub mod History
 pub mod Rule
 pub mod Kinds
 pub mod Lending
+pub mod Words

@@ -7,7 +7,7 @@ use mathlib.Core.Option.{some, none}
 use lib.ListN.{get_elem?}
 use Rattle.atomic_table.specs.Table.{State, Me, Step}
 use Rattle.udt_turn.specs.Story.{Telling}
-use Rattle.udt_turn.specs.History.{has, mine_in, Begins, value_after, MayFollow}
+use Rattle.udt_turn.specs.History.{has, mine_in, Begins, value_after, MayFollow, last_from}
 use Rattle.udt_turn.specs.declared.view.View.{View}
 use Rattle.udt_turn.specs.declared.view.Stage.{Stage}
 use Rattle.udt_turn.specs.declared.view.Stage.TheVariants.{Idle, Waiting, Holding, Done, Counting, Owning, Alone, Spent}
@@ -112,11 +112,12 @@ module _ {V E : Type 0} where
     pub whose : Each views (λ v. HasTurn v.stage → Tickets v served)
 
   -- Part 4, and part 7: the own number is among the names, and a number that is owned is above it
-  pub record IsView (opening : V) (numbers : ℕ) (items : List (ℕ × E)) (v : View V E) : Type 0 where
+  pub record IsView (t : Telling V E) (opening : V) (numbers : ℕ) (items : List (ℕ × E)) (v : View V E) : Type 0 where
     pub opened : v.seen.opening ≡ opening
     pub sees : Sees v.names v.seen.items items
     pub told : Begins v.told items
     pub knows : Knows v.stage v.seen.items items
+    pub last : v.last ≡ last_from t v.names opening items 0
     pub drawn : v.drawn ≤ numbers
     pub own : has v.names v.number ≡ true
     pub above : (n : ℕ) → owned_of v.stage ≡ Some n → v.number < n
@@ -161,7 +162,7 @@ module _ {V E : Type 0} where
     pub tickets : TicketsInOrder served drawn s.views
     pub turn : OneHasTurn served (value_after t opening items) s.homes s.views
     pub history : Told t opening items word
-    pub view : Each s.views (λ v. IsLive v.stage → IsView opening numbers items v)
+    pub view : Each s.views (λ v. IsLive v.stage → IsView t opening numbers items v)
     pub names : NamesInOrder numbers items s.views
     pub fit : NumbersFit numbers s.views
     pub alone : AloneHasAll s.views

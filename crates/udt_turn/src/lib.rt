@@ -10,6 +10,6 @@ mod view;
 
 pub use held::Held;
 pub use pass::Pass;
-pub use story::Story;
+pub use story::{Naming, Story};
 pub use turn::Turn;
 pub use view::{History, Stage, View};

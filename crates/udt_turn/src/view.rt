@@ -35,6 +35,8 @@ pub struct View<V, E> {
     pub seen: History<V, E>,
     /// The shorter of two beginnings of the history that a join brought together.
     pub told: LinkedList<(u64, E)>,
+    /// The count after the last item that was made under its names, and 0 where there is none.
+    pub last: u64,
     /// So many pass numbers were drawn at some step of it.
     pub drawn: u64,
     pub stage: Stage<E>,
