@@ -6,3 +6,4 @@ mod Lock
 mod Tells
 mod Passes
 mod Joining
+mod Opening

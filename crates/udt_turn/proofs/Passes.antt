@@ -28,7 +28,7 @@ not_true : (b : Bool) → (b ≡ true → ⊥) → b ≡ false
 not_true true f = absurd (f refl)
 not_true false f = refl
 
-has_one : (n m : ℕ) → has (n ∷ []) m ≡ true → n ≡ m
+pub has_one : (n m : ℕ) → has (n ∷ []) m ≡ true → n ≡ m
 has_one n m h = tells (eqb n m) refl h
   where
     tells : (b : Bool) → eqb n m ≡ b → (b || false) ≡ true → n ≡ m
@@ -207,14 +207,19 @@ module _ {V E : Type 0} (t : Telling V E) (opening : V) where
       let found : n ≡ k.numbers = ap (λ ws. slice_index ws 3) k.words in
       let lower : v.drawn ≤ n = let d = mine.drawn in omega arith in
       let above : v.number < n = let b = (k.names.below id v at v.number (inl mine.own)).0 in omega arith in
+      let none : mine_in (n ∷ []) k.items ≡ [] = mine_in-other (Named s.views) n k.items
+          (λ m (j, u, g, h) e. let b = (k.names.below j u g m (inl h)).0 in omega arith) k.names.makers in
+      let unmade : mine_in (n ∷ []) v.seen.items ≡ [] =
+          (append_empty (mine_in (n ∷ []) v.seen.items) (mine_in (n ∷ []) mine.sees.rest)
+              (sym (mine_in-append (n ∷ []) v.seen.items mine.sees.rest) ∙ ap (mine_in (n ∷ [])) (sym mine.sees.is) ∙ none)).0 in
       dite (dec_le 65535 n)
           (λ (big : 65535 ≤ n).
               (drawn_to v (n + 1) Idle, keeps, tt, numbers_rule s k id v Idle at stage refl refl (λ h. h) refl (λ h. h) tt (λ m q. let bad : None ≡ Some m = q in absurd (cc)) (omega arith),
-               (lower, above, (λ small. absurd (omega arith)), (λ _. refl))))
+               (lower, above, unmade, (λ small. absurd (omega arith)), (λ _. refl))))
           (λ no. let small : n < 65535 = lt_of_not-le no in
               (drawn_to v (n + 1) (Owning n), keeps, tt,
                numbers_rule s k id v (Owning n) at stage refl refl (λ h. h) refl (λ h. h) tt (λ m q. let same : Some n ≡ Some m = q in let is : n ≡ m = cc in (omega arith, omega arith)) (omega arith),
-               (lower, above, (λ _. refl), (λ big. absurd (omega arith)))))
+               (lower, above, unmade, (λ _. refl), (λ big. absurd (omega arith)))))
 
   -- K8 keeps the rule
   pub splits_keeps : (id : ℕ) (v : View V E) (n : ℕ) → v.stage ≡ Owning n → Splits (Kept t opening) id v (parent_of v) (child_of v)

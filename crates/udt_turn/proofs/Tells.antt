@@ -257,3 +257,8 @@ module _ {V E : Type 0} (t : Telling V E) (opening : V) where
           let p = total_ge parts s.views id v at in let a = k.fit.all in omega arith,
         ),
       )
+
+module _ {V E : Type 0} (t : Telling V E) where
+  -- a view at another stage is as sound
+  pub sound_staged : (v : View V E) (st : Stage E) → IsSound t v → IsSound t (at_stage v st)
+  sound_staged v st h = record { legal = h.legal; whole = λ w. h.whole (record { first = w.first; children = w.children }); last = h.last }

@@ -109,7 +109,7 @@ module _ {V E : Type 0} where
 
   -- K7: it owns the number that it found where that is below 65535
   abbrev pub Numbers : Step (Option V) → Me (Option V) (View V E) → ℕ → Me (Option V) (View V E) → Type 0
-  Numbers st me n me' = (me.0.drawn ≤ n) × (me.0.number < n) × (n < 65535 → me' ≡ (drawn_to me.0 (n + 1) (Owning n), me.1)) × (65535 ≤ n → me' ≡ (drawn_to me.0 (n + 1) Idle, me.1))
+  Numbers st me n me' = (me.0.drawn ≤ n) × (me.0.number < n) × (mine_in (n ∷ []) me.0.seen.items ≡ []) × (n < 65535 → me' ≡ (drawn_to me.0 (n + 1) (Owning n), me.1)) × (65535 ≤ n → me' ≡ (drawn_to me.0 (n + 1) Idle, me.1))
 
   -- K8: the number that was owned becomes a child of the view's own number
   abbrev pub parent_of : View V E → View V E

@@ -28,6 +28,25 @@ module _ {V E : Type 0} where
     pub names : after.names ≡ before.names
     pub made : after.made ≡ before.made
 
+  -- the new view has a number of its own, which no step had shown as drawn yet, and it has seen as much and made nothing
+  pub record HasBranched (old new : View V E) : Type 0 where
+    pub few : new.number < 65535
+    pub above : old.number < new.number
+    pub fresh : old.drawn ≤ new.number
+    pub names : new.names ≡ new.number ∷ []
+    pub made : new.made ≡ []
+    pub seen : new.seen ≡ old.seen
+    pub mine : mine_in new.names new.seen.items ≡ []
+
+  -- the value is the one after one legal item, which the count counts
+  pub record GoesOn (t : Telling V E) (item : Option E) (before after : V) : Type 0 where
+    pub entry : E
+    pub named : item ≡ Some entry
+    pub legal : t.legal before entry
+    pub value : after ≡ t.after before entry
+    pub count : t.count after ≡ t.count before + 1
+    pub most : t.count after < 2 ^ 55
+
 module _ {V E : Type 0} {g : story.Ghosts V E} where
   abbrev pub view_of : Pass V E g → View V E
   view_of p = p.seat.me.0
@@ -62,18 +81,26 @@ module _ {V E : Type 0} {g : story.Ghosts V E} where
     pub idle : (view_of p).stage ≡ Idle
     pub opened : (seen_of p).opening ≡ opening_of turn
 
-  -- the history that the holder of the turn found
-  abbrev pub found_by : Held V E g → History V E
-  found_by h = record { opening = (seen_of h.pass.now).opening; items = found_in (view_of h.pass.now).stage }
+  -- the history that a pass found when it got the turn
+  abbrev pub found_of : Pass V E g → History V E
+  found_of p = record { opening = (seen_of p).opening; items = found_in (view_of p).stage }
 
-  -- a pass has the turn, and the value is out of the slot
-  pub record IsHeld (h : Held V E g) : Type 0 where
+  -- and that history with an item of the pass behind
+  abbrev pub with_item : Pass V E g → E → History V E
+  with_item p e = record { opening = (found_of p).opening; items = (found_of p).items ++ (number_of p, e) ∷ [] }
+
+  -- the pass has the turn, the value is out of the slot, and what was found is legal and goes on from what the pass had seen
+  pub record IsHolding (t : Telling V E) (turn : Turn V E) (p : Pass V E g) : Type 0 where
     pub ticket : ℕ
-    pub table : h.pass.now.seat.table_id ≡ table_of h.turn.now
-    pub slot : h.pass.now.seat.me.1 ≡ (0, None) ∷ []
-    pub stage : (view_of h.pass.now).stage ≡ Holding ticket (found_by h).items
-    pub opened : (found_by h).opening ≡ opening_of h.turn.now
+    pub table : p.seat.table_id ≡ table_of turn
+    pub slot : p.seat.me.1 ≡ (0, None) ∷ []
+    pub stage : (view_of p).stage ≡ Holding ticket (found_of p).items
+    pub opened : (found_of p).opening ≡ opening_of turn
+    pub sees : Sees (names_of p) (seen_of p).items (found_of p).items
+    pub sound : IsSound t (seeing (view_of p) (found_of p).items Idle)
 
-  -- the item of the pass that has the turn, behind what it found
-  abbrev pub with_item : Held V E g → E → History V E
-  with_item h e = record { opening = (found_by h).opening; items = (found_by h).items ++ (number_of h.pass.now, e) ∷ [] }
+  abbrev pub found_by : Held V E g → History V E
+  found_by h = found_of h.pass.now
+
+  abbrev pub IsHeld : Telling V E → Held V E g → Type 0
+  IsHeld t h = IsHolding t h.turn.now h.pass.now

@@ -11,5 +11,5 @@ mod view;
 pub use held::Held;
 pub use pass::Pass;
 pub use story::{Naming, Story};
-pub use turn::Turn;
+pub use turn::{Full, Look, OutOfMemory, Turn};
 pub use view::{History, Stage, View};
