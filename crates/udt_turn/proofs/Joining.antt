@@ -2,23 +2,24 @@
 use Rattle.std.proofs.Common.{◌≡◌, ◌≢◌, ◌⊎◌, ℕ, zero, suc, ◌+◌, ◌*◌, ◌%◌, ◌^◌, ◌<◌, ◌≤◌, min, max, Bool, true, false, List, [], ◌∷◌, ◌++◌, length, set, Option, Some, None, refl, sym, ap, ◌∙◌, subst, inl, inr, ⊎_elim, arith, append-nil, length-append}
 use Rattle.std.specs.Prelude.{slice_index, slice_set}
 use mathlib.Core.Option as opt
-use mathlib.Core.Option.{some}
+use mathlib.Core.Option.{some, some-injective}
 use mathlib.Core.Logic.{dite}
 use native.Mathlib.Decide.{ℕ_discrete}
 use lib.ListN.{get_elem?}
-use Rattle.atomic_table.specs.Table.{State, Me, keeps, Allows, Joins, Step}
+use Rattle.atomic_table.specs.Table.{State, Me, keeps, Allows, Joins, Step, Final, Seen}
 use Rattle.atomic_table.proofs.Lists.{at_set, set_here, set_else}
 use Rattle.udt_turn.specs.Story.{Telling}
-use Rattle.udt_turn.specs.History.{has, mine_in, Begins, longer, shorter, value_after, last_from}
+use Rattle.udt_turn.specs.History.{has, mine_in, Begins, longer, shorter, value_after, value_of, last_from}
 use Rattle.udt_turn.specs.Rule.{total_of, ticket_of, queues, HasTurn, draws, owned_of, owns, IsLive, IsAlone, Knows, Claims, parts, Each, Some_view, Apart, Sees, IsView, Child, Named, EachItem, NamesInOrder, NumbersFit, AloneHasAll, Kept}
-use Rattle.udt_turn.specs.Kinds.{at_stage, spent, joined, IsWhole, Ends}
+use Rattle.udt_turn.specs.Kinds.{at_stage, spent, joined, IsWhole, IsSound, Ends}
 use Rattle.udt_turn.specs.declared.view.View.{View}
 use Rattle.udt_turn.specs.declared.view.Stage.{Stage}
 use Rattle.udt_turn.specs.declared.view.Stage.TheVariants.{Idle, Waiting, Holding, Done, Counting, Owning, Alone, Spent}
 use Rattle.udt_turn.proofs.Views.{total_set, total_two, total_only, total_ge, get_below, same_at, each_set}
 use Rattle.udt_turn.proofs.Parts.{here, some_set, tickets_same, turn_same, names_same, fit_same, each_item_map}
-use Rattle.udt_turn.proofs.Histories.{sees_longer, mine_in-none, last_from-both}
-use Rattle.udt_turn.proofs.Whole.{has_all}
+use Rattle.udt_turn.proofs.Tells.{sound_seen}
+use Rattle.udt_turn.proofs.Histories.{sees_mine, sees_longer, mine_in-none, last_from-both}
+use Rattle.udt_turn.proofs.Whole.{has_all, whole_has}
 use Rattle.udt_turn.proofs.Lock.{live_parts, has_some, alone_set, read_back, nothing, staged}
 use Rattle.udt_turn.proofs.Passes.{has_both, has_left, has_right, has_head, child_both, child_left, child_right, longer_case, none_alone}
 
@@ -231,3 +232,20 @@ module _ {V E : Type 0} (t : Telling V E) (opening : V) where
       turn_live (Holding _ _) h = tt
       turn_live (Done _) h = tt
       turn_live _ h = absurd h
+
+  -- whoever is alone and whole finds at home the value of all that it has seen
+  pub closes : (s : State (Option V) (View V E)) (k : Kept t opening s) (id : ℕ) (v : View V E) → get_elem? s.views id ≡ some v → v.stage ≡ Alone → IsWhole v
+      → (get_elem? s.homes 0 ≡ some (some (Some (value_of t v.seen)))) × IsSound t v
+  closes s k id v at stage whole =
+      let mine = k.view id v at (subst IsLive (sym stage) tt) in
+      let sound = sound_seen t opening s k id v at (subst IsLive (sym stage) tt) in
+      let all : k.items ≡ v.seen.items = sym (whole_has t opening s k id v at whole) ∙ sees_mine v.names v.seen.items k.items mine.sees ∙ sound.whole whole in
+      let value : value_after t opening k.items ≡ value_of t v.seen = ap (λ (xs : List (ℕ × E)). value_after t opening xs) all ∙ ap (λ (o : V). value_after t o v.seen.items) (sym mine.opened) in
+      (ap (λ hs. get_elem? hs 0) (at_home s k id v at stage) ∙ ap (λ (x : V). some (some (Some x))) value, sound)
+
+  -- what the slot of a closed table has, for whoever was alone
+  pub closed_value : (id : ℕ) (v : View V E) (ws : List ℕ) (xs : List (Option V)) (x : Option V) → v.stage ≡ Alone → IsWhole v → Final (Seen (Kept t opening) id v) ws xs → get_elem? xs 0 ≡ some x
+      → (x ≡ Some (value_of t v.seen)) × IsSound t v
+  closed_value id v ws xs x stage whole (s, kept, words, len, home) at =
+      let both = closes s kept.0 id v kept.1 stage whole in
+      (some-injective x (Some (value_of t v.seen)) (sym at ∙ home 0 (Some (value_of t v.seen)) both.0), both.1)

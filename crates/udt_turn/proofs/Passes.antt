@@ -80,6 +80,19 @@ longer_case {A} xs ys = tells (leb (length xs) (length ys)) refl
     tells true e = inl (refl, refl, leb-true (length xs) (length ys) e)
     tells false e = let h : length ys < length xs = leb-false (length xs) (length ys) e in inr (refl, refl, omega arith)
 
+pub shorter_le : {A : Type 0} (xs ys : List A) → length (shorter xs ys) ≤ length (longer xs ys)
+shorter_le xs ys = ⊎_elim
+    (λ (c : (longer xs ys ≡ ys) × (shorter xs ys ≡ xs) × (length xs ≤ length ys)). let a = ap length c.0 in let b = ap length c.1 in let l = c.2 in omega arith)
+    (λ (c : (longer xs ys ≡ xs) × (shorter xs ys ≡ ys) × (length ys ≤ length xs)). let a = ap length c.0 in let b = ap length c.1 in let l = c.2 in omega arith)
+    (longer_case xs ys)
+
+-- of two lists the longer begins with both, where it begins with the shorter
+pub begins_longer : {A : Type 0} (xs ys : List A) → Begins (shorter xs ys) (longer xs ys) → Begins xs (longer xs ys) × Begins ys (longer xs ys)
+begins_longer xs ys h = ⊎_elim
+    (λ (c : (longer xs ys ≡ ys) × (shorter xs ys ≡ xs) × (length xs ≤ length ys)). (subst (λ zs. Begins zs (longer xs ys)) c.1 h, ([], c.0 ∙ sym (append-nil ys))))
+    (λ (c : (longer xs ys ≡ xs) × (shorter xs ys ≡ ys) × (length ys ≤ length xs)). (([], c.0 ∙ sym (append-nil xs)), subst (λ zs. Begins zs (longer xs ys)) c.1 h))
+    (longer_case xs ys)
+
 module _ {V E : Type 0} (t : Telling V E) (opening : V) where
   -- while a pass is live that is not alone, none is
   pub none_alone : (views : List (View V E)) (id : ℕ) (v : View V E) → get_elem? views id ≡ some v → 1 ≤ parts v → (IsAlone v.stage → ⊥) → AloneHasAll views → Each views (λ u. IsAlone u.stage → ⊥)

@@ -44,6 +44,16 @@ module _ {V E : Type 0} (t : Telling V E) (opening : V) where
     last = let mine = k.view id v at live in subst (λ o. v.last ≡ last_from t v.names o k.items 0) (sym mine.opened) mine.last
   }
 
+  -- what a live view has seen is sound
+  pub sound_seen : (s : State (Option V) (View V E)) (k : Kept t opening s) (id : ℕ) (v : View V E) → get_elem? s.views id ≡ some v → IsLive v.stage → IsSound t v
+  sound_seen s k id v at live =
+      let mine = k.view id v at live in
+      record {
+        legal = may_follow-front t v.seen.opening v.seen.items mine.sees.rest (subst (λ xs. MayFollow t v.seen.opening xs) mine.sees.is (subst (λ o. MayFollow t o k.items) (sym mine.opened) k.history.legal));
+        whole = λ h. seen_whole v.names v.seen.items k.items mine.sees (whole_has t opening s k id v at (record { first = h.first; children = h.children }));
+        last = subst (λ o. v.last ≡ last_from t v.names o v.seen.items 0) (sym mine.opened) (mine.last ∙ last_from-seen t v.names opening v.seen.items k.items 0 mine.sees)
+      }
+
   -- K10 keeps the rule
   pub says_keeps : (slots id : ℕ) (me : Me (Option V) (View V E)) (st : Step (Option V)) (item : Option E) (n : ℕ) (found : List (ℕ × E)) (e : E) (new : ℕ)
       → me.0.stage ≡ Holding n found → item ≡ Some e → t.legal (value_after t me.0.seen.opening found) e
@@ -248,11 +258,8 @@ module _ {V E : Type 0} (t : Telling V E) (opening : V) where
         },
         (
           refl,
-          record {
-            legal = may_follow-front t v.seen.opening v.seen.items mine.sees.rest (subst (λ xs. MayFollow t v.seen.opening xs) mine.sees.is (subst (λ o. MayFollow t o k.items) (sym mine.opened) k.history.legal));
-            whole = λ h. seen_whole v.names v.seen.items k.items mine.sees (whole_has t opening s k id v at (record { first = h.first; children = h.children }));
-            last = subst (λ o. v.last ≡ last_from t v.names o v.seen.items 0) (sym mine.opened) (mine.last ∙ last_from-seen t v.names opening v.seen.items k.items 0 mine.sees)
-          },
+          (let here_seen = sound_seen s k id v at (subst IsLive (sym stage) tt) in
+              record { legal = here_seen.legal; whole = λ h. here_seen.whole (record { first = h.first; children = h.children }); last = here_seen.last }),
           begins_both v.told v.seen.items mine.told.0 mine.sees.rest (sym mine.told.1 ∙ mine.sees.is) le,
           let p = total_ge parts s.views id v at in let a = k.fit.all in omega arith,
         ),

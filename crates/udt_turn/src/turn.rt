@@ -152,7 +152,8 @@ impl<V: Story> Turn<V> {
         ensures parted { IfErr result (λ _. IsWhole (view_of pass) → ⊥) }
         ensures err { IfErr result (λ r. (r.0 ≡ self) × IsPassOf r.0 r.1 × (view_of r.1 ≡ view_of pass)) }
     {
-        if self.ends(&mut pass.seat, pass.joined) {
+        let joined = pass.joined;
+        if self.ends(&mut pass.seat, joined) {
             let Pass {
                 seat,
                 last: _,
