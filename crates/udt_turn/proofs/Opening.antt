@@ -46,6 +46,7 @@ module _ {V E : Type 0} (t : Telling V E) where
           last = refl;
           drawn = omega arith;
           own = refl;
+          once = (refl, tt);
           above = λ n o. let b : None ≡ Some n = o in absurd (cc)
         });
         names = record {

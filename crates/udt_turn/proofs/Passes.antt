@@ -10,7 +10,7 @@ use Rattle.atomic_table.specs.Table.{State, Me, Act, keeps, Allows, Splits, Join
 use Rattle.atomic_table.proofs.Lists.{at_set, set_here, set_else, at_longer, at_last}
 use Rattle.udt_turn.specs.Story.{Telling}
 use Rattle.udt_turn.specs.History.{has, keep_if, mine_in, Begins, longer, shorter, value_after, MayFollow}
-use Rattle.udt_turn.specs.Rule.{total_of, ticket_of, queues, HasTurn, draws, owned_of, owns, IsLive, IsAlone, Knows, Claims, parts, Each, Some_view, Apart, Tickets, TicketsInOrder, OneHasTurn, Sees, IsView, Told, Child, Named, EachItem, NamesInOrder, NumbersFit, AloneHasAll, Kept}
+use Rattle.udt_turn.specs.Rule.{total_of, ticket_of, queues, HasTurn, draws, owned_of, owns, IsLive, IsAlone, Knows, Claims, parts, Each, Some_view, Apart, Tickets, TicketsInOrder, OneHasTurn, Sees, IsView, Told, NoTwice, Child, Named, EachItem, NamesInOrder, NumbersFit, AloneHasAll, Kept}
 use Rattle.udt_turn.specs.Kinds.{at_stage, drawn_to, spent, number_in, parent_of, child_of, joined, IsWhole, Counts, Numbers, Ends}
 use Rattle.udt_turn.specs.declared.view.View.{View}
 use Rattle.udt_turn.specs.declared.view.Stage.{Stage}
@@ -80,6 +80,18 @@ longer_case {A} xs ys = tells (leb (length xs) (length ys)) refl
     tells true e = inl (refl, refl, leb-true (length xs) (length ys) e)
     tells false e = let h : length ys < length xs = leb-false (length xs) (length ys) e in inr (refl, refl, omega arith)
 
+or_true_right : (a b : Bool) → b ≡ true → (a || b) ≡ true
+or_true_right true b h = refl
+or_true_right false b h = h
+
+-- two lists with no number twice and none in both are one such list together
+pub no_twice-append : (ms ns : List ℕ) → NoTwice ms → NoTwice ns → ((m : ℕ) → has ms m ≡ true → has ns m ≡ true → ⊥) → NoTwice (ms ++ ns)
+no_twice-append [] ns a b f = b
+no_twice-append (m ∷ ms) ns a b f = (
+  has-append ms ns m ∙ ap (λ z. z || has ns m) a.0 ∙ not_true (has ns m) (λ h. f m (has_head m ms) h),
+  no_twice-append ms ns a.1 b (λ k h g. f k (or_true_right (eqb m k) (has ms k) h) g),
+)
+
 pub shorter_le : {A : Type 0} (xs ys : List A) → length (shorter xs ys) ≤ length (longer xs ys)
 shorter_le xs ys = ⊎_elim
     (λ (c : (longer xs ys ≡ ys) × (shorter xs ys ≡ xs) × (length xs ≤ length ys)). let a = ap length c.0 in let b = ap length c.1 in let l = c.2 in omega arith)
@@ -138,7 +150,7 @@ module _ {V E : Type 0} (t : Telling V E) (opening : V) where
             turn = turn_same k.served (value_after t opening k.items) s.homes s.views id v w at (λ h. absurd (turn h)) (λ h. absurd (subst HasTurn stage h)) (λ h. absurd (turn h)) k.turn;
             history = k.history;
             view = each_set (λ (u : View V E). IsLive u.stage → IsView t opening k.numbers k.items u) s.views id w (λ j u _ g. k.view j u g)
-                (λ _. record { opened = mine.opened; sees = mine.sees; told = mine.told; knows = knows; last = mine.last; drawn = let f = found in omega arith; own = mine.own; above = λ m o. let bad : None ≡ Some m = sym owned ∙ o in absurd (cc) });
+                (λ _. record { opened = mine.opened; sees = mine.sees; told = mine.told; knows = knows; last = mine.last; drawn = let f = found in omega arith; own = mine.own; once = mine.once; above = λ m o. let bad : None ≡ Some m = sym owned ∙ o in absurd (cc) });
             names = names_same k.numbers k.items s.views id v w at refl refl (owned ∙ sym (ap owned_of stage)) k.names;
             fit = record {
               few = let h = total_set (λ (u : View V E). draws u.stage) s.views id v w at in let z0 : draws v.stage ≡ 0 = ap draws stage in omega arith;
@@ -186,8 +198,8 @@ module _ {V E : Type 0} (t : Telling V E) (opening : V) where
         turn = turn_same k.served (value_after t opening k.items) s.homes s.views id v w at (λ h. absurd (turn h)) (λ h. absurd (subst HasTurn stage h)) (λ h. absurd (turn h)) k.turn;
         history = k.history;
         view = each_set (λ (u : View V E). IsLive u.stage → IsView t opening (k.numbers + 1) k.items u) s.views id w
-            (λ j u _ g live. let h = k.view j u g live in record { opened = h.opened; sees = h.sees; told = h.told; knows = h.knows; last = h.last; drawn = let q = h.drawn in omega arith; own = h.own; above = h.above })
-            (λ _. record { opened = mine.opened; sees = mine.sees; told = mine.told; knows = knows; last = mine.last; drawn = let f = found in omega arith; own = mine.own;
+            (λ j u _ g live. let h = k.view j u g live in record { opened = h.opened; sees = h.sees; told = h.told; knows = h.knows; last = h.last; drawn = let q = h.drawn in omega arith; own = h.own; once = h.once; above = h.above })
+            (λ _. record { opened = mine.opened; sees = mine.sees; told = mine.told; knows = knows; last = mine.last; drawn = let f = found in omega arith; own = mine.own; once = mine.once;
               above = λ m q. let is = (owned m q).0 in let b = (k.names.below id v at v.number (inl mine.own)).0 in omega arith });
         names = record {
           below = each_set (λ (u : View V E). (m : ℕ) → Claims u m → (m < k.numbers + 1) × (m < 65535)) s.views id w
@@ -277,7 +289,7 @@ module _ {V E : Type 0} (t : Telling V E) (opening : V) where
         history = k.history;
         view = each_push (λ (u : View V E). IsLive u.stage → IsView t opening k.numbers k.items u) middle right
             (each_set (λ (u : View V E). IsLive u.stage → IsView t opening k.numbers k.items u) s.views id left (λ j u _ g. k.view j u g)
-                (λ _. record { opened = mine.opened; sees = mine.sees; told = mine.told; knows = tt; last = mine.last; drawn = mine.drawn; own = mine.own; above = λ m q. let bad : None ≡ Some m = q in absurd (cc) }))
+                (λ _. record { opened = mine.opened; sees = mine.sees; told = mine.told; knows = tt; last = mine.last; drawn = mine.drawn; own = mine.own; once = mine.once; above = λ m q. let bad : None ≡ Some m = q in absurd (cc) }))
             (λ _. record {
               opened = mine.opened;
               sees = record { rest = mine.sees.rest; is = mine.sees.is; none_of = subst (λ i. mine_in (i ∷ []) mine.sees.rest ≡ []) (sym number) rest_none };
@@ -286,6 +298,7 @@ module _ {V E : Type 0} (t : Telling V E) (opening : V) where
               last = sym (last_from-none t (number_in v.stage ∷ []) opening k.items 0 (subst (λ i. mine_in (i ∷ []) k.items ≡ []) (sym number) none));
               drawn = mine.drawn;
               own = has_head (number_in v.stage) [];
+              once = (refl, tt);
               above = λ m q. let bad : None ≡ Some m = q in absurd (cc)
             });
         names = record {

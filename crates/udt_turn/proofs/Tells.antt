@@ -90,6 +90,7 @@ module _ {V E : Type 0} (t : Telling V E) (opening : V) where
                 last = h.last ∙ sym (last_from-other t u.names opening k.items y 0 (bool_false (has u.names v.number) (λ b. z (k.names.apart j id u v v.number g at (inl b) (inl mine.own)))));
                 drawn = h.drawn;
                 own = h.own;
+                once = h.once;
                 above = h.above
               })
               (λ _. record {
@@ -100,6 +101,7 @@ module _ {V E : Type 0} (t : Telling V E) (opening : V) where
                 last = last_here;
                 drawn = mine.drawn;
                 own = mine.own;
+                once = mine.once;
                 above = λ m o. absurd (cc)
               }) in
       let names = names_same k.numbers k.items s.views id v w at refl refl (sym (ap owned_of stage)) k.names in
@@ -175,6 +177,7 @@ module _ {V E : Type 0} (t : Telling V E) (opening : V) where
                 last = mine.last;
                 drawn = mine.drawn;
                 own = mine.own;
+                once = mine.once;
                 above = λ m o. absurd (cc)
               });
           names = names_same k.numbers k.items s.views id v w at refl refl (sym (ap owned_of stage)) k.names;
@@ -214,6 +217,7 @@ module _ {V E : Type 0} (t : Telling V E) (opening : V) where
                 last = mine.last;
                 drawn = mine.drawn;
                 own = mine.own;
+                once = mine.once;
                 above = λ m o. absurd (cc)
               });
           names = names_same k.numbers k.items s.views id v w at refl refl (sym (ap owned_of stage)) k.names;
@@ -251,7 +255,7 @@ module _ {V E : Type 0} (t : Telling V E) (opening : V) where
           turn = turn_same k.served (value_after t opening k.items) s.homes s.views id v w at (λ h. h) (λ h. h) (λ _. refl) k.turn;
           history = k.history;
           view = each_set (λ (u : View V E). IsLive u.stage → IsView t opening k.numbers k.items u) s.views id w (λ j u _ g. k.view j u g)
-              (λ _. record { opened = mine.opened; sees = mine.sees; told = (k.items, refl); knows = mine.knows; last = mine.last; drawn = mine.drawn; own = mine.own; above = mine.above });
+              (λ _. record { opened = mine.opened; sees = mine.sees; told = (k.items, refl); knows = mine.knows; last = mine.last; drawn = mine.drawn; own = mine.own; once = mine.once; above = mine.above });
           names = names_same k.numbers k.items s.views id v w at refl refl refl k.names;
           fit = fit_same k.numbers s.views id v w at refl refl k.fit;
           alone = alone_set t opening k.numbers k.items s.views id v w at (live_parts t opening k.numbers k.items v mine) (λ q. subst IsAlone stage q) k.alone
@@ -262,6 +266,7 @@ module _ {V E : Type 0} (t : Telling V E) (opening : V) where
               record { legal = here_seen.legal; whole = λ h. here_seen.whole (record { first = h.first; children = h.children }); last = here_seen.last }),
           begins_both v.told v.seen.items mine.told.0 mine.sees.rest (sym mine.told.1 ∙ mine.sees.is) le,
           let p = total_ge parts s.views id v at in let a = k.fit.all in omega arith,
+          mine.once,
         ),
       )
 

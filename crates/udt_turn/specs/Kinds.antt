@@ -3,7 +3,7 @@ use Rattle.std.specs.Prelude.{◌≡◌, ◌≢◌, ℕ, ◌+◌, ◌*◌, ◌%�
 use Rattle.atomic_table.specs.Table.{Step, Me, rest}
 use Rattle.udt_turn.specs.Story.{Telling}
 use Rattle.udt_turn.specs.History.{has, mine_in, Begins, longer, shorter, value_of, value_after, IsLegal, last_of}
-use Rattle.udt_turn.specs.Rule.{Sees, Child}
+use Rattle.udt_turn.specs.Rule.{Sees, Child, NoTwice}
 use Rattle.udt_turn.specs.declared.view.View.{View}
 use Rattle.udt_turn.specs.declared.view.Stage.{Stage}
 use Rattle.udt_turn.specs.declared.view.Stage.TheVariants.{Idle, Waiting, Holding, Done, Counting, Owning, Alone, Spent}
@@ -125,7 +125,7 @@ module _ {V E : Type 0} where
 
   -- K11, after a join: what was told is forgotten, being the beginning of what was seen
   abbrev pub Settles : Telling V E → Step (Option V) → Me (Option V) (View V E) → ℕ → Me (Option V) (View V E) → Type 0
-  Settles t st me n me' = (me' ≡ (record me.0 { told = [] }, me.1)) × IsSound t me'.0 × Begins me.0.told me.0.seen.items × (length me.0.names ≤ 65535)
+  Settles t st me n me' = (me' ≡ (record me.0 { told = [] }, me.1)) × IsSound t me'.0 × Begins me.0.told me.0.seen.items × (length me.0.names ≤ 65535) × NoTwice me.0.names
 
   -- K6, at the end: it has all the names there are exactly where it has as many names as numbers below 65535 were drawn
   abbrev pub Ends : Step (Option V) → Me (Option V) (View V E) → ℕ → Me (Option V) (View V E) → Type 0

@@ -23,6 +23,11 @@ pub record Sees {E : Type 0} (names : List ℕ) (seen items : List (ℕ × E)) :
   pub is : items ≡ seen ++ rest
   pub none_of : mine_in names rest ≡ []
 
+-- no number stands twice in the list
+abbrev pub NoTwice : List ℕ → Type 0
+NoTwice [] = Unit {0}
+NoTwice (n ∷ ns) = (has ns n ≡ false) × NoTwice ns
+
 -- a child in these pairs
 abbrev pub Child : List (ℕ × ℕ) → ℕ → ℕ → Type 0
 Child [] p c = ⊥
@@ -120,6 +125,7 @@ module _ {V E : Type 0} where
     pub last : v.last ≡ last_from t v.names opening items 0
     pub drawn : v.drawn ≤ numbers
     pub own : has v.names v.number ≡ true
+    pub once : NoTwice v.names
     pub above : (n : ℕ) → owned_of v.stage ≡ Some n → v.number < n
 
   -- Part 3. The history is legal, and word 0 tells the count and the bits of the value for which it stands

@@ -13,3 +13,6 @@ pub use pass::Pass;
 pub use story::{Naming, Story};
 pub use turn::{Full, Look, OutOfMemory, Turn};
 pub use view::{History, Stage, View};
+
+#[cfg(test)]
+mod tests;

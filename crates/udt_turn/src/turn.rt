@@ -22,6 +22,13 @@ pub struct Turn<V: Story> {
     ghost slots: { table.shared.table_id.slots ≡ 1 },
 }
 
+impl<V: Story + Drop> Drop for Turn<V> {
+    fn drop(self) {
+        let Turn { table } = self;
+        drop(table);
+    }
+}
+
 /// There was no memory.
 #[derive(Debug, Drop)]
 pub struct OutOfMemory;
@@ -40,6 +47,7 @@ pub struct Look {
 impl<V: Story> Turn<V> {
     ghost use Rattle.std.specs.Prelude.{◌≡◌, ◌+◌, ◌^◌, ◌<◌, ◌≤◌, [], ◌∷◌, ◌++◌, IfOk, IfErr};
     ghost use Rattle.udt_turn.specs.History.{value_of, longer, Begins, IsLegal};
+    ghost use Rattle.udt_turn.specs.Rule.{NoTwice};
     ghost use Rattle.udt_turn.specs.Kinds.{newcomer, IsSound, IsWhole};
     ghost use Rattle.udt_turn.specs.Words.{view_of, seen_of, number_of, names_of, made_of, mine_of, drawn_of, opening_of, found_by, IsPassOf, IsHeld, KeepsNames, HasBranched};
 
@@ -131,6 +139,7 @@ impl<V: Story> Turn<V> {
         ensures own { IsPassOf self.now into.new }
         ensures number { number_of into.new ≡ number_of into.old }
         ensures names { names_of into.new ≡ names_of into.old ++ names_of gone }
+        ensures apart { NoTwice (names_of into.new) }
         ensures made { made_of into.new ≡ made_of into.old ++ made_of gone }
         ensures longer { (seen_of into.new).items ≡ longer (seen_of into.old).items (seen_of gone).items }
         ensures from_into { Begins (seen_of into.old).items (seen_of into.new).items }

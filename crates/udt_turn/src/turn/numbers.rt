@@ -10,6 +10,7 @@ impl<V: Story> Turn<V> {
     ghost use Rattle.std.specs.Prelude.{◌≡◌, ℕ, ◌+◌, ◌*◌, ◌%◌, ◌^◌, ◌<◌, ◌≤◌, [], ◌∷◌, Some, None, IsTrue, IsFalse, length, MatchBool, true, false};
     ghost use Rattle.udt_turn.specs.declared.view.Stage.TheVariants.{Idle, Owning, Alone};
     ghost use Rattle.udt_turn.specs.History.{value_of, mine_in, Begins, longer};
+    ghost use Rattle.udt_turn.specs.Rule.{NoTwice};
     ghost use Rattle.udt_turn.specs.Kinds.{at_stage, drawn_to, parent_of, child_of, joined, Shows, IsSound, IsWhole};
 
     // Loads word 0, and shows the history.
@@ -57,6 +58,7 @@ impl<V: Story> Turn<V> {
         ensures from_old { Begins seat.old.me.0.seen.items seat.new.me.0.seen.items }
         ensures from_gone { Begins gone.me.0.seen.items seat.new.me.0.seen.items }
         ensures few { length seat.new.me.0.names ≤ 65535 }
+        ensures once { NoTwice seat.new.me.0.names }
     {
         self.table.shared.join_seat::<Merge>(seat, gone);
         self.table.shared.load::<Settle>(seat, 0);
