@@ -6,7 +6,10 @@ use std::sync::Wait;
 use std::{hint, thread};
 
 // So many rounds are spun before the thread yields.
-const SPINS: u32 = 64;
+const SPINS: u32 = 2_000;
+
+// Only a thread spins that has fewer tickets before its own.
+const NEAR: u64 = 2;
 
 impl<V: Story> Turn<V> {
     ghost use Rattle.std.specs.Prelude.{◌≡◌, ℕ, ◌+◌, ◌*◌, ◌%◌, ◌^◌, ◌<◌, ◌≤◌, [], ◌∷◌, Some, None};
@@ -33,10 +36,11 @@ impl<V: Story> Turn<V> {
     {
         let mut rounds = 0u32;
         for _ in rt.forever() {
-            if self.table.shared.load::<Read>(seat, 2) == ticket {
+            let served = self.table.shared.load::<Read>(seat, 2);
+            if served == ticket {
                 return;
             }
-            rounds = pause(rounds);
+            rounds = pause(rounds, ticket.wrapping_sub(served));
         }
         unreachable!()
     }
@@ -97,13 +101,13 @@ impl<V: Story> Turn<V> {
     }
 }
 
-// Spins a little, and then lets other threads run.
-fn pause(rounds: u32) -> u32 {
-    if rounds < SPINS {
+// Spins a little where the turn is near, and then lets other threads run.
+fn pause(rounds: u32, distance: u64) -> u32 {
+    if rounds < SPINS && distance < NEAR {
         hint::spin_loop();
         rounds + 1
     } else {
         thread::yield_now();
-        rounds
+        0
     }
 }

@@ -5,8 +5,8 @@ use Rattle.udt_turn.proofs.Lock.{reads_keeps}
 use Rattle.udt_turn.proofs.turn.Turn.reach.Goals as goal
 
 -- the kind of step keeps the rule
-pub load-requires : goal.load-requires
-load-requires g c =
+pub load-served-requires : goal.load-served-requires
+load-served-requires g c =
     let words = c.args.self.now.words in
     let i = c.loop.invariant in
     let (k, low, stage) = c.requires.drew in
