@@ -1,5 +1,5 @@
 -- What a script prints: lines of calls and arrivals at sockets of a network in which anything may be delivered.
-use Rattle.std.specs.Prelude.{◌≡◌, ℕ, ◌+◌, ◌-◌, ◌*◌, ◌<◌, ◌==◌, Bool, true, false, not, ◌&&◌, ◌||◌, List, [], ◌∷◌, ◌++◌, length, take, map, Option, Some, None, Result, Ok, Err, slice_get, slice_set, option_map, position, is_some, take_while, sum_by, nat_lt, nat_le, decimal, codes, if◌then◌else◌}
+use Rattle.std.specs.Prelude.{ℕ, ◌+◌, ◌-◌, ◌==◌, Bool, true, false, not, ◌&&◌, List, [], ◌∷◌, ◌++◌, length, take, map, Option, Some, None, Result, Ok, Err, slice_get, slice_set, option_map, position, is_some, take_while, sum_by, nat_le, decimal, codes, if◌then◌else◌}
 use Rattle.udt_model.specs.declared.limits.TheConstants.{MOST_SOCKETS, LONGEST_SCRIPT, LONGEST_LINE}
 use Rattle.udt_model.specs.declared.addresses.Addr.{Addr}
 use Rattle.udt_model.specs.declared.addresses.Ip.TheVariants.{V4}
@@ -19,9 +19,9 @@ use Rattle.udt_model.specs.declared.packets.Malformed.TheVariants as malformed
 use Rattle.udt_model.specs.declared.scripts.ControlName.{ControlName}
 use Rattle.udt_model.specs.Addresses.{same_addr, address_text}
 use Rattle.udt_model.specs.Wire.{target}
-use Rattle.udt_model.specs.State.{State, Datagram}
+use Rattle.udt_model.specs.State.{Datagram}
 use Rattle.udt_model.specs.Step.{Act, Send, Recv, Pack, Arrive, Event, Reply, Sent, Received, DidPack, DidHear, step, opening}
-use Rattle.udt_model.specs.History.{Item, History, state_of, happened}
+use Rattle.udt_model.specs.History.{History, state_of, happened}
 use Rattle.udt_model.specs.Words.{◌>>=◌, is_word, hex_word}
 use Rattle.udt_model.specs.Lines.{Pairing, Line, Silent, PairLine, SendLine, RecvLine, PackLine, DeliverLine, read_line}
 

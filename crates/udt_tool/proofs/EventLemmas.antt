@@ -1,6 +1,6 @@
 -- What an event does to a network.
 use Rattle.std.proofs.Common.{◌≡◌, ℕ, zero, suc, ◌+◌, ◌<◌, ◌≤◌, List, [], ◌∷◌, ◌++◌, length, map, take, drop, get_or, set, Some, None, Option, refl, ap, ◌∙◌, sym, arith, append_assoc}
-use Rattle.std.specs.Prelude.{slice_get, slice_set}
+use Rattle.std.specs.Prelude.{slice_get, slice_set, Result, Ok, Err, OnOk, OnErr}
 use Rattle.std.proofs.lemmas.List.{append-nil, map-append, length-append, length-map, map-set, map_more, take_at, take-take}
 use Rattle.std.proofs.lemmas.Option.{slice_get-map, slice_get_within, get_or_from_slice_get}
 use Rattle.udt_model.specs.declared.addresses.Addr.{Addr}
@@ -105,3 +105,18 @@ pub kept_front : (old mid new text : List ℕ) (n m : ℕ) → n ≡ length old 
 kept_front old mid new text n m n_is m_is grown kept =
     let le : n ≤ m = omega (arith, ap length grown, length-append old text) in
     sym (take-take n m new le) ∙ rw (kept, grown) (take_at old text n (sym n_is))
+
+-- ---- results
+
+-- what holds in any case
+pub on_err_from : {T E P : Type 0} (r : Result T E) → P → OnErr r P
+on_err_from (Ok x) p = tt
+on_err_from (Err e) p = p
+
+-- two facts of one answer
+pub on_ok_both : {T E P Q R : Type 0} (r : Result T E) → (P → Q → R) → OnOk r P → OnOk r Q → OnOk r R
+on_ok_both (Ok x) f p q = f p q
+on_ok_both (Err e) f p q = tt
+
+pub same_Some : {A : Type 0} (x y : A) → Some x ≡ Some y → x ≡ y
+same_Some x y e = cc

@@ -1,3 +1,4 @@
 pub mod Seats
+pub mod Done
 pub mod ScriptLines
 pub mod Worlds

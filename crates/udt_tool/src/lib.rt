@@ -1,5 +1,6 @@
 //! The commands of the program, over sources and sinks of bytes.
 #![tactic(auto)]
 
+mod calls;
 mod network;
 mod world;

@@ -3,8 +3,8 @@
 ghost use Rattle.std.specs.Prelude.{◌≡◌, ℕ, ◌+◌, ◌<◌, ◌≤◌, ◌++◌, List, length, map, take, Some, slice_get, position, vec_len, IfSome, OnOk, OnErr};
 ghost use Rattle.udt_model.specs.Words.{is_word};
 ghost use Rattle.udt_model.specs.State.{Datagram};
-ghost use Rattle.udt_model.specs.Step.{Send, Recv, Pack, Arrive};
-ghost use Rattle.udt_model.specs.Script.{letters_text, letter_from};
+ghost use Rattle.udt_model.specs.Step.{Send, Recv, Pack, Arrive, step};
+ghost use Rattle.udt_model.specs.Script.{event_text, letters_text, letter_from};
 ghost use Rattle.udt_tool.specs.Seats.{letter_of, HasEvent};
 
 use std::alloc::{AllocError, Global};
@@ -33,12 +33,7 @@ pub fn place_of(seats: &[Seat], name: &[u8]) -> Option<usize>
     ensures value { result ≡ position (λ seat. is_word seat.name.items name.now) seats.now }
     ensures within { IfSome result (λ place. place < length seats.now) }
 {
-    for (place, seat) in seats.iter().enumerate() {
-        if seat.name.as_slice() == name {
-            return Some(place);
-        }
-    }
-    None
+    seats.iter().position(|seat| seat.name.as_slice() == name)
 }
 
 // Prints the datagrams that an event emitted, and keeps them.
@@ -82,6 +77,21 @@ pub fn send_at(
     print_sent(out, &seat.name, answer)
 }
 
+// A receive of this socket into this room.
+fn recv_into(seat: &mut Seat, now: u64, into: &mut [u8], out: &mut Vec<u8>) -> Result<(), AllocError>
+    ensures same { seat.new ≡ record seat.old { socket = seat.new.socket } }
+    ensures stepped { seat.new.socket
+        ≡ (step seat.old.socket (record { now = now; act = Recv (length into.old) })).after }
+    ensures text { OnOk result (out.new.items ≡ out.old.items ++ event_text seat.old.name.items
+        (step seat.old.socket (record { now = now; act = Recv (length into.old) })).reply) }
+    ensures err { OnErr result (take (vec_len out.old) out.new.items ≡ out.old.items) }
+{
+    match seat.socket.recv(now, into) {
+        Ok(count) => print_received(out, &seat.name, Ok(&into[..count])),
+        Err(why) => print_received(out, &seat.name, Err(why)),
+    }
+}
+
 /// A receive of the socket at this place, with room for so many bytes.
 pub fn recv_at(
     alloc: Global,
@@ -97,11 +107,7 @@ pub fn recv_at(
     ensures err { OnErr result (take (vec_len out.old) out.new.items ≡ out.old.items) }
 {
     let mut into = vec![in alloc; 0; room]?;
-    let seat = &mut seats[place];
-    match seat.socket.recv(now, &mut into) {
-        Ok(count) => print_received(out, &seat.name, Ok(&into[..count])),
-        Err(why) => print_received(out, &seat.name, Err(why)),
-    }
+    recv_into(&mut seats[place], now, &mut into, out)
 }
 
 /// A packing of the socket at this place.

@@ -71,7 +71,7 @@ module _ {V E : Type 0} where
   saying t v e = record v {
     seen = record { opening = v.seen.opening; items = found_in v.stage ++ (v.number, e) ∷ [] };
     last = t.count (t.after (value_after t v.seen.opening (found_in v.stage)) e);
-    stage = Done (ticket_in v.stage)
+    stage = Done (ticket_in v.stage);
   }
 
   -- K10: it has seen the history that it found with its item behind

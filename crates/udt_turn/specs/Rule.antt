@@ -172,4 +172,3 @@ module _ {V E : Type 0} where
     pub names : NamesInOrder numbers items s.views
     pub fit : NumbersFit numbers s.views
     pub alone : AloneHasAll s.views
-

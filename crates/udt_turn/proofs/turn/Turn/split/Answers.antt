@@ -15,5 +15,5 @@ invariant_of-result g c =
       counted = sym (ap (λ m. m.0.last) child);
       last_item = sym (ap (λ m. last_of t m.0.names m.0.seen) child ∙ last_from-none t (n ∷ []) seen.opening seen.items 0 none);
       named = sym (ap (λ m. length m.0.names) child);
-      few = omega arith
+      few = omega arith;
     }

@@ -5,6 +5,6 @@ use Rattle.udt_turn.proofs.turn.Turn.take.Goals as goal
 
 -- the slot was taken last
 pub exchange-requires : goal.exchange-requires
-exchange-requires g c = 
+exchange-requires g c =
     let (x, slot) = c.requires.slot in
     (c.requires.own, (Some x, slot ∙ ap (λ cs. (0, Some x) ∷ rest cs) (sym slot)))
