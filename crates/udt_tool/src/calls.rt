@@ -1,10 +1,12 @@
 // What each form of line does.
 
-ghost use Rattle.std.specs.Prelude.{◌≡◌, ℕ, ◌+◌, ◌<◌, ◌≤◌, List, length, take, true, vec_len, IfOk, OnErr};
+ghost use Rattle.std.specs.Prelude.{◌≡◌, ℕ, ◌+◌, ◌<◌, ◌≤◌, List, Some, length, take, true, vec_len, IfOk, OnErr};
+ghost use Rattle.udt_model.specs.Wire.{target as destination};
 ghost use Rattle.udt_model.specs.Lines.{PairLine, SendLine, RecvLine, PackLine, DeliverLine};
 ghost use Rattle.udt_model.specs.Script as model;
 ghost use Rattle.udt_model.specs.Script.{on_line, paired_seat};
 ghost use Rattle.udt_script.specs.CodeLines.{pairing_of, IsPairable};
+ghost use Rattle.udt_model.specs.declared.limits.TheConstants.{MOST_SOCKETS};
 ghost use Rattle.udt_model.specs.Addresses.{same_addr};
 ghost use Rattle.udt_tool.specs.Seats.{sight_of, sight_of_history, letter_of, Shows};
 ghost use Rattle.udt_tool.specs.Done.{DoesLine, IsRoute};
@@ -42,11 +44,13 @@ pub fn send(
             seats.new.items letters out.old.items out.new.items) }
     ensures err { OnErr result (take (vec_len out.old) out.new.items ≡ out.old.items) }
 {
-    let Some(place) = place_of(seats, name) else {
-        return Ok(false);
-    };
-    send_at(seats, place, now, bytes, out)?;
-    Ok(true)
+    match place_of(seats, name) {
+        None => Ok(false),
+        Some(place) => {
+            send_at(seats, place, now, bytes, out)?;
+            Ok(true)
+        }
+    }
 }
 
 /// A receive of the socket with this name. False where there is none.
@@ -64,11 +68,13 @@ pub fn recv(
             seats.new.items letters out.old.items out.new.items) }
     ensures err { OnErr result (take (vec_len out.old) out.new.items ≡ out.old.items) }
 {
-    let Some(place) = place_of(seats, name) else {
-        return Ok(false);
-    };
-    recv_at(alloc, seats, place, now, room, out)?;
-    Ok(true)
+    match place_of(seats, name) {
+        None => Ok(false),
+        Some(place) => {
+            recv_at(alloc, seats, place, now, room, out)?;
+            Ok(true)
+        }
+    }
 }
 
 /// A packing of the socket with this name. False where there is none.
@@ -86,11 +92,13 @@ pub fn pack(
             seats.new.items letters.new.items out.old.items out.new.items) }
     ensures err { OnErr result (take (vec_len out.old) out.new.items ≡ out.old.items) }
 {
-    let Some(place) = place_of(seats, name) else {
-        return Ok(false);
-    };
-    pack_at(alloc, seats, letters, outs, place, now, out)?;
-    Ok(true)
+    match place_of(seats, name) {
+        None => Ok(false),
+        Some(place) => {
+            pack_at(alloc, seats, letters, outs, place, now, out)?;
+            Ok(true)
+        }
+    }
 }
 
 // The addresses are the same.
@@ -109,22 +117,35 @@ pub enum Route {
     Id,
 }
 
+// The route to the socket with this ID at this host.
+fn route_to(seats: &[Seat], id: u32, host: Addr) -> Route
+    ensures value { (n : model.Network) (letters : List Letter) (letter : model.Letter)
+        → Shows n seats.now letters → letter.to ≡ host → Some id ≡ destination letter.bytes
+        → IsRoute n letter result }
+    ensures within { (place : ℕ) → result ≡ Route.To place → place < length seats.now }
+{
+    if id == 0 {
+        return Route::Shake;
+    }
+    let place = id as usize - 1;
+    if place >= seats.len() {
+        return Route::Id;
+    }
+    if !is_same(seats[place].host, host) {
+        return Route::Id;
+    }
+    Route::To(place)
+}
+
 // The route of a datagram, by its destination.
 fn route_of(seats: &[Seat], letter: &Letter) -> Route
-    ensures { (n : model.Network) (letters : List Letter) → Shows n seats.now letters
+    ensures value { (n : model.Network) (letters : List Letter) → Shows n seats.now letters
         → IsRoute n (letter_of letter.now) result }
+    ensures within { (place : ℕ) → result ≡ Route.To place → place < length seats.now }
 {
     match target(&letter.bytes) {
         None => Route::Short,
-        Some(0) => Route::Shake,
-        Some(id) => {
-            let place = id as usize - 1;
-            if place < seats.len() && is_same(seats[place].host, letter.to) {
-                Route::To(place)
-            } else {
-                Route::Id
-            }
-        }
+        Some(id) => route_to(seats, id, letter.to),
     }
 }
 
@@ -158,13 +179,20 @@ pub fn deliver(
 
 // Both names are new, and there is room for two sockets.
 fn may_pair(seats: &[Seat], pairing: &Pairing) -> bool
-    ensures { (n : model.Network) (letters : List Letter) → Shows n seats.now letters
+    ensures value { (n : model.Network) (letters : List Letter) → Shows n seats.now letters
         → result ≡ model.may_pair n (pairing_of pairing.now) }
+    ensures bound { result ≡ true → length seats.now + 2 ≤ MOST_SOCKETS }
 {
-    seats.len() as u64 + 2 <= MOST_SOCKETS
-        && pairing.a != pairing.b
-        && place_of(seats, pairing.a).is_none()
-        && place_of(seats, pairing.b).is_none()
+    if seats.len() as u64 + 2 > MOST_SOCKETS {
+        return false;
+    }
+    if pairing.a == pairing.b {
+        return false;
+    }
+    if place_of(seats, pairing.a).is_some() {
+        return false;
+    }
+    place_of(seats, pairing.b).is_none()
 }
 
 // One socket of a pair.

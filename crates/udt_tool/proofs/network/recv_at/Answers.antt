@@ -10,7 +10,7 @@ pub returns-clause-ok : goal.returns-clause-ok
 returns-clause-ok c =
     let seats = c.args.seats.now in
     let seat = c.index_mut.result.now in
-    let room : length c.deref_mut.result.now ≡ c.args.room = ? in
+    let room : length c.deref_mut.result.now ≡ c.args.room = omega (arith, c.deref_mut.ensures.len, c.in_ok-into.ensures.len) in
     let stepped = rw room at c.recv_into.ensures.stepped in
     let same = c.recv_into.ensures.same in
     on_ok_weaker c.recv_into.result
