@@ -172,7 +172,8 @@ module _ {V E : Type 0} (t : Telling V E) (opening : V) where
               let sound : IsSound t (seeing v k.items Idle) = record {
                 legal = subst (λ o. MayFollow t o k.items) (sym mine.opened) k.history.legal;
                 whole = λ h. whole_has t opening s k id v at (record { first = h.first; children = h.children });
-                last = subst (λ o. v.last ≡ last_from t v.names o k.items 0) (sym mine.opened) mine.last
+                last = subst (λ o. v.last ≡ last_from t v.names o k.items 0) (sym mine.opened) mine.last;
+                own = mine.own
               } in
               let slot : (0, Some x) ∷ me.1 ≡ (0, Some (value_after t v.seen.opening k.items)) ∷ me.1 = ap (λ o. (0, Some (value_after t o k.items)) ∷ me.1) (sym mine.opened) in (
                 w,

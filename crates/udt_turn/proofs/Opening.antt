@@ -64,4 +64,4 @@ module _ {V E : Type 0} (t : Telling V E) where
 
   -- the first pass has seen the opening value
   pub newcomer_sound : (x : V) → IsSound t (newcomer x)
-  newcomer_sound x = record { legal = tt; whole = λ _. refl; last = refl }
+  newcomer_sound x = record { legal = tt; whole = λ _. refl; last = refl; own = refl }

@@ -41,7 +41,8 @@ module _ {V E : Type 0} (t : Telling V E) (opening : V) where
   sound_now s k id v st at live = record {
     legal = subst (λ o. MayFollow t o k.items) (sym (k.view id v at live).opened) k.history.legal;
     whole = λ h. whole_has t opening s k id v at (record { first = h.first; children = h.children });
-    last = let mine = k.view id v at live in subst (λ o. v.last ≡ last_from t v.names o k.items 0) (sym mine.opened) mine.last
+    last = let mine = k.view id v at live in subst (λ o. v.last ≡ last_from t v.names o k.items 0) (sym mine.opened) mine.last;
+    own = (k.view id v at live).own
   }
 
   -- what a live view has seen is sound
@@ -51,7 +52,8 @@ module _ {V E : Type 0} (t : Telling V E) (opening : V) where
       record {
         legal = may_follow-front t v.seen.opening v.seen.items mine.sees.rest (subst (λ xs. MayFollow t v.seen.opening xs) mine.sees.is (subst (λ o. MayFollow t o k.items) (sym mine.opened) k.history.legal));
         whole = λ h. seen_whole v.names v.seen.items k.items mine.sees (whole_has t opening s k id v at (record { first = h.first; children = h.children }));
-        last = subst (λ o. v.last ≡ last_from t v.names o v.seen.items 0) (sym mine.opened) (mine.last ∙ last_from-seen t v.names opening v.seen.items k.items 0 mine.sees)
+        last = subst (λ o. v.last ≡ last_from t v.names o v.seen.items 0) (sym mine.opened) (mine.last ∙ last_from-seen t v.names opening v.seen.items k.items 0 mine.sees);
+        own = mine.own
       }
 
   -- K10 keeps the rule
@@ -136,7 +138,8 @@ module _ {V E : Type 0} (t : Telling V E) (opening : V) where
           (record {
             legal = subst (λ o. MayFollow t o items) (sym mine.opened) rule.history.legal;
             whole = λ h. whole_has t opening record { words = slice_set s.words 0 new; homes = s.homes; views = slice_set s.views id w } rule id w (here s.views id v w at) (record { first = h.first; children = h.children });
-            last = subst (λ o. w.last ≡ last_from t v.names o items 0) (sym mine.opened) last_here
+            last = subst (λ o. w.last ≡ last_from t v.names o items 0) (sym mine.opened) last_here;
+            own = mine.own
           }) in (
         w,
         keeps,
@@ -263,7 +266,7 @@ module _ {V E : Type 0} (t : Telling V E) (opening : V) where
         (
           refl,
           (let here_seen = sound_seen s k id v at (subst IsLive (sym stage) tt) in
-              record { legal = here_seen.legal; whole = λ h. here_seen.whole (record { first = h.first; children = h.children }); last = here_seen.last }),
+              record { legal = here_seen.legal; whole = λ h. here_seen.whole (record { first = h.first; children = h.children }); last = here_seen.last; own = here_seen.own }),
           begins_both v.told v.seen.items mine.told.0 mine.sees.rest (sym mine.told.1 ∙ mine.sees.is) le,
           let p = total_ge parts s.views id v at in let a = k.fit.all in omega arith,
           mine.once,
@@ -273,4 +276,4 @@ module _ {V E : Type 0} (t : Telling V E) (opening : V) where
 module _ {V E : Type 0} (t : Telling V E) where
   -- a view at another stage is as sound
   pub sound_staged : (v : View V E) (st : Stage E) → IsSound t v → IsSound t (at_stage v st)
-  sound_staged v st h = record { legal = h.legal; whole = λ w. h.whole (record { first = w.first; children = w.children }); last = h.last }
+  sound_staged v st h = record { legal = h.legal; whole = λ w. h.whole (record { first = w.first; children = w.children }); last = h.last; own = h.own }

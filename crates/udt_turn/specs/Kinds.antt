@@ -45,11 +45,12 @@ module _ {V E : Type 0} where
     pub first : has v.names 0 ≡ true
     pub children : (p m : ℕ) → Child v.made p m → has v.names m ≡ true
 
-  -- what was seen is legal, where the view is whole all of it was made under its names, and the count after the last item of its own is known
+  -- what was seen is legal, where the view is whole all of it was made under its names, the count after the last item of its own is known, and its own number is a name of it
   pub record IsSound (t : Telling V E) (v : View V E) : Type 0 where
     pub legal : IsLegal t v.seen
     pub whole : IsWhole v → mine_in v.names v.seen.items ≡ v.seen.items
     pub last : v.last ≡ last_of t v.names v.seen
+    pub own : has v.names v.number ≡ true
 
   -- K1: it has the ticket that it found
   abbrev pub Draws : Step (Option V) → Me (Option V) (View V E) → ℕ → Me (Option V) (View V E) → Type 0

@@ -22,11 +22,12 @@ module _ {V E : Type 0} where
   table_of turn = turn.table.shared.table_id
 
 module _ {V E : Type 0} where
-  -- number, names and pairs stay
+  -- number, names and pairs stay, and so does what is known of the numbers drawn
   pub record KeepsNames (before after : View V E) : Type 0 where
     pub number : after.number ≡ before.number
     pub names : after.names ≡ before.names
     pub made : after.made ≡ before.made
+    pub drawn : after.drawn ≡ before.drawn
 
   -- the new view has a number of its own, which no step had shown as drawn yet, and it has seen as much and made nothing
   pub record HasBranched (old new : View V E) : Type 0 where

@@ -13,11 +13,11 @@ pub struct Held<'a, V: Story> {
 impl<'a, V: Story> Held<'a, V> {
     ghost use Rattle.std.specs.Prelude.{◌≡◌, ℕ};
     ghost use Rattle.std.specs.Borrow.{sem};
-    ghost use Rattle.std.specs.Prelude.{Some};
+    ghost use Rattle.std.specs.Prelude.{[], ◌∷◌, ◌++◌, Some};
     ghost use Rattle.udt_turn.specs.History.{value_of};
     ghost use Rattle.udt_turn.specs.Kinds.{IsSound};
     ghost use Rattle.udt_turn.specs.Lending.{LendsValue};
-    ghost use Rattle.udt_turn.specs.Words.{view_of, seen_of, found_by, with_item, IsPassOf, IsHeld, GoesOn, KeepsNames};
+    ghost use Rattle.udt_turn.specs.Words.{view_of, seen_of, number_of, mine_of, found_by, with_item, IsPassOf, IsHeld, GoesOn, KeepsNames};
 
     /// The value, to be read and changed.
     pub fn value(&mut self) -> &mut V
@@ -34,6 +34,7 @@ impl<'a, V: Story> Held<'a, V> {
         ensures own { IsPassOf self.entry.turn.now self.exit.1.0.now }
         ensures names { KeepsNames (view_of self.entry.pass.now) (view_of self.exit.1.0.now) }
         ensures seen { (e : V.Entry) → N.item ≡ Some e → seen_of self.exit.1.0.now ≡ with_item self.entry.pass.now e }
+        ensures mine { (e : V.Entry) → N.item ≡ Some e → mine_of self.exit.1.0.now ≡ mine_of self.entry.pass.now ++ (number_of self.entry.pass.now, e) ∷ [] }
         ensures sound { IsSound V.tale (view_of self.exit.1.0.now) }
     {
         let Held { turn, pass, value } = self;
@@ -47,6 +48,7 @@ impl<'a, V: Story> Held<'a, V> {
         ensures own { IsPassOf self.entry.turn.now self.exit.1.0.now }
         ensures names { KeepsNames (view_of self.entry.pass.now) (view_of self.exit.1.0.now) }
         ensures seen { seen_of self.exit.1.0.now ≡ found_by self.entry }
+        ensures mine { mine_of self.exit.1.0.now ≡ mine_of self.entry.pass.now }
         ensures sound { IsSound V.tale (view_of self.exit.1.0.now) }
     {
         let Held { turn, pass, value } = self;

@@ -45,7 +45,7 @@ pub struct Look {
 }
 
 impl<V: Story> Turn<V> {
-    ghost use Rattle.std.specs.Prelude.{◌≡◌, ◌+◌, ◌^◌, ◌<◌, ◌≤◌, [], ◌∷◌, ◌++◌, IfOk, IfErr};
+    ghost use Rattle.std.specs.Prelude.{◌≡◌, ◌+◌, ◌^◌, ◌<◌, ◌≤◌, [], ◌∷◌, ◌++◌, IfOk, IfErr, max};
     ghost use Rattle.udt_turn.specs.History.{value_of, longer, Begins, IsLegal};
     ghost use Rattle.udt_turn.specs.Rule.{NoTwice};
     ghost use Rattle.udt_turn.specs.Kinds.{newcomer, IsSound, IsWhole};
@@ -119,6 +119,7 @@ impl<V: Story> Turn<V> {
         ensures seen { seen_of pass.new ≡ seen_of pass.old }
         ensures new { IfOk result (λ p. IsPassOf self.now p × HasBranched (view_of pass.old) (view_of p)) }
         ensures made { IfOk result (λ p. made_of pass.new ≡ (number_of pass.old, number_of p) ∷ made_of pass.old) }
+        ensures drawn { IfOk result (λ p. drawn_of pass.new ≡ number_of p + 1) }
         ensures full { IfErr result (λ _. (65535 ≤ drawn_of pass.new) × (made_of pass.new ≡ made_of pass.old)) }
     {
         if !self.number(&mut pass.seat) {
@@ -141,6 +142,7 @@ impl<V: Story> Turn<V> {
         ensures names { names_of into.new ≡ names_of into.old ++ names_of gone }
         ensures apart { NoTwice (names_of into.new) }
         ensures made { made_of into.new ≡ made_of into.old ++ made_of gone }
+        ensures drawn { drawn_of into.new ≡ max (drawn_of into.old) (drawn_of gone) }
         ensures longer { (seen_of into.new).items ≡ longer (seen_of into.old).items (seen_of gone).items }
         ensures from_into { Begins (seen_of into.old).items (seen_of into.new).items }
         ensures from_gone { Begins (seen_of gone).items (seen_of into.new).items }

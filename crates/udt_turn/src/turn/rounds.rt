@@ -5,10 +5,10 @@ use crate::turn::Turn;
 use std::sync::Wait;
 
 impl<V: Story> Turn<V> {
-    ghost use Rattle.std.specs.Prelude.{◌≡◌, Some};
+    ghost use Rattle.std.specs.Prelude.{◌≡◌, [], ◌∷◌, ◌++◌, Some};
     ghost use Rattle.udt_turn.specs.History.{value_of};
     ghost use Rattle.udt_turn.specs.Kinds.{IsSound};
-    ghost use Rattle.udt_turn.specs.Words.{view_of, seen_of, found_of, with_item, IsPassOf, IsHolding, GoesOn, KeepsNames};
+    ghost use Rattle.udt_turn.specs.Words.{view_of, seen_of, number_of, mine_of, found_of, with_item, IsPassOf, IsHolding, GoesOn, KeepsNames};
 
     // Waits for the turn, and takes the value.
     pub(crate) fn begin<R: Wait>(&self, rt: &R, pass: &mut Pass<V>) -> V
@@ -30,6 +30,7 @@ impl<V: Story> Turn<V> {
         ensures own { IsPassOf self.now pass.new }
         ensures names { KeepsNames (view_of pass.old) (view_of pass.new) }
         ensures seen { (e : V.Entry) → N.item ≡ Some e → seen_of pass.new ≡ with_item pass.old e }
+        ensures mine { (e : V.Entry) → N.item ≡ Some e → mine_of pass.new ≡ mine_of pass.old ++ (number_of pass.old, e) ∷ [] }
         ensures sound { IsSound V.tale (view_of pass.new) }
     {
         let count = value.count();
@@ -46,6 +47,7 @@ impl<V: Story> Turn<V> {
         ensures own { IsPassOf self.now pass.new }
         ensures names { KeepsNames (view_of pass.old) (view_of pass.new) }
         ensures seen { seen_of pass.new ≡ found_of pass.old }
+        ensures mine { mine_of pass.new ≡ mine_of pass.old }
         ensures sound { IsSound V.tale (view_of pass.new) }
     {
         self.pass_by(&mut pass.seat);

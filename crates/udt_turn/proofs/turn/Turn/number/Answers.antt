@@ -14,5 +14,5 @@ pub fetch_add-requires : goal.fetch_add-requires
 fetch_add-requires g c =
     let words = c.args.self.now.words in
     let l = c.load.ensures in
-    let small : c.load.result < 65535 = c.if-load-ge-PASSES.false in
+    let small : c.load.result < 65535 = omega (arith, c.if-load-ge-PASSES.false) in
     (l.0 ∙ c.requires.own, omega arith, numbers_keeps g.V.Story.tale c.args.self.now.table.shared.key.value _ _ c.load.new.seat.me (step 0 0 0 0 opt.none) (ap (λ m. m.0.stage) (l.2.1 small)))
