@@ -7,12 +7,11 @@ mod turns;
 
 use crate::tally::Tally;
 use std::alloc::Global;
-use std::env;
-use std::io;
 use std::rt::Clock;
 use std::sync::{Mutex, Wait};
 use std::thread::Threads;
 use std::time::{Duration, Instant};
+use std::{env, io};
 use udt_turn::Turn;
 
 // So many events each thread makes.

@@ -60,7 +60,12 @@ pub fn two<R: Threads + Wait + Sync>(rt: &R, turn: &Turn<Tally>, mut pass: Pass<
 }
 
 /// So many by each of four threads.
-pub fn four<R: Threads + Wait + Sync>(rt: &R, turn: &Turn<Tally>, mut pass: Pass<Tally>, events: u32)
+pub fn four<R: Threads + Wait + Sync>(
+    rt: &R,
+    turn: &Turn<Tally>,
+    mut pass: Pass<Tally>,
+    events: u32,
+)
     requires { IsPassOf turn.now pass }
 {
     let Ok(other) = turn.split(&mut pass) else {
@@ -78,7 +83,12 @@ pub fn four<R: Threads + Wait + Sync>(rt: &R, turn: &Turn<Tally>, mut pass: Pass
 }
 
 /// So many by each of eight threads.
-pub fn eight<R: Threads + Wait + Sync>(rt: &R, turn: &Turn<Tally>, mut pass: Pass<Tally>, events: u32)
+pub fn eight<R: Threads + Wait + Sync>(
+    rt: &R,
+    turn: &Turn<Tally>,
+    mut pass: Pass<Tally>,
+    events: u32,
+)
     requires { IsPassOf turn.now pass }
 {
     let Ok(other) = turn.split(&mut pass) else {

@@ -1,8 +1,8 @@
 -- Histories that go on: the value after one more item, what is legal still, and whose items they are.
-use Rattle.std.proofs.Common.{◌≡◌, ◌≢◌, ◌⊎◌, ℕ, zero, suc, ◌+◌, ◌<◌, ◌≤◌, max, Bool, true, false, ◌||◌, List, [], ◌∷◌, ◌++◌, length, refl, sym, ap, ◌∙◌, subst, inl, inr, ⊎_elim, arith, append-nil, append_assoc, length-append}
-use Rattle.std.specs.Prelude.{eqb, if◌then◌else◌, leb}
+use Rattle.std.proofs.Common.{◌≡◌, ℕ, suc, ◌+◌, ◌≤◌, max, Bool, true, false, ◌||◌, List, [], ◌∷◌, ◌++◌, length, refl, sym, ap, ◌∙◌, arith, append-nil, append_assoc, length-append}
+use Rattle.std.specs.Prelude.{eqb, if◌then◌else◌}
 use Rattle.udt_turn.specs.Story.{Telling}
-use Rattle.udt_turn.specs.History.{has, keep_if, mine_in, Begins, longer, shorter, value_after, MayFollow, last_from}
+use Rattle.udt_turn.specs.History.{has, keep_if, mine_in, Begins, value_after, MayFollow, last_from}
 use Rattle.udt_turn.specs.Rule.{Sees}
 
 module _ {V E : Type 0} (t : Telling V E) where
@@ -49,7 +49,7 @@ pub sees_more : {E : Type 0} (names : List ℕ) (seen items : List (ℕ × E)) (
 sees_more names seen items y not h = record {
   rest = h.rest ++ y ∷ [];
   is = ap (λ zs. zs ++ y ∷ []) h.is ∙ append_assoc seen h.rest (y ∷ []);
-  none_of = mine_in-append names h.rest (y ∷ []) ∙ ap (λ zs. zs ++ mine_in names (y ∷ [])) h.none_of ∙ ap (λ b. keep_if b y []) not
+  none_of = mine_in-append names h.rest (y ∷ []) ∙ ap (λ zs. zs ++ mine_in names (y ∷ [])) h.none_of ∙ ap (λ b. keep_if b y []) not;
 }
 
 pub begins_more : {A : Type 0} (xs ys zs : List A) → Begins xs ys → Begins xs (ys ++ zs)
@@ -176,7 +176,7 @@ module _ {V E : Type 0} (t : Telling V E) where
       let n = t.count (t.after s x.1) in
       let up : n ≡ t.count s + 1 = legal.1 in
       let step : (if has (ms ++ ns) x.0 then n else max a b) ≡ max (if has ms x.0 then n else a) (if has ns x.0 then n else b) =
-          later_of (has ms x.0) (has ns x.0) (has (ms ++ ns) x.0) a b n (has-append ms ns x.0) (omega arith) (omega arith) in
+      later_of (has ms x.0) (has ns x.0) (has (ms ++ ns) x.0) a b n (has-append ms ns x.0) (omega arith) (omega arith) in
       ap (λ c. last_from t (ms ++ ns) (t.after s x.1) xs c) step
       ∙ last_from-both ms ns (t.after s x.1) xs (if has ms x.0 then n else a) (if has ns x.0 then n else b)
-          (no_later (has ms x.0) a (t.count s) n la up) (no_later (has ns x.0) b (t.count s) n lb up) legal.2
+      (no_later (has ms x.0) a (t.count s) n la up) (no_later (has ns x.0) b (t.count s) n lb up) legal.2

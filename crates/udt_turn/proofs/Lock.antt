@@ -1,23 +1,23 @@
 -- The kinds of step that draw a ticket, read which one is served, and call the next one keep the rule.
-use Rattle.std.proofs.Common.{◌≡◌, ◌≢◌, ◌⊎◌, ℕ, zero, suc, ◌+◌, ◌*◌, ◌%◌, ◌^◌, ◌<◌, ◌≤◌, min, Bool, true, false, List, [], ◌∷◌, ◌++◌, length, set, Option, Some, None, refl, sym, ap, ◌∙◌, subst, inl, inr, ⊎_elim, arith, append-nil, lt_of_not-le}
+use Rattle.std.proofs.Common.{◌≡◌, ◌≢◌, ℕ, ◌+◌, ◌%◌, ◌^◌, ◌<◌, ◌≤◌, true, List, [], ◌∷◌, length, set, Option, Some, None, refl, sym, ap, ◌∙◌, subst, inl, inr, ⊎_elim, arith, lt_of_not-le}
 use Rattle.std.specs.Prelude.{slice_index, slice_set}
 use mathlib.Core.Option as opt
 use mathlib.Core.Option.{some, some-ne-none, some-injective}
 use mathlib.Core.Logic.{dite}
 use native.Mathlib.Decide.{ℕ_discrete, dec_le}
 use lib.ListN.{get_elem?}
-use Rattle.atomic_table.specs.Table.{State, Me, Act, keeps, takes, gives, Allows, Step, step, put_back, rest}
-use Rattle.atomic_table.proofs.Lists.{at_set, set_here, set_else, set_again, one_turn}
+use Rattle.atomic_table.specs.Table.{State, Me, keeps, takes, gives, Allows, Step, put_back}
+use Rattle.atomic_table.proofs.Lists.{set_again, one_turn}
 use Rattle.udt_turn.specs.Story.{Telling}
-use Rattle.udt_turn.specs.History.{has, mine_in, Begins, value_after, MayFollow, last_from}
-use Rattle.udt_turn.specs.Rule.{total_of, ticket_of, queues, HasTurn, draws, owned_of, owns, IsLive, IsAlone, Knows, Claims, parts, Each, Some_view, Apart, Tickets, TicketsInOrder, OneHasTurn, Sees, IsView, Told, NamesInOrder, NumbersFit, AloneHasAll, Kept}
-use Rattle.udt_turn.specs.Kinds.{at_stage, seeing, ticket_in, IsWhole, IsSound, Draws, Takes, Reads, Calls}
+use Rattle.udt_turn.specs.History.{has, value_after, MayFollow, last_from}
+use Rattle.udt_turn.specs.Rule.{total_of, ticket_of, queues, HasTurn, draws, owned_of, owns, IsLive, IsAlone, Knows, parts, Each, Some_view, Tickets, IsView, AloneHasAll, Kept}
+use Rattle.udt_turn.specs.Kinds.{at_stage, seeing, ticket_in, IsSound, Draws, Reads, Calls}
 use Rattle.udt_turn.specs.declared.view.View.{View}
 use Rattle.udt_turn.specs.declared.view.Stage.{Stage}
 use Rattle.udt_turn.specs.declared.view.Stage.TheVariants.{Idle, Waiting, Holding, Done}
 use Rattle.udt_turn.proofs.Whole.{whole_has}
-use Rattle.udt_turn.proofs.Views.{total_set, total_same, total_le, total_ge, total_two, same_at, each_set}
-use Rattle.udt_turn.proofs.Parts.{apart_set, apart_less, here, some_set, tickets_same, turn_same, one_holder, names_same, fit_same}
+use Rattle.udt_turn.proofs.Views.{total_set, total_le, total_two, same_at, each_set}
+use Rattle.udt_turn.proofs.Parts.{apart_set, apart_less, here, tickets_same, turn_same, one_holder, names_same, fit_same}
 
 wrap : (n : ℕ) → (n % 2 ^ 64 + 1) % 2 ^ 64 ≡ (n + 1) % 2 ^ 64
 wrap n = omega arith
@@ -54,9 +54,9 @@ module _ {V E : Type 0} (t : Telling V E) (opening : V) where
   pub few_out : (s : State (Option V) (View V E)) (k : Kept t opening s) → total_of (λ (v : View V E). queues v.stage) s.views ≤ 65535
   few_out s k =
       let each : (j : ℕ) (v : View V E) → get_elem? s.views j ≡ some v → queues v.stage ≤ parts v = λ j v g.
-          dite (dec_le 1 (queues v.stage))
-              (λ q. let one = queued_one v.stage in let p = live_parts k.numbers k.items v (k.view j v g (queued_live v.stage q)) in omega arith)
-              (λ q. let z : queues v.stage < 1 = lt_of_not-le q in omega arith) in
+      dite (dec_le 1 (queues v.stage))
+      (λ q. let one = queued_one v.stage in let p = live_parts k.numbers k.items v (k.view j v g (queued_live v.stage q)) in omega arith)
+      (λ q. let z : queues v.stage < 1 = lt_of_not-le q in omega arith) in
       let le = total_le (λ (v : View V E). queues v.stage) parts s.views each in
       let all = k.fit.all in
       omega arith
@@ -66,8 +66,8 @@ module _ {V E : Type 0} (t : Telling V E) (opening : V) where
       → (IsAlone w.stage → ⊥) → AloneHasAll views → AloneHasAll (set views id w)
   alone_set numbers items views id v w at live not k =
       each_set (λ (u : View V E). IsAlone u.stage → total_of parts (set views id w) ≡ parts u) views id w
-          (λ j u n g a. let one = k j u g a in let two = total_two parts views j id u v n g at in absurd (omega arith))
-          (λ a. absurd (not a))
+      (λ j u n g a. let one = k j u g a in let two = total_two parts views j id u v n g at in absurd (omega arith))
+      (λ a. absurd (not a))
 
   -- a step that changes nothing
   pub nothing : (s : State (Option V) (View V E)) (id : ℕ) (v : View V E) (i : ℕ) → get_elem? s.views id ≡ some v → Kept t opening s → slice_set s.words i (slice_index s.words i) ≡ s.words
@@ -103,7 +103,7 @@ module _ {V E : Type 0} (t : Telling V E) (opening : V) where
                 (λ j u n g m c. let h = k.tickets.within j u g m c in (h.0, omega arith))
                 (λ m c. let q : Some k.drawn ≡ Some m = c in let h : k.drawn ≡ m = cc in (omega arith, omega arith));
             apart = apart_set Tickets s.views id w k.tickets.apart
-                (λ j u m n g cw cu. let q : Some k.drawn ≡ Some m = cw in let h : k.drawn ≡ m = cc in let b = k.tickets.within j u g m cu in omega arith)
+                (λ j u m n g cw cu. let q : Some k.drawn ≡ Some m = cw in let h : k.drawn ≡ m = cc in let b = k.tickets.within j u g m cu in omega arith);
           };
           turn = turn_same k.served (value_after t opening k.items) s.homes s.views id v w at (λ h. absurd h) (λ h. absurd (subst HasTurn e h)) (λ h. absurd h) k.turn;
           history = k.history;
@@ -111,7 +111,7 @@ module _ {V E : Type 0} (t : Telling V E) (opening : V) where
               (λ _. staged k.numbers k.items v (Waiting k.drawn) mine tt (λ n o. absurd (cc)));
           names = names_same k.numbers k.items s.views id v w at refl refl (sym (ap owned_of e)) k.names;
           fit = fit_same k.numbers s.views id v w at (sym (ap draws e)) (ap (λ n. length v.names + n) (sym (ap owns e))) k.fit;
-          alone = alone_set k.numbers k.items s.views id v w at (live_parts k.numbers k.items v mine) (λ a. a) k.alone
+          alone = alone_set k.numbers k.items s.views id v w at (live_parts k.numbers k.items v mine) (λ a. a) k.alone;
         },
         (k.drawn, found, refl),
       )
@@ -138,57 +138,57 @@ module _ {V E : Type 0} (t : Telling V E) (opening : V) where
       let ticket : ticket_in v.stage ≡ n = ap ticket_in e in
       let drew : Tickets v n = ap ticket_of e in
       dite (ℕ_discrete (slice_index s.words 2) (n % 2 ^ 64))
-          (λ (is : slice_index s.words 2 ≡ n % 2 ^ 64).
-              let now : k.served ≡ n = served_now s k id n v at drew (sym found ∙ is) in
-              let w = at_stage v (Holding (ticket_in v.stage) k.items) in
-              let x = value_after t opening k.items in
-              let here_now : Tickets w k.served = ap Some (ticket ∙ sym now) in
-              let free : (s.homes ≡ some (Some x) ∷ []) × Each s.views (λ u. HasTurn u.stage → ⊥) =
-                  ⊎_elim (λ h. h)
-                      (λ (a : (s.homes ≡ opt.none ∷ []) × Some_view s.views (λ u. HasTurn u.stage)).
-                          let (j, u, g, h) = a.1 in
-                          let one : j ≡ id = one_holder k.served k.drawn x s.homes s.views j id u v k.tickets k.turn g at h (drew ∙ ap Some (sym now)) in
-                          absurd (not_waiting v.stage n e (subst (λ (y : View V E). HasTurn y.stage) (same_at s.views id u v (subst (λ i. get_elem? s.views i ≡ some u) one g) at) h)))
-                      k.turn.slot in
-              let rule : Kept t opening record { words = slice_set s.words 2 (slice_index s.words 2); homes = slice_set s.homes 0 opt.none; views = slice_set s.views id w } = record {
-                items = k.items;
-                word = k.word;
-                served = k.served;
-                drawn = k.drawn;
-                numbers = k.numbers;
-                words = same ∙ k.words;
-                tickets = tickets_same k.served k.drawn s.views id v w at (ap Some ticket ∙ sym drew) (sym (ap queues e)) k.tickets;
-                turn = record {
-                  slot = inr (ap (λ hs. slice_set hs 0 opt.none) free.0, (id, w, here s.views id v w at, tt));
-                  whose = each_set (λ (u : View V E). HasTurn u.stage → Tickets u k.served) s.views id w (λ j u _ g h. k.turn.whose j u g h) (λ _. here_now)
-                };
-                history = k.history;
-                view = each_set (λ (u : View V E). IsLive u.stage → IsView t opening k.numbers k.items u) s.views id w (λ j u _ g. k.view j u g)
-                    (λ _. staged k.numbers k.items v (Holding (ticket_in v.stage) k.items) mine refl (λ n o. absurd (cc)));
-                names = names_same k.numbers k.items s.views id v w at refl refl (sym (ap owned_of e)) k.names;
-                fit = fit_same k.numbers s.views id v w at (sym (ap draws e)) (ap (λ n. length v.names + n) (sym (ap owns e))) k.fit;
-                alone = alone_set k.numbers k.items s.views id v w at (live_parts k.numbers k.items v mine) (λ a. a) k.alone
-              } in
-              let sound : IsSound t (seeing v k.items Idle) = record {
-                legal = subst (λ o. MayFollow t o k.items) (sym mine.opened) k.history.legal;
-                whole = λ h. whole_has t opening s k id v at (record { first = h.first; children = h.children });
-                last = subst (λ o. v.last ≡ last_from t v.names o k.items 0) (sym mine.opened) mine.last;
-                own = mine.own
-              } in
-              let slot : (0, Some x) ∷ me.1 ≡ (0, Some (value_after t v.seen.opening k.items)) ∷ me.1 = ap (λ o. (0, Some (value_after t o k.items)) ∷ me.1) (sym mine.opened) in (
-                w,
-                takes 0 (Some x),
-                ap (λ hs. get_elem? hs 0) free.0,
-                rule,
-                ((λ _. record { found = k.items; now = ap (λ c. (w, c)) slot; sees = mine.sees; sound = sound }), (λ ne. absurd (ne (is ∙ ap (λ m. m % 2 ^ 64) (sym ticket))))),
-              ))
-          (λ isnt. (
-            v,
-            keeps,
-            tt,
-            nothing s id v 2 at k same,
-            ((λ is. absurd (isnt (is ∙ ap (λ m. m % 2 ^ 64) ticket))), (λ _. refl)),
-          ))
+      (λ (is : slice_index s.words 2 ≡ n % 2 ^ 64).
+      let now : k.served ≡ n = served_now s k id n v at drew (sym found ∙ is) in
+      let w = at_stage v (Holding (ticket_in v.stage) k.items) in
+      let x = value_after t opening k.items in
+      let here_now : Tickets w k.served = ap Some (ticket ∙ sym now) in
+      let free : (s.homes ≡ some (Some x) ∷ []) × Each s.views (λ u. HasTurn u.stage → ⊥) =
+      ⊎_elim (λ h. h)
+      (λ (a : (s.homes ≡ opt.none ∷ []) × Some_view s.views (λ u. HasTurn u.stage)).
+      let (j, u, g, h) = a.1 in
+      let one : j ≡ id = one_holder k.served k.drawn x s.homes s.views j id u v k.tickets k.turn g at h (drew ∙ ap Some (sym now)) in
+      absurd (not_waiting v.stage n e (subst (λ (y : View V E). HasTurn y.stage) (same_at s.views id u v (subst (λ i. get_elem? s.views i ≡ some u) one g) at) h)))
+      k.turn.slot in
+      let rule : Kept t opening record { words = slice_set s.words 2 (slice_index s.words 2); homes = slice_set s.homes 0 opt.none; views = slice_set s.views id w } = record {
+        items = k.items;
+        word = k.word;
+        served = k.served;
+        drawn = k.drawn;
+        numbers = k.numbers;
+        words = same ∙ k.words;
+        tickets = tickets_same k.served k.drawn s.views id v w at (ap Some ticket ∙ sym drew) (sym (ap queues e)) k.tickets;
+        turn = record {
+          slot = inr (ap (λ hs. slice_set hs 0 opt.none) free.0, (id, w, here s.views id v w at, tt));
+          whose = each_set (λ (u : View V E). HasTurn u.stage → Tickets u k.served) s.views id w (λ j u _ g h. k.turn.whose j u g h) (λ _. here_now);
+        };
+        history = k.history;
+        view = each_set (λ (u : View V E). IsLive u.stage → IsView t opening k.numbers k.items u) s.views id w (λ j u _ g. k.view j u g)
+            (λ _. staged k.numbers k.items v (Holding (ticket_in v.stage) k.items) mine refl (λ n o. absurd (cc)));
+        names = names_same k.numbers k.items s.views id v w at refl refl (sym (ap owned_of e)) k.names;
+        fit = fit_same k.numbers s.views id v w at (sym (ap draws e)) (ap (λ n. length v.names + n) (sym (ap owns e))) k.fit;
+        alone = alone_set k.numbers k.items s.views id v w at (live_parts k.numbers k.items v mine) (λ a. a) k.alone;
+      } in
+      let sound : IsSound t (seeing v k.items Idle) = record {
+        legal = subst (λ o. MayFollow t o k.items) (sym mine.opened) k.history.legal;
+        whole = λ h. whole_has t opening s k id v at (record { first = h.first; children = h.children });
+        last = subst (λ o. v.last ≡ last_from t v.names o k.items 0) (sym mine.opened) mine.last;
+        own = mine.own;
+      } in
+      let slot : (0, Some x) ∷ me.1 ≡ (0, Some (value_after t v.seen.opening k.items)) ∷ me.1 = ap (λ o. (0, Some (value_after t o k.items)) ∷ me.1) (sym mine.opened) in (
+        w,
+        takes 0 (Some x),
+        ap (λ hs. get_elem? hs 0) free.0,
+        rule,
+        ((λ _. record { found = k.items; now = ap (λ c. (w, c)) slot; sees = mine.sees; sound = sound }), (λ ne. absurd (ne (is ∙ ap (λ m. m % 2 ^ 64) (sym ticket))))),
+      ))
+      (λ isnt. (
+        v,
+        keeps,
+        tt,
+        nothing s id v 2 at k same,
+        ((λ is. absurd (isnt (is ∙ ap (λ m. m % 2 ^ 64) ticket))), (λ _. refl)),
+      ))
 
   -- K5 keeps the rule
   pub calls_keeps : (slots id : ℕ) (me : Me (Option V) (View V E)) (st : Step (Option V)) (n : ℕ) (x : V) → me.0.stage ≡ Done n → me.1 ≡ (0, Some x) ∷ []
@@ -220,23 +220,23 @@ module _ {V E : Type 0} (t : Telling V E) (opening : V) where
             out = let h = total_set (λ (u : View V E). queues u.stage) s.views id v w at in let o = k.tickets.out in omega arith;
             within = each_set (λ (u : View V E). (m : ℕ) → Tickets u m → (k.served + 1 ≤ m) × (m < k.drawn)) s.views id w
                 (λ j u z g m tu. let b = k.tickets.within j u g m tu in
-                    let ne : k.served ≢ m = λ q. others j u z g (tu ∙ ap Some (sym q)) in (omega arith, b.1))
+                let ne : k.served ≢ m = λ q. others j u z g (tu ∙ ap Some (sym q)) in (omega arith, b.1))
                 (λ m tu. let bad : None ≡ Some m = tu in absurd (cc));
-            apart = apart_less Tickets s.views id v w k.tickets.apart at (λ m tu. let bad : None ≡ Some m = tu in absurd (cc))
+            apart = apart_less Tickets s.views id v w k.tickets.apart at (λ m tu. let bad : None ≡ Some m = tu in absurd (cc));
           };
           turn = record {
             slot = inl (
               ap (λ cs. put_back s.homes cs) c ∙ ap (λ hs. slice_set hs 0 (some (Some x))) away ∙ ap (λ z. some (Some z) ∷ []) value,
               each_set (λ (u : View V E). HasTurn u.stage → ⊥) s.views id w (λ j u z g h. others j u z g (k.turn.whose j u g h)) (λ h. h),
             );
-            whose = each_set (λ (u : View V E). HasTurn u.stage → Tickets u (k.served + 1)) s.views id w (λ j u z g h. absurd (others j u z g (k.turn.whose j u g h))) (λ h. absurd h)
+            whose = each_set (λ (u : View V E). HasTurn u.stage → Tickets u (k.served + 1)) s.views id w (λ j u z g h. absurd (others j u z g (k.turn.whose j u g h))) (λ h. absurd h);
           };
           history = k.history;
           view = each_set (λ (u : View V E). IsLive u.stage → IsView t opening k.numbers k.items u) s.views id w (λ j u _ g. k.view j u g)
               (λ _. staged k.numbers k.items v Idle mine tt (λ n o. absurd (cc)));
           names = names_same k.numbers k.items s.views id v w at refl refl (sym (ap owned_of e)) k.names;
           fit = fit_same k.numbers s.views id v w at (sym (ap draws e)) (ap (λ n. length v.names + n) (sym (ap owns e))) k.fit;
-          alone = alone_set k.numbers k.items s.views id v w at (live_parts k.numbers k.items v mine) (λ a. a) k.alone
+          alone = alone_set k.numbers k.items s.views id v w at (live_parts k.numbers k.items v mine) (λ a. a) k.alone;
         },
         refl,
       )

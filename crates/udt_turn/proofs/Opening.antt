@@ -1,13 +1,12 @@
 -- A turn that was just made keeps the rule.
-use Rattle.std.proofs.Common.{◌≡◌, ◌⊎◌, ℕ, zero, suc, ◌+◌, ◌*◌, ◌^◌, ◌<◌, ◌≤◌, Bool, true, false, List, [], ◌∷◌, ◌++◌, length, Option, Some, None, refl, sym, ap, ◌∙◌, subst, inl, inr, ⊎_elim, arith}
-use mathlib.Core.Option as opt
+use Rattle.std.proofs.Common.{◌≡◌, ℕ, zero, suc, ◌+◌, ◌*◌, ◌^◌, ◌<◌, ◌≤◌, true, false, [], ◌∷◌, Some, None, refl, sym, ◌∙◌, subst, inl, ⊎_elim, arith}
 use mathlib.Core.Option.{some, some-ne-none, some-injective}
 use lib.ListN.{get_elem?}
 use Rattle.atomic_table.specs.Table.{opening}
 use Rattle.udt_turn.specs.Story.{Telling}
 use Rattle.udt_turn.specs.History.{has}
 use Rattle.udt_turn.specs.Rule.{HasTurn, owned_of, IsLive, IsAlone, Claims, Each, Tickets, IsView, Child, Kept, total_of, parts}
-use Rattle.udt_turn.specs.Kinds.{newcomer, IsSound, IsWhole}
+use Rattle.udt_turn.specs.Kinds.{newcomer, IsSound}
 use Rattle.udt_turn.specs.declared.view.View.{View}
 use Rattle.udt_turn.proofs.Passes.{has_one}
 
@@ -34,7 +33,7 @@ module _ {V E : Type 0} (t : Telling V E) where
         tickets = record {
           out = refl;
           within = only_one x (λ v. (n : ℕ) → Tickets v n → (0 ≤ n) × (n < 0)) (λ n h. let b : None ≡ Some n = h in absurd (cc));
-          apart = λ i j u v m gi gj ci cj. place x i u gi ∙ sym (place x j v gj)
+          apart = λ i j u v m gi gj ci cj. place x i u gi ∙ sym (place x j v gj);
         };
         turn = record { slot = inl (refl, only_one x (λ v. HasTurn v.stage → ⊥) (λ h. h)); whose = only_one x (λ v. HasTurn v.stage → Tickets v 0) (λ h. absurd h) };
         history = record { legal = tt; word = is; count = most; bits = bits };
@@ -47,7 +46,7 @@ module _ {V E : Type 0} (t : Telling V E) where
           drawn = omega arith;
           own = refl;
           once = (refl, tt);
-          above = λ n o. let b : None ≡ Some n = o in absurd (cc)
+          above = λ n o. let b : None ≡ Some n = o in absurd (cc);
         });
         names = record {
           below = only_one x (λ v. (m : ℕ) → Claims v m → (m < 1) × (m < 65535)) (λ m c. let e = claims m c in (omega arith, omega arith));
@@ -56,10 +55,10 @@ module _ {V E : Type 0} (t : Telling V E) where
           first = (0, first, refl, refl);
           split = only_one x (λ v. (m : ℕ) → has v.names m ≡ true → 0 < m → _) (λ m h z. let e = has_one 0 m h in absurd (omega arith));
           children = only_one x (λ v. (p m : ℕ) → Child v.made p m → _) (λ p m c. absurd c);
-          makers = tt
+          makers = tt;
         };
         fit = record { few = omega arith; all = refl };
-        alone = only_one x (λ v. IsAlone v.stage → total_of parts (first ∷ []) ≡ parts v) (λ h. absurd h)
+        alone = only_one x (λ v. IsAlone v.stage → total_of parts (first ∷ []) ≡ parts v) (λ h. absurd h);
       }
 
   -- the first pass has seen the opening value

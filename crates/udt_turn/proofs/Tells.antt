@@ -1,22 +1,19 @@
 -- The kinds of step that publish an item, look at the history, and leave with nothing said keep the rule.
-use Rattle.std.proofs.Common.{◌≡◌, ◌≢◌, ◌⊎◌, ℕ, zero, suc, ◌+◌, ◌*◌, ◌%◌, ◌^◌, ◌<◌, ◌≤◌, min, Bool, true, false, List, [], ◌∷◌, ◌++◌, length, set, Option, Some, None, refl, sym, ap, ◌∙◌, subst, inl, inr, ⊎_elim, arith, append-nil}
+use Rattle.std.proofs.Common.{◌≡◌, ◌≢◌, ℕ, ◌+◌, ◌*◌, ◌^◌, ◌<◌, ◌≤◌, Bool, true, false, List, [], ◌∷◌, ◌++◌, length, set, Option, Some, refl, sym, ap, ◌∙◌, subst, inl, inr, ⊎_elim, arith}
 use Rattle.std.specs.Prelude.{slice_index, slice_set}
-use mathlib.Core.Option as opt
 use mathlib.Core.Option.{some}
-use mathlib.Core.Logic.{dite}
-use native.Mathlib.Decide.{ℕ_discrete}
 use lib.ListN.{get_elem?}
-use Rattle.atomic_table.specs.Table.{State, Me, Act, keeps, Allows, Step}
+use Rattle.atomic_table.specs.Table.{State, Me, keeps, Allows, Step}
 use Rattle.udt_turn.specs.Story.{Telling}
-use Rattle.udt_turn.specs.History.{has, mine_in, Begins, value_after, MayFollow, IsLegal, last_from}
-use Rattle.udt_turn.specs.Rule.{total_of, ticket_of, queues, HasTurn, draws, owned_of, owns, IsLive, IsAlone, Knows, Claims, parts, Each, Some_view, Apart, Tickets, TicketsInOrder, OneHasTurn, Sees, IsView, Told, Named, NamesInOrder, NumbersFit, AloneHasAll, Kept}
-use Rattle.udt_turn.specs.Kinds.{at_stage, seeing, ticket_in, found_in, IsWhole, IsSound, saying, Says, Leaves, Looks, Shows, Settles}
+use Rattle.udt_turn.specs.History.{has, value_after, MayFollow, last_from}
+use Rattle.udt_turn.specs.Rule.{ticket_of, queues, HasTurn, draws, owned_of, owns, IsLive, IsAlone, Knows, parts, Each, Tickets, Sees, IsView, Named, Kept}
+use Rattle.udt_turn.specs.Kinds.{at_stage, seeing, ticket_in, found_in, IsSound, saying, Says, Leaves, Looks, Settles}
 use Rattle.udt_turn.specs.declared.view.View.{View}
 use Rattle.udt_turn.specs.declared.view.Stage.{Stage}
 use Rattle.udt_turn.specs.declared.view.Stage.TheVariants.{Idle, Waiting, Holding, Done, Counting, Owning, Alone, Spent}
-use Rattle.udt_turn.proofs.Views.{same_at, each_set, total_ge}
-use Rattle.udt_turn.proofs.Parts.{here, some_set, tickets_same, turn_same, names_same, fit_same, each_item_push}
-use Rattle.udt_turn.proofs.Histories.{value_after-push, may_follow-push, may_follow-front, sees_all, sees_more, sees_mine, seen_whole, begins_more, begins_both, last_from-own, last_from-other, last_from-seen}
+use Rattle.udt_turn.proofs.Views.{each_set, total_ge}
+use Rattle.udt_turn.proofs.Parts.{here, tickets_same, turn_same, names_same, fit_same, each_item_push}
+use Rattle.udt_turn.proofs.Histories.{value_after-push, may_follow-push, may_follow-front, sees_all, sees_more, seen_whole, begins_more, begins_both, last_from-own, last_from-other, last_from-seen}
 use Rattle.udt_turn.proofs.Whole.{whole_has}
 use Rattle.udt_turn.proofs.Lock.{live_parts, alone_set, read_back}
 
@@ -42,7 +39,7 @@ module _ {V E : Type 0} (t : Telling V E) (opening : V) where
     legal = subst (λ o. MayFollow t o k.items) (sym (k.view id v at live).opened) k.history.legal;
     whole = λ h. whole_has t opening s k id v at (record { first = h.first; children = h.children });
     last = let mine = k.view id v at live in subst (λ o. v.last ≡ last_from t v.names o k.items 0) (sym mine.opened) mine.last;
-    own = (k.view id v at live).own
+    own = (k.view id v at live).own;
   }
 
   -- what a live view has seen is sound
@@ -53,7 +50,7 @@ module _ {V E : Type 0} (t : Telling V E) (opening : V) where
         legal = may_follow-front t v.seen.opening v.seen.items mine.sees.rest (subst (λ xs. MayFollow t v.seen.opening xs) mine.sees.is (subst (λ o. MayFollow t o k.items) (sym mine.opened) k.history.legal));
         whole = λ h. seen_whole v.names v.seen.items k.items mine.sees (whole_has t opening s k id v at (record { first = h.first; children = h.children }));
         last = subst (λ o. v.last ≡ last_from t v.names o v.seen.items 0) (sym mine.opened) (mine.last ∙ last_from-seen t v.names opening v.seen.items k.items 0 mine.sees);
-        own = mine.own
+        own = mine.own;
       }
 
   -- K10 keeps the rule
@@ -80,32 +77,32 @@ module _ {V E : Type 0} (t : Telling V E) (opening : V) where
       let serve : Tickets v k.served = k.turn.whose id v at holds in
       let alone : (j : ℕ) (u : View V E) → j ≢ id → get_elem? s.views j ≡ some u → HasTurn u.stage → ⊥ = λ j u z g h. z (k.tickets.apart j id u v k.served g at (k.turn.whose j u g h) serve) in
       let last_here : w.last ≡ last_from t v.names opening items 0 =
-          ap (λ (x : List (ℕ × E)). t.count (t.after (value_after t v.seen.opening x) e)) (ap found_in stage)
-          ∙ ap (λ (x : V). t.count (t.after x e)) at_end ∙ sym (last_from-own t v.names opening k.items y 0 mine.own) in
+      ap (λ (x : List (ℕ × E)). t.count (t.after (value_after t v.seen.opening x) e)) (ap found_in stage)
+      ∙ ap (λ (x : V). t.count (t.after x e)) at_end ∙ sym (last_from-own t v.names opening k.items y 0 mine.own) in
       let view : Each (set s.views id w) (λ u. IsLive u.stage → IsView t opening k.numbers items u) =
-          each_set (λ (u : View V E). IsLive u.stage → IsView t opening k.numbers items u) s.views id w
-              (λ j u z g live. let h = k.view j u g live in record {
-                opened = h.opened;
-                sees = sees_more u.names u.seen.items k.items y (bool_false (has u.names v.number) (λ b. z (k.names.apart j id u v v.number g at (inl b) (inl mine.own)))) h.sees;
-                told = begins_more u.told k.items (y ∷ []) h.told;
-                knows = knows_less u.stage u.seen.items k.items items (alone j u z g) h.knows;
-                last = h.last ∙ sym (last_from-other t u.names opening k.items y 0 (bool_false (has u.names v.number) (λ b. z (k.names.apart j id u v v.number g at (inl b) (inl mine.own)))));
-                drawn = h.drawn;
-                own = h.own;
-                once = h.once;
-                above = h.above
-              })
-              (λ _. record {
-                opened = mine.opened;
-                sees = subst (λ xs. Sees v.names xs items) (sym seen) (sees_all v.names items);
-                told = begins_more v.told k.items (y ∷ []) mine.told;
-                knows = seen;
-                last = last_here;
-                drawn = mine.drawn;
-                own = mine.own;
-                once = mine.once;
-                above = λ m o. absurd (cc)
-              }) in
+      each_set (λ (u : View V E). IsLive u.stage → IsView t opening k.numbers items u) s.views id w
+      (λ j u z g live. let h = k.view j u g live in record {
+        opened = h.opened;
+        sees = sees_more u.names u.seen.items k.items y (bool_false (has u.names v.number) (λ b. z (k.names.apart j id u v v.number g at (inl b) (inl mine.own)))) h.sees;
+        told = begins_more u.told k.items (y ∷ []) h.told;
+        knows = knows_less u.stage u.seen.items k.items items (alone j u z g) h.knows;
+        last = h.last ∙ sym (last_from-other t u.names opening k.items y 0 (bool_false (has u.names v.number) (λ b. z (k.names.apart j id u v v.number g at (inl b) (inl mine.own)))));
+        drawn = h.drawn;
+        own = h.own;
+        once = h.once;
+        above = h.above;
+      })
+      (λ _. record {
+        opened = mine.opened;
+        sees = subst (λ xs. Sees v.names xs items) (sym seen) (sees_all v.names items);
+        told = begins_more v.told k.items (y ∷ []) mine.told;
+        knows = seen;
+        last = last_here;
+        drawn = mine.drawn;
+        own = mine.own;
+        once = mine.once;
+        above = λ m o. absurd (cc);
+      }) in
       let names = names_same k.numbers k.items s.views id v w at refl refl (sym (ap owned_of stage)) k.names in
       let rule : Kept t opening record { words = slice_set s.words 0 new; homes = s.homes; views = slice_set s.views id w } = record {
         items = items;
@@ -121,26 +118,26 @@ module _ {V E : Type 0} (t : Telling V E) (opening : V) where
               (λ h. inr (h.0, (id, w, here s.views id v w at, tt)))
               k.turn.slot;
           whose = each_set (λ (u : View V E). HasTurn u.stage → Tickets u k.served) s.views id w (λ j u _ g h. k.turn.whose j u g h)
-              (λ _. ap Some (ap ticket_in stage) ∙ sym (ap ticket_of stage) ∙ serve)
+              (λ _. ap Some (ap ticket_in stage) ∙ sym (ap ticket_of stage) ∙ serve);
         };
         history = record {
           legal = may_follow-push t opening k.items y k.history.legal legal' count';
           word = word ∙ ap (λ (x : V). 256 * t.count (t.after x e) + t.bits (t.after x e)) at_end ∙ ap (λ (x : V). 256 * t.count x + t.bits x) (sym after);
           count = subst (λ x. t.count x < 2 ^ 55) (ap (λ (x : V). t.after x e) at_end ∙ sym after) most;
-          bits = subst (λ x. t.bits x < 256) (ap (λ (x : V). t.after x e) at_end ∙ sym after) bits
+          bits = subst (λ x. t.bits x < 256) (ap (λ (x : V). t.after x e) at_end ∙ sym after) bits;
         };
         view = view;
         names = record { below = names.below; apart = names.apart; unnamed = names.unnamed; first = names.first; split = names.split; children = names.children; makers = each_item_push (Named (set s.views id w)) k.items y names.makers (id, w, here s.views id v w at, mine.own) };
         fit = fit_same k.numbers s.views id v w at (sym (ap draws stage)) (ap (λ m. length v.names + m) (sym (ap owns stage))) k.fit;
-        alone = alone_set t opening k.numbers k.items s.views id v w at (live_parts t opening k.numbers k.items v mine) (λ q. q) k.alone
+        alone = alone_set t opening k.numbers k.items s.views id v w at (live_parts t opening k.numbers k.items v mine) (λ q. q) k.alone;
       } in
       let now : IsSound t w = subst (λ xs. IsSound t (record w { seen = record { opening = v.seen.opening; items = xs } })) (sym seen)
-          (record {
-            legal = subst (λ o. MayFollow t o items) (sym mine.opened) rule.history.legal;
-            whole = λ h. whole_has t opening record { words = slice_set s.words 0 new; homes = s.homes; views = slice_set s.views id w } rule id w (here s.views id v w at) (record { first = h.first; children = h.children });
-            last = subst (λ o. w.last ≡ last_from t v.names o items 0) (sym mine.opened) last_here;
-            own = mine.own
-          }) in (
+      (record {
+        legal = subst (λ o. MayFollow t o items) (sym mine.opened) rule.history.legal;
+        whole = λ h. whole_has t opening record { words = slice_set s.words 0 new; homes = s.homes; views = slice_set s.views id w } rule id w (here s.views id v w at) (record { first = h.first; children = h.children });
+        last = subst (λ o. w.last ≡ last_from t v.names o items 0) (sym mine.opened) last_here;
+        own = mine.own;
+      }) in (
         w,
         keeps,
         tt,
@@ -181,11 +178,11 @@ module _ {V E : Type 0} (t : Telling V E) (opening : V) where
                 drawn = mine.drawn;
                 own = mine.own;
                 once = mine.once;
-                above = λ m o. absurd (cc)
+                above = λ m o. absurd (cc);
               });
           names = names_same k.numbers k.items s.views id v w at refl refl (sym (ap owned_of stage)) k.names;
           fit = fit_same k.numbers s.views id v w at (sym (ap draws stage)) (ap (λ m. length v.names + m) (sym (ap owns stage))) k.fit;
-          alone = alone_set t opening k.numbers k.items s.views id v w at (live_parts t opening k.numbers k.items v mine) (λ q. q) k.alone
+          alone = alone_set t opening k.numbers k.items s.views id v w at (live_parts t opening k.numbers k.items v mine) (λ q. q) k.alone;
         },
         refl,
       )
@@ -221,11 +218,11 @@ module _ {V E : Type 0} (t : Telling V E) (opening : V) where
                 drawn = mine.drawn;
                 own = mine.own;
                 once = mine.once;
-                above = λ m o. absurd (cc)
+                above = λ m o. absurd (cc);
               });
           names = names_same k.numbers k.items s.views id v w at refl refl (sym (ap owned_of stage)) k.names;
           fit = fit_same k.numbers s.views id v w at (sym (ap draws stage)) (ap (λ m. length v.names + m) (sym (ap owns stage))) k.fit;
-          alone = alone_set t opening k.numbers k.items s.views id v w at (live_parts t opening k.numbers k.items v mine) (λ q. q) k.alone
+          alone = alone_set t opening k.numbers k.items s.views id v w at (live_parts t opening k.numbers k.items v mine) (λ q. q) k.alone;
         },
         record {
           found = k.items;
@@ -233,7 +230,7 @@ module _ {V E : Type 0} (t : Telling V E) (opening : V) where
           sees = mine.sees;
           sound = sound_now s k id v Idle at (subst IsLive (sym stage) tt);
           word = found ∙ k.history.word ∙ ap (λ (x : V). 256 * t.count x + t.bits x) (sym value);
-          bits = subst (λ x. t.bits x < 256) (sym value) k.history.bits
+          bits = subst (λ x. t.bits x < 256) (sym value) k.history.bits;
         },
       )
 
@@ -261,7 +258,7 @@ module _ {V E : Type 0} (t : Telling V E) (opening : V) where
               (λ _. record { opened = mine.opened; sees = mine.sees; told = (k.items, refl); knows = mine.knows; last = mine.last; drawn = mine.drawn; own = mine.own; once = mine.once; above = mine.above });
           names = names_same k.numbers k.items s.views id v w at refl refl refl k.names;
           fit = fit_same k.numbers s.views id v w at refl refl k.fit;
-          alone = alone_set t opening k.numbers k.items s.views id v w at (live_parts t opening k.numbers k.items v mine) (λ q. subst IsAlone stage q) k.alone
+          alone = alone_set t opening k.numbers k.items s.views id v w at (live_parts t opening k.numbers k.items v mine) (λ q. subst IsAlone stage q) k.alone;
         },
         (
           refl,

@@ -1,5 +1,5 @@
 -- The kinds of step: what each tells the pass that takes it, of the word that it found and of its view before and after.
-use Rattle.std.specs.Prelude.{◌≡◌, ◌≢◌, ℕ, ◌+◌, ◌*◌, ◌%◌, ◌^◌, ◌<◌, ◌≤◌, min, max, Bool, true, List, [], ◌∷◌, ◌++◌, length, Option, Some, None}
+use Rattle.std.specs.Prelude.{◌≡◌, ◌≢◌, ℕ, ◌+◌, ◌*◌, ◌%◌, ◌^◌, ◌<◌, ◌≤◌, min, max, true, List, [], ◌∷◌, ◌++◌, length, Option, Some}
 use Rattle.atomic_table.specs.Table.{Step, Me, rest}
 use Rattle.udt_turn.specs.Story.{Telling}
 use Rattle.udt_turn.specs.History.{has, mine_in, Begins, longer, shorter, value_of, value_after, IsLegal, last_of}
@@ -72,7 +72,7 @@ module _ {V E : Type 0} where
   saying t v e = record v {
     seen = record { opening = v.seen.opening; items = found_in v.stage ++ (v.number, e) ∷ [] };
     last = t.count (t.after (value_after t v.seen.opening (found_in v.stage)) e);
-    stage = Done (ticket_in v.stage)
+    stage = Done (ticket_in v.stage);
   }
 
   -- K10: it has seen the history that it found with its item behind

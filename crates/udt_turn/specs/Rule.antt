@@ -1,16 +1,16 @@
 -- The rule of a turn: what its words, its slot, one history and the views of all passes have to do with one another between any two steps.
 -- Word 0 tells the value: 256 times its count, and its bits. Word 1 counts the tickets drawn and word 2 those served, both modulo 2 ^ 64. Word 3 counts the pass numbers drawn, and is 1 at first.
 -- The one slot has the value while nobody has the turn.
-use Rattle.std.specs.Prelude.{◌≡◌, ◌≢◌, ℕ, ◌+◌, ◌*◌, ◌%◌, ◌^◌, ◌<◌, ◌≤◌, min, ◌⊎◌, Bool, true, false, List, [], ◌∷◌, ◌++◌, length, Option, Some, None}
+use Rattle.std.specs.Prelude.{◌≡◌, ℕ, ◌+◌, ◌*◌, ◌%◌, ◌^◌, ◌<◌, ◌≤◌, min, ◌⊎◌, true, false, List, [], ◌∷◌, ◌++◌, length, Option, Some, None}
 use mathlib.Core.Option as opt
 use mathlib.Core.Option.{some, none}
 use lib.ListN.{get_elem?}
-use Rattle.atomic_table.specs.Table.{State, Me, Step}
+use Rattle.atomic_table.specs.Table.{State}
 use Rattle.udt_turn.specs.Story.{Telling}
 use Rattle.udt_turn.specs.History.{has, mine_in, Begins, value_after, MayFollow, last_from}
 use Rattle.udt_turn.specs.declared.view.View.{View}
 use Rattle.udt_turn.specs.declared.view.Stage.{Stage}
-use Rattle.udt_turn.specs.declared.view.Stage.TheVariants.{Idle, Waiting, Holding, Done, Counting, Owning, Alone, Spent}
+use Rattle.udt_turn.specs.declared.view.Stage.TheVariants.{Waiting, Holding, Done, Counting, Owning, Alone, Spent}
 
 -- the sum of a number of each
 abbrev pub total_of : {A : Type 0} → (A → ℕ) → List A → ℕ
@@ -172,4 +172,3 @@ module _ {V E : Type 0} where
     pub names : NamesInOrder numbers items s.views
     pub fit : NumbersFit numbers s.views
     pub alone : AloneHasAll s.views
-

@@ -1,10 +1,10 @@
 -- What contracts say of passes, of a turn and of whoever has it.
-use Rattle.std.specs.Prelude.{◌≡◌, ℕ, ◌+◌, ◌*◌, ◌%◌, ◌^◌, ◌<◌, ◌≤◌, Bool, true, List, [], ◌∷◌, ◌++◌, length, Option, Some, None}
+use Rattle.std.specs.Prelude.{◌≡◌, ℕ, ◌+◌, ◌^◌, ◌<◌, ◌≤◌, List, [], ◌∷◌, ◌++◌, Option, Some, None}
 use Rattle.atomic_table.specs.Seated.{TableId}
 use Rattle.udt_turn.specs.Story.{Telling}
-use Rattle.udt_turn.specs.History.{has, mine_in, Begins, longer, value_of, value_after, IsLegal}
+use Rattle.udt_turn.specs.History.{mine_in}
 use Rattle.udt_turn.specs.Rule.{Sees}
-use Rattle.udt_turn.specs.Kinds.{at_stage, seeing, found_in, ticket_in, IsWhole, IsSound}
+use Rattle.udt_turn.specs.Kinds.{seeing, found_in, IsSound}
 use Rattle.udt_turn.specs.declared.story.Story as story
 use Rattle.udt_turn.specs.declared.pass.Pass.{Pass}
 use Rattle.udt_turn.specs.declared.turn.Turn.{Turn}

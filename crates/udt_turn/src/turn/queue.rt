@@ -87,7 +87,9 @@ impl<V: Story> Turn<V> {
         ensures same { (seat.new.table_id ≡ seat.old.table_id) × (seat.new.id ≡ seat.old.id) }
         ensures said { (e : V.Entry) → N.item ≡ Some e → (seat.new.me ≡ (saying V.tale seat.old.me.0 e, seat.old.me.1)) × IsSound V.tale seat.new.me.0 }
     {
-        self.table.shared.store::<Say<N>>(seat, 0, count * 256 + u64::from(bits));
+        self.table
+            .shared
+            .store::<Say<N>>(seat, 0, count * 256 + u64::from(bits));
     }
 
     // Says nothing: the history that was found is seen.

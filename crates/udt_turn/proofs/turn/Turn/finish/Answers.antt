@@ -1,4 +1,4 @@
-use Rattle.std.proofs.Common.{◌≡◌, ℕ, [], ◌∷◌, Some, rules, refl, sym, ap, ◌∙◌, subst}
+use Rattle.std.proofs.Common.{sym, ap, ◌∙◌, subst}
 use Rattle.udt_turn.specs.History.{value_after, mine_in}
 use Rattle.udt_turn.specs.Kinds.{IsSound, found_in}
 use Rattle.udt_turn.specs.declared.view.Stage.TheVariants.{Idle}

@@ -1,4 +1,4 @@
-use Rattle.std.proofs.Common.{◌≡◌, sym, ap, ◌∙◌}
+use Rattle.std.proofs.Common.{ap, ◌∙◌}
 use Rattle.udt_turn.specs.History.{mine_in}
 use Rattle.udt_turn.specs.Kinds.{found_in}
 use Rattle.udt_turn.proofs.Histories.{sees_mine}

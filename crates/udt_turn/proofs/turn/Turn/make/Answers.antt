@@ -1,4 +1,4 @@
-use Rattle.std.proofs.Common.{◌≡◌, ◌<◌, ◌≤◌, ◌*◌, ◌+◌, ◌^◌, ℕ, [], ◌∷◌, Some, None, arith, rules, refl, sym, ap, ◌∙◌, subst}
+use Rattle.std.proofs.Common.{◌≡◌, ◌<◌, ◌*◌, ◌+◌, ℕ, [], ◌∷◌, arith, sym, subst}
 use Rattle.std.proofs.Common.{List, Option}
 use Rattle.atomic_table.specs.Table.{opening}
 use Rattle.udt_turn.specs.Rule.{Kept}
@@ -18,4 +18,4 @@ new-requires g c =
     let word = told _ _ _ _ _ c.count.ensures c.bits.ensures c.from.ensures in
     let kept = opens_kept t x _ word c.requires (subst (λ n. n < 256) c.bits.ensures small) in
     subst (λ z. Kept t z (opening ((c.count.result * 256 + c.from.result) ∷ 0 ∷ 0 ∷ 1 ∷ []) c.in_ok-slots.slots.items (newcomer z))) (sym c.of-opening.ensures)
-        (subst (λ (zs : List (Option g.row.V.Denot)). Kept t x (opening ((c.count.result * 256 + c.from.result) ∷ 0 ∷ 0 ∷ 1 ∷ []) zs (newcomer x))) (sym c.in_ok-slots.ensures.ok) kept)
+    (subst (λ (zs : List (Option g.row.V.Denot)). Kept t x (opening ((c.count.result * 256 + c.from.result) ∷ 0 ∷ 0 ∷ 1 ∷ []) zs (newcomer x))) (sym c.in_ok-slots.ensures.ok) kept)

@@ -1,4 +1,4 @@
-use Rattle.std.proofs.Common.{◌≡◌, ◌<◌, ◌*◌, ◌+◌, ◌^◌, ℕ, arith, rules, refl, sym, ap, ◌∙◌, subst}
+use Rattle.std.proofs.Common.{◌≡◌, ◌<◌, ◌*◌, ◌+◌, ◌^◌, ℕ, arith, sym, ◌∙◌, subst}
 use mathlib.Core.Option as opt
 use Rattle.atomic_table.specs.Table.{step}
 use Rattle.udt_turn.proofs.Tells.{says_keeps}

@@ -1,5 +1,5 @@
-use Rattle.std.proofs.Common.{◌≡◌, ◌≤◌, ◌<◌, ◌+◌, ℕ, [], ◌∷◌, length, arith, rules, refl, sym, ap, ◌∙◌, subst}
-use Rattle.udt_turn.specs.History.{mine_in, last_of}
+use Rattle.std.proofs.Common.{[], ◌∷◌, length, arith, sym, ap, ◌∙◌}
+use Rattle.udt_turn.specs.History.{last_of}
 use Rattle.udt_turn.specs.Kinds.{child_of}
 use Rattle.udt_turn.proofs.Histories.{last_from-none}
 use Rattle.udt_turn.proofs.turn.Turn.split.Goals as goal
@@ -15,5 +15,5 @@ invariant_of-result g c =
       counted = sym (ap (λ m. m.0.last) child);
       last_item = sym (ap (λ m. last_of t m.0.names m.0.seen) child ∙ last_from-none t (n ∷ []) seen.opening seen.items 0 none);
       named = sym (ap (λ m. length m.0.names) child);
-      few = omega arith
+      few = omega arith;
     }
