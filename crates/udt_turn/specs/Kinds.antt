@@ -75,6 +75,24 @@ module _ {V E : Type 0} where
     stage = Done (ticket_in v.stage);
   }
 
+  -- the value of the history that the holder of the turn found
+  abbrev pub value_found : Telling V E → View V E → V
+  value_found t v = value_after t v.seen.opening (found_in v.stage)
+
+  -- the item may stand behind that value, and these are the count and the bits after it
+  pub record Agrees (t : Telling V E) (item : Option E) (before : V) (count bits : ℕ) : Type 0 where
+    pub entry : E
+    pub named : item ≡ Some entry
+    pub legal : t.legal before entry
+    pub count_is : count ≡ t.count (t.after before entry)
+    pub bits_is : bits ≡ t.bits (t.after before entry)
+    pub next : count ≡ t.count before + 1
+    pub most : count < 2 ^ 55
+
+  -- it has the turn
+  abbrev pub HasTicket : View V E → Type 0
+  HasTicket v = (k : ℕ) × (v.stage ≡ Holding k (found_in v.stage))
+
   -- K10: it has seen the history that it found with its item behind
   abbrev pub Says : Telling V E → Option E → Step (Option V) → Me (Option V) (View V E) → ℕ → Me (Option V) (View V E) → Type 0
   Says t item st me n me' = (e : E) → item ≡ Some e
@@ -111,6 +129,21 @@ module _ {V E : Type 0} where
   -- K7: it owns the number that it found where that is below 65535
   abbrev pub Numbers : Step (Option V) → Me (Option V) (View V E) → ℕ → Me (Option V) (View V E) → Type 0
   Numbers st me n me' = (me.0.drawn ≤ n) × (me.0.number < n) × (mine_in (n ∷ []) me.0.seen.items ≡ []) × (n < 65535 → me' ≡ (drawn_to me.0 (n + 1) (Owning n), me.1)) × (65535 ≤ n → me' ≡ (drawn_to me.0 (n + 1) Idle, me.1))
+
+  -- it owns a number below 65535, which no step of it had shown as drawn, and under which it has seen nothing made
+  pub record HasDrawn (me me' : Me (Option V) (View V E)) : Type 0 where
+    pub drew : ℕ
+    pub now : me' ≡ (drawn_to me.0 (drew + 1) (Owning drew), me.1)
+    pub few : drew < 65535
+    pub fresh : me.0.drawn ≤ drew
+    pub above : me.0.number < drew
+    pub unmade : mine_in (drew ∷ []) me.0.seen.items ≡ []
+
+  -- it has learnt that 65535 numbers were drawn, and draws none
+  pub record HasFound (me me' : Me (Option V) (View V E)) : Type 0 where
+    pub found : ℕ
+    pub now : me' ≡ (drawn_to me.0 found Idle, me.1)
+    pub many : 65535 ≤ found
 
   -- K8: the number that was owned becomes a child of the view's own number
   abbrev pub parent_of : View V E → View V E

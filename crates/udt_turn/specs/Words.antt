@@ -90,6 +90,18 @@ module _ {V E : Type 0} {g : story.Ghosts V E} where
   abbrev pub with_item : Pass V E g → E → History V E
   with_item p e = record { opening = (found_of p).opening; items = (found_of p).items ++ (number_of p, e) ∷ [] }
 
+  -- that history, with the item behind, is seen afterwards
+  abbrev pub SeesItem : Option E → Pass V E g → Pass V E g → Type 0
+  SeesItem item before after = (e : E) → item ≡ Some e → seen_of after ≡ with_item before e
+
+  -- and the item is one more of its own
+  abbrev pub MakesItem : Option E → Pass V E g → Pass V E g → Type 0
+  MakesItem item before after = (e : E) → item ≡ Some e → mine_of after ≡ mine_of before ++ (number_of before, e) ∷ []
+
+  -- the number of a new pass stands in the pairs of its parent
+  abbrev pub MakesPair : Pass V E g → Pass V E g → Pass V E g → Type 0
+  MakesPair before after new = made_of after ≡ (number_of before, number_of new) ∷ made_of before
+
   -- the pass has the turn, the value is out of the slot, and what was found is legal and goes on from what the pass had seen
   pub record IsHolding (t : Telling V E) (turn : Turn V E) (p : Pass V E g) : Type 0 where
     pub ticket : ℕ
