@@ -34,9 +34,11 @@ module _ {V E : Type 0} where
   abbrev pub spent : V → View V E
   spent s = record { number = 0; names = []; made = []; seen = record { opening = s; items = [] }; told = []; last = 0; drawn = 0; stage = Spent }
 
+  -- the view at another stage
   abbrev pub at_stage : View V E → Stage E → View V E
   at_stage v st = record v { stage = st }
 
+  -- the view, having seen this much, at another stage
   abbrev pub seeing : View V E → List (ℕ × E) → Stage E → View V E
   seeing v xs st = record v { seen = record { opening = v.seen.opening; items = xs }; stage = st }
 
@@ -119,6 +121,7 @@ module _ {V E : Type 0} where
   abbrev pub Looks : Telling V E → Step (Option V) → Me (Option V) (View V E) → ℕ → Me (Option V) (View V E) → Type 0
   Looks t st me n me' = Shows t me n me'
 
+  -- the view, having learnt that so many numbers were drawn, at another stage
   abbrev pub drawn_to : View V E → ℕ → Stage E → View V E
   drawn_to v n st = record v { drawn = n; stage = st }
 

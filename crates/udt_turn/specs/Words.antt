@@ -18,6 +18,7 @@ module _ {V E : Type 0} where
   abbrev pub opening_of : Turn V E → V
   opening_of turn = turn.table.shared.key.value
 
+  -- which table the turn lies in
   abbrev pub table_of : Turn V E → TableId
   table_of turn = turn.table.shared.table_id
 
@@ -49,9 +50,11 @@ module _ {V E : Type 0} where
     pub most : t.count after < 2 ^ 55
 
 module _ {V E : Type 0} {g : story.Ghosts V E} where
+  -- what the pass knows
   abbrev pub view_of : Pass V E g → View V E
   view_of p = p.seat.me.0
 
+  -- the pass's own number
   abbrev pub number_of : Pass V E g → ℕ
   number_of p = (view_of p).number
 
@@ -112,8 +115,10 @@ module _ {V E : Type 0} {g : story.Ghosts V E} where
     pub sees : Sees (names_of p) (seen_of p).items (found_of p).items
     pub sound : IsSound t (seeing (view_of p) (found_of p).items Idle)
 
+  -- the same, of whoever has the turn
   abbrev pub found_by : Held V E g → History V E
   found_by h = found_of h.pass.now
 
+  -- the same, of whoever has the turn and the value
   abbrev pub IsHeld : Telling V E → Held V E g → Type 0
   IsHeld t h = IsHolding t h.turn.now h.pass.now
