@@ -1,8 +1,8 @@
 -- Histories that go on: the value after one more item, what is legal still, and whose items they are.
-use Rattle.std.proofs.Common.{◌≡◌, ◌≢◌, ◌⊎◌, ℕ, zero, suc, ◌+◌, ◌<◌, ◌≤◌, max, Bool, true, false, ◌||◌, List, [], ◌∷◌, ◌++◌, length, refl, sym, ap, ◌∙◌, subst, inl, inr, ⊎_elim, arith, append-nil, append_assoc, length-append}
-use Rattle.std.specs.Prelude.{eqb, if◌then◌else◌, leb}
+use Rattle.std.proofs.Common.{◌≡◌, ℕ, suc, ◌+◌, ◌≤◌, max, Bool, true, false, ◌||◌, List, [], ◌∷◌, ◌++◌, length, refl, sym, ap, ◌∙◌, arith, append-nil, append_assoc, length-append}
+use Rattle.std.specs.Prelude.{eqb, if◌then◌else◌}
 use Rattle.udt_turn.specs.Story.{Telling}
-use Rattle.udt_turn.specs.History.{has, keep_if, mine_in, Begins, longer, shorter, value_after, MayFollow, last_from}
+use Rattle.udt_turn.specs.History.{has, keep_if, mine_in, Begins, value_after, MayFollow, last_from}
 use Rattle.udt_turn.specs.Rule.{Sees}
 
 module _ {V E : Type 0} (t : Telling V E) where
@@ -35,6 +35,10 @@ append_empty (x ∷ xs) ys e = absurd (cc)
 -- of what was made under these names the beginning of the history has as much as the whole
 pub sees_mine : {E : Type 0} (names : List ℕ) (seen items : List (ℕ × E)) → Sees names seen items → mine_in names items ≡ mine_in names seen
 sees_mine names seen items h = ap (mine_in names) h.is ∙ mine_in-append names seen h.rest ∙ ap (λ ys. mine_in names seen ++ ys) h.none_of ∙ append-nil (mine_in names seen)
+
+-- with an item of one's own behind, that much is one's own
+pub mine_in-own : {E : Type 0} (names : List ℕ) (seen found : List (ℕ × E)) (y : ℕ × E) → Sees names seen found → has names y.0 ≡ true → mine_in names (found ++ y ∷ []) ≡ mine_in names seen ++ y ∷ []
+mine_in-own names seen found y h own = mine_in-append names found (y ∷ []) ∙ ap (λ zs. zs ++ mine_in names (y ∷ [])) (sees_mine names seen found h) ∙ ap (λ b. mine_in names seen ++ keep_if b y []) own
 
 -- all of it was seen
 pub sees_all : {E : Type 0} (names : List ℕ) (items : List (ℕ × E)) → Sees names items items

@@ -1,26 +1,26 @@
 -- The kind of step that joins two passes keeps the rule, and so does the one by which a pass finds that it is alone.
-use Rattle.std.proofs.Common.{◌≡◌, ◌≢◌, ◌⊎◌, ℕ, zero, suc, ◌+◌, ◌*◌, ◌%◌, ◌^◌, ◌<◌, ◌≤◌, min, max, Bool, true, false, List, [], ◌∷◌, ◌++◌, length, set, Option, Some, None, refl, sym, ap, ◌∙◌, subst, inl, inr, ⊎_elim, arith, append-nil, length-append}
-use Rattle.std.specs.Prelude.{slice_index, slice_set}
+use Rattle.std.proofs.Common.{◌≡◌, ◌≢◌, ◌⊎◌, ℕ, ◌+◌, ◌<◌, ◌≤◌, min, max, true, false, List, [], ◌∷◌, ◌++◌, length, set, Option, Some, None, refl, sym, ap, ◌∙◌, subst, inl, inr, ⊎_elim, arith, length-append}
+use Rattle.std.specs.Prelude.{slice_index}
 use mathlib.Core.Option as opt
 use mathlib.Core.Option.{some, some-injective}
 use mathlib.Core.Logic.{dite}
 use native.Mathlib.Decide.{ℕ_discrete}
 use lib.ListN.{get_elem?}
 use Rattle.atomic_table.specs.Table.{State, Me, keeps, Allows, Joins, Step, Final, Seen}
-use Rattle.atomic_table.proofs.Lists.{at_set, set_here, set_else}
+use Rattle.atomic_table.proofs.Lists.{at_set, set_else}
 use Rattle.udt_turn.specs.Story.{Telling}
-use Rattle.udt_turn.specs.History.{has, mine_in, Begins, longer, shorter, value_after, value_of, last_from}
-use Rattle.udt_turn.specs.Rule.{total_of, ticket_of, queues, HasTurn, draws, owned_of, owns, IsLive, IsAlone, Knows, Claims, parts, Each, Some_view, Apart, Sees, IsView, Child, Named, EachItem, NamesInOrder, NumbersFit, AloneHasAll, Kept}
+use Rattle.udt_turn.specs.History.{has, Begins, longer, shorter, value_after, value_of, last_from}
+use Rattle.udt_turn.specs.Rule.{total_of, ticket_of, queues, HasTurn, draws, owned_of, owns, IsLive, IsAlone, Knows, Claims, parts, Each, Some_view, Sees, IsView, Child, Named, Kept}
 use Rattle.udt_turn.specs.Kinds.{at_stage, spent, joined, IsWhole, IsSound, Ends}
 use Rattle.udt_turn.specs.declared.view.View.{View}
 use Rattle.udt_turn.specs.declared.view.Stage.{Stage}
-use Rattle.udt_turn.specs.declared.view.Stage.TheVariants.{Idle, Waiting, Holding, Done, Counting, Owning, Alone, Spent}
-use Rattle.udt_turn.proofs.Views.{total_set, total_two, total_only, total_ge, get_below, same_at, each_set}
-use Rattle.udt_turn.proofs.Parts.{here, some_set, tickets_same, turn_same, names_same, fit_same, each_item_map}
+use Rattle.udt_turn.specs.declared.view.Stage.TheVariants.{Idle, Holding, Done, Owning, Alone}
+use Rattle.udt_turn.proofs.Views.{total_set, total_two, total_only, same_at, each_set}
+use Rattle.udt_turn.proofs.Parts.{here, tickets_same, turn_same, names_same, fit_same, each_item_map}
 use Rattle.udt_turn.proofs.Tells.{sound_seen}
 use Rattle.udt_turn.proofs.Histories.{sees_mine, sees_longer, mine_in-none, last_from-both}
 use Rattle.udt_turn.proofs.Whole.{has_all, whole_has}
-use Rattle.udt_turn.proofs.Lock.{live_parts, has_some, alone_set, read_back, nothing, staged}
+use Rattle.udt_turn.proofs.Lock.{live_parts, has_some, read_back, nothing, staged}
 use Rattle.udt_turn.proofs.Passes.{has_both, has_left, has_right, has_head, no_twice-append, child_both, child_left, child_right, longer_case, none_alone}
 
 module _ {V E : Type 0} (t : Telling V E) (opening : V) where

@@ -1,23 +1,23 @@
 -- The kinds of step that draw a ticket, read which one is served, and call the next one keep the rule.
-use Rattle.std.proofs.Common.{◌≡◌, ◌≢◌, ◌⊎◌, ℕ, zero, suc, ◌+◌, ◌*◌, ◌%◌, ◌^◌, ◌<◌, ◌≤◌, min, Bool, true, false, List, [], ◌∷◌, ◌++◌, length, set, Option, Some, None, refl, sym, ap, ◌∙◌, subst, inl, inr, ⊎_elim, arith, append-nil, lt_of_not-le}
+use Rattle.std.proofs.Common.{◌≡◌, ◌≢◌, ℕ, ◌+◌, ◌%◌, ◌^◌, ◌<◌, ◌≤◌, true, List, [], ◌∷◌, length, set, Option, Some, None, refl, sym, ap, ◌∙◌, subst, inl, inr, ⊎_elim, arith, lt_of_not-le}
 use Rattle.std.specs.Prelude.{slice_index, slice_set}
 use mathlib.Core.Option as opt
 use mathlib.Core.Option.{some, some-ne-none, some-injective}
 use mathlib.Core.Logic.{dite}
 use native.Mathlib.Decide.{ℕ_discrete, dec_le}
 use lib.ListN.{get_elem?}
-use Rattle.atomic_table.specs.Table.{State, Me, Act, keeps, takes, gives, Allows, Step, step, put_back, rest}
-use Rattle.atomic_table.proofs.Lists.{at_set, set_here, set_else, set_again, one_turn}
+use Rattle.atomic_table.specs.Table.{State, Me, keeps, takes, gives, Allows, Step, put_back}
+use Rattle.atomic_table.proofs.Lists.{set_again, one_turn}
 use Rattle.udt_turn.specs.Story.{Telling}
-use Rattle.udt_turn.specs.History.{has, mine_in, Begins, value_after, MayFollow, last_from}
-use Rattle.udt_turn.specs.Rule.{total_of, ticket_of, queues, HasTurn, draws, owned_of, owns, IsLive, IsAlone, Knows, Claims, parts, Each, Some_view, Apart, Tickets, TicketsInOrder, OneHasTurn, Sees, IsView, Told, NamesInOrder, NumbersFit, AloneHasAll, Kept}
-use Rattle.udt_turn.specs.Kinds.{at_stage, seeing, ticket_in, IsWhole, IsSound, Draws, Takes, Reads, Calls}
+use Rattle.udt_turn.specs.History.{has, value_after, MayFollow, last_from}
+use Rattle.udt_turn.specs.Rule.{total_of, ticket_of, queues, HasTurn, draws, owned_of, owns, IsLive, IsAlone, Knows, parts, Each, Some_view, Tickets, IsView, AloneHasAll, Kept}
+use Rattle.udt_turn.specs.Kinds.{at_stage, seeing, ticket_in, IsSound, Draws, Reads, Calls}
 use Rattle.udt_turn.specs.declared.view.View.{View}
 use Rattle.udt_turn.specs.declared.view.Stage.{Stage}
 use Rattle.udt_turn.specs.declared.view.Stage.TheVariants.{Idle, Waiting, Holding, Done}
 use Rattle.udt_turn.proofs.Whole.{whole_has}
-use Rattle.udt_turn.proofs.Views.{total_set, total_same, total_le, total_ge, total_two, same_at, each_set}
-use Rattle.udt_turn.proofs.Parts.{apart_set, apart_less, here, some_set, tickets_same, turn_same, one_holder, names_same, fit_same}
+use Rattle.udt_turn.proofs.Views.{total_set, total_le, total_two, same_at, each_set}
+use Rattle.udt_turn.proofs.Parts.{apart_set, apart_less, here, tickets_same, turn_same, one_holder, names_same, fit_same}
 
 wrap : (n : ℕ) → (n % 2 ^ 64 + 1) % 2 ^ 64 ≡ (n + 1) % 2 ^ 64
 wrap n = omega arith
@@ -173,6 +173,7 @@ module _ {V E : Type 0} (t : Telling V E) (opening : V) where
         legal = subst (λ o. MayFollow t o k.items) (sym mine.opened) k.history.legal;
         whole = λ h. whole_has t opening s k id v at (record { first = h.first; children = h.children });
         last = subst (λ o. v.last ≡ last_from t v.names o k.items 0) (sym mine.opened) mine.last;
+        own = mine.own;
       } in
       let slot : (0, Some x) ∷ me.1 ≡ (0, Some (value_after t v.seen.opening k.items)) ∷ me.1 = ap (λ o. (0, Some (value_after t o k.items)) ∷ me.1) (sym mine.opened) in (
         w,

@@ -1,13 +1,12 @@
 -- A turn that was just made keeps the rule.
-use Rattle.std.proofs.Common.{◌≡◌, ◌⊎◌, ℕ, zero, suc, ◌+◌, ◌*◌, ◌^◌, ◌<◌, ◌≤◌, Bool, true, false, List, [], ◌∷◌, ◌++◌, length, Option, Some, None, refl, sym, ap, ◌∙◌, subst, inl, inr, ⊎_elim, arith}
-use mathlib.Core.Option as opt
+use Rattle.std.proofs.Common.{◌≡◌, ℕ, zero, suc, ◌+◌, ◌*◌, ◌^◌, ◌<◌, ◌≤◌, true, false, [], ◌∷◌, Some, None, refl, sym, ◌∙◌, subst, inl, ⊎_elim, arith}
 use mathlib.Core.Option.{some, some-ne-none, some-injective}
 use lib.ListN.{get_elem?}
 use Rattle.atomic_table.specs.Table.{opening}
 use Rattle.udt_turn.specs.Story.{Telling}
 use Rattle.udt_turn.specs.History.{has}
 use Rattle.udt_turn.specs.Rule.{HasTurn, owned_of, IsLive, IsAlone, Claims, Each, Tickets, IsView, Child, Kept, total_of, parts}
-use Rattle.udt_turn.specs.Kinds.{newcomer, IsSound, IsWhole}
+use Rattle.udt_turn.specs.Kinds.{newcomer, IsSound}
 use Rattle.udt_turn.specs.declared.view.View.{View}
 use Rattle.udt_turn.proofs.Passes.{has_one}
 
@@ -64,4 +63,4 @@ module _ {V E : Type 0} (t : Telling V E) where
 
   -- the first pass has seen the opening value
   pub newcomer_sound : (x : V) → IsSound t (newcomer x)
-  newcomer_sound x = record { legal = tt; whole = λ _. refl; last = refl }
+  newcomer_sound x = record { legal = tt; whole = λ _. refl; last = refl; own = refl }

@@ -1,16 +1,15 @@
 -- Each part of the rule is kept where a view changes in nothing that it reads.
-use Rattle.std.proofs.Common.{◌≡◌, ◌≢◌, ◌⊎◌, ℕ, zero, suc, ◌+◌, ◌<◌, ◌≤◌, min, Bool, true, false, List, [], ◌∷◌, ◌++◌, length, set, Option, Some, None, refl, sym, ap, ◌∙◌, subst, inl, inr, ⊎_elim, arith}
+use Rattle.std.proofs.Common.{◌≡◌, ◌≢◌, ℕ, ◌+◌, ◌<◌, ◌≤◌, true, false, List, [], ◌∷◌, ◌++◌, length, set, Option, Some, None, sym, ap, ◌∙◌, subst, inl, inr, ⊎_elim, arith}
 use mathlib.Core.Option as opt
 use mathlib.Core.Option.{some, some-ne-none, some-injective}
 use mathlib.Core.Logic.{dite}
 use native.Mathlib.Decide.{ℕ_discrete}
 use lib.ListN.{get_elem?}
-use Rattle.atomic_table.proofs.Lists.{at_set, set_here, set_else, at_longer, at_last}
-use Rattle.udt_turn.specs.Story.{Telling}
-use Rattle.udt_turn.specs.History.{has, mine_in, Begins, value_after}
-use Rattle.udt_turn.specs.Rule.{total_of, ticket_of, queues, HasTurn, draws, owned_of, owns, IsLive, IsAlone, Knows, Claims, parts, Each, Some_view, Apart, Tickets, TicketsInOrder, OneHasTurn, Sees, IsView, Told, Child, Named, EachItem, NamesInOrder, NumbersFit, AloneHasAll, Kept}
+use Rattle.atomic_table.proofs.Lists.{at_set, set_here, set_else, at_longer}
+use Rattle.udt_turn.specs.History.{has}
+use Rattle.udt_turn.specs.Rule.{ticket_of, queues, HasTurn, draws, owned_of, Claims, parts, Each, Some_view, Apart, Tickets, TicketsInOrder, OneHasTurn, Child, Named, EachItem, NamesInOrder, NumbersFit}
 use Rattle.udt_turn.specs.declared.view.View.{View}
-use Rattle.udt_turn.proofs.Views.{total_set, total_same, total_push, total_le, total_ge, total_two, total_only, at_end, get_below, same_at, each_set, each_push}
+use Rattle.udt_turn.proofs.Views.{total_same, total_push, at_end, get_below, same_at, each_set, each_push}
 
 pub each_item_map : {E : Type 0} (P Q : ℕ → Type 0) (items : List (ℕ × E)) → ((m : ℕ) → P m → Q m) → EachItem items P → EachItem items Q
 each_item_map P Q [] f h = tt

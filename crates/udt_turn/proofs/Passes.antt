@@ -1,25 +1,23 @@
 -- The kinds of step that draw a number, split a pass, join two, and find out that one is alone keep the rule.
-use Rattle.std.proofs.Common.{◌≡◌, ◌≢◌, ◌⊎◌, ℕ, zero, suc, ◌+◌, ◌*◌, ◌%◌, ◌^◌, ◌<◌, ◌≤◌, min, max, Bool, true, false, ◌||◌, eqb, leb, if◌then◌else◌, List, [], ◌∷◌, ◌++◌, length, set, Option, Some, None, refl, sym, ap, ◌∙◌, subst, inl, inr, ⊎_elim, arith, append-nil, length-append, eqb-true, eq-eqb, leb-true, leb-false, lt_of_not-le}
+use Rattle.std.proofs.Common.{◌≡◌, ◌≢◌, ◌⊎◌, ℕ, ◌+◌, ◌%◌, ◌^◌, ◌<◌, ◌≤◌, min, Bool, true, false, ◌||◌, eqb, leb, if◌then◌else◌, List, [], ◌∷◌, ◌++◌, length, set, Option, Some, None, refl, sym, ap, ◌∙◌, subst, inl, inr, ⊎_elim, arith, append-nil, eqb-true, eq-eqb, leb-true, leb-false, lt_of_not-le}
 use Rattle.std.specs.Prelude.{slice_index, slice_set}
-use mathlib.Core.Option as opt
 use mathlib.Core.Option.{some}
 use mathlib.Core.Logic.{dite}
 use native.Mathlib.Decide.{ℕ_discrete, dec_le}
 use lib.ListN.{get_elem?}
-use Rattle.atomic_table.specs.Table.{State, Me, Act, keeps, Allows, Splits, Joins, Step}
-use Rattle.atomic_table.proofs.Lists.{at_set, set_here, set_else, at_longer, at_last}
+use Rattle.atomic_table.specs.Table.{State, Me, keeps, Allows, Splits, Step}
+use Rattle.atomic_table.proofs.Lists.{at_set, at_longer, at_last}
 use Rattle.udt_turn.specs.Story.{Telling}
-use Rattle.udt_turn.specs.History.{has, keep_if, mine_in, Begins, longer, shorter, value_after, MayFollow}
-use Rattle.udt_turn.specs.Rule.{total_of, ticket_of, queues, HasTurn, draws, owned_of, owns, IsLive, IsAlone, Knows, Claims, parts, Each, Some_view, Apart, Tickets, TicketsInOrder, OneHasTurn, Sees, IsView, Told, NoTwice, Child, Named, EachItem, NamesInOrder, NumbersFit, AloneHasAll, Kept}
-use Rattle.udt_turn.specs.Kinds.{at_stage, drawn_to, spent, number_in, parent_of, child_of, joined, IsWhole, Counts, Numbers, Ends}
+use Rattle.udt_turn.specs.History.{has, keep_if, mine_in, Begins, longer, shorter, value_after}
+use Rattle.udt_turn.specs.Rule.{total_of, ticket_of, queues, HasTurn, draws, owned_of, owns, IsLive, IsAlone, Knows, Claims, parts, Each, Some_view, IsView, NoTwice, Child, Named, EachItem, AloneHasAll, Kept}
+use Rattle.udt_turn.specs.Kinds.{drawn_to, number_in, parent_of, child_of, Counts, Numbers}
 use Rattle.udt_turn.specs.declared.view.View.{View}
 use Rattle.udt_turn.specs.declared.view.Stage.{Stage}
-use Rattle.udt_turn.specs.declared.view.Stage.TheVariants.{Idle, Waiting, Holding, Done, Counting, Owning, Alone, Spent}
-use Rattle.udt_turn.proofs.Views.{total_set, total_same, total_push, total_le, total_ge, total_two, total_only, at_end, get_below, same_at, each_set, each_push}
-use Rattle.udt_turn.proofs.Parts.{apart_set, apart_less, apart_push, here, some_set, some_push, tickets_same, tickets_push, turn_same, turn_push, names_same, fit_same, each_item_map}
-use Rattle.udt_turn.proofs.Histories.{sees_longer, mine_in-none, has-append, append_empty, mine_in-append, last_from-none}
-use Rattle.udt_turn.proofs.Whole.{has_all}
-use Rattle.udt_turn.proofs.Lock.{live_parts, alone_set, read_back, nothing, staged}
+use Rattle.udt_turn.specs.declared.view.Stage.TheVariants.{Idle, Counting, Owning}
+use Rattle.udt_turn.proofs.Views.{total_set, total_same, total_push, total_le, total_ge, total_two, same_at, each_set, each_push}
+use Rattle.udt_turn.proofs.Parts.{apart_set, apart_less, apart_push, here, some_set, some_push, tickets_same, tickets_push, turn_same, turn_push, names_same, each_item_map}
+use Rattle.udt_turn.proofs.Histories.{has-append, append_empty, mine_in-append, last_from-none}
+use Rattle.udt_turn.proofs.Lock.{live_parts, alone_set, read_back}
 
 unwrapped : (n : ℕ) → n ≤ 131069 → (n + 1) % 2 ^ 64 ≡ n + 1
 unwrapped n h = omega arith

@@ -1,22 +1,19 @@
 -- The kinds of step that publish an item, look at the history, and leave with nothing said keep the rule.
-use Rattle.std.proofs.Common.{◌≡◌, ◌≢◌, ◌⊎◌, ℕ, zero, suc, ◌+◌, ◌*◌, ◌%◌, ◌^◌, ◌<◌, ◌≤◌, min, Bool, true, false, List, [], ◌∷◌, ◌++◌, length, set, Option, Some, None, refl, sym, ap, ◌∙◌, subst, inl, inr, ⊎_elim, arith, append-nil}
+use Rattle.std.proofs.Common.{◌≡◌, ◌≢◌, ℕ, ◌+◌, ◌*◌, ◌^◌, ◌<◌, ◌≤◌, Bool, true, false, List, [], ◌∷◌, ◌++◌, length, set, Option, Some, refl, sym, ap, ◌∙◌, subst, inl, inr, ⊎_elim, arith}
 use Rattle.std.specs.Prelude.{slice_index, slice_set}
-use mathlib.Core.Option as opt
 use mathlib.Core.Option.{some}
-use mathlib.Core.Logic.{dite}
-use native.Mathlib.Decide.{ℕ_discrete}
 use lib.ListN.{get_elem?}
-use Rattle.atomic_table.specs.Table.{State, Me, Act, keeps, Allows, Step}
+use Rattle.atomic_table.specs.Table.{State, Me, keeps, Allows, Step}
 use Rattle.udt_turn.specs.Story.{Telling}
-use Rattle.udt_turn.specs.History.{has, mine_in, Begins, value_after, MayFollow, IsLegal, last_from}
-use Rattle.udt_turn.specs.Rule.{total_of, ticket_of, queues, HasTurn, draws, owned_of, owns, IsLive, IsAlone, Knows, Claims, parts, Each, Some_view, Apart, Tickets, TicketsInOrder, OneHasTurn, Sees, IsView, Told, Named, NamesInOrder, NumbersFit, AloneHasAll, Kept}
-use Rattle.udt_turn.specs.Kinds.{at_stage, seeing, ticket_in, found_in, IsWhole, IsSound, saying, Says, Leaves, Looks, Shows, Settles}
+use Rattle.udt_turn.specs.History.{has, value_after, MayFollow, last_from}
+use Rattle.udt_turn.specs.Rule.{ticket_of, queues, HasTurn, draws, owned_of, owns, IsLive, IsAlone, Knows, parts, Each, Tickets, Sees, IsView, Named, Kept}
+use Rattle.udt_turn.specs.Kinds.{at_stage, seeing, ticket_in, found_in, IsSound, saying, Says, Leaves, Looks, Settles}
 use Rattle.udt_turn.specs.declared.view.View.{View}
 use Rattle.udt_turn.specs.declared.view.Stage.{Stage}
 use Rattle.udt_turn.specs.declared.view.Stage.TheVariants.{Idle, Waiting, Holding, Done, Counting, Owning, Alone, Spent}
-use Rattle.udt_turn.proofs.Views.{same_at, each_set, total_ge}
-use Rattle.udt_turn.proofs.Parts.{here, some_set, tickets_same, turn_same, names_same, fit_same, each_item_push}
-use Rattle.udt_turn.proofs.Histories.{value_after-push, may_follow-push, may_follow-front, sees_all, sees_more, sees_mine, seen_whole, begins_more, begins_both, last_from-own, last_from-other, last_from-seen}
+use Rattle.udt_turn.proofs.Views.{each_set, total_ge}
+use Rattle.udt_turn.proofs.Parts.{here, tickets_same, turn_same, names_same, fit_same, each_item_push}
+use Rattle.udt_turn.proofs.Histories.{value_after-push, may_follow-push, may_follow-front, sees_all, sees_more, seen_whole, begins_more, begins_both, last_from-own, last_from-other, last_from-seen}
 use Rattle.udt_turn.proofs.Whole.{whole_has}
 use Rattle.udt_turn.proofs.Lock.{live_parts, alone_set, read_back}
 
@@ -42,6 +39,7 @@ module _ {V E : Type 0} (t : Telling V E) (opening : V) where
     legal = subst (λ o. MayFollow t o k.items) (sym (k.view id v at live).opened) k.history.legal;
     whole = λ h. whole_has t opening s k id v at (record { first = h.first; children = h.children });
     last = let mine = k.view id v at live in subst (λ o. v.last ≡ last_from t v.names o k.items 0) (sym mine.opened) mine.last;
+    own = (k.view id v at live).own;
   }
 
   -- what a live view has seen is sound
@@ -52,6 +50,7 @@ module _ {V E : Type 0} (t : Telling V E) (opening : V) where
         legal = may_follow-front t v.seen.opening v.seen.items mine.sees.rest (subst (λ xs. MayFollow t v.seen.opening xs) mine.sees.is (subst (λ o. MayFollow t o k.items) (sym mine.opened) k.history.legal));
         whole = λ h. seen_whole v.names v.seen.items k.items mine.sees (whole_has t opening s k id v at (record { first = h.first; children = h.children }));
         last = subst (λ o. v.last ≡ last_from t v.names o v.seen.items 0) (sym mine.opened) (mine.last ∙ last_from-seen t v.names opening v.seen.items k.items 0 mine.sees);
+        own = mine.own;
       }
 
   -- K10 keeps the rule
@@ -137,6 +136,7 @@ module _ {V E : Type 0} (t : Telling V E) (opening : V) where
         legal = subst (λ o. MayFollow t o items) (sym mine.opened) rule.history.legal;
         whole = λ h. whole_has t opening record { words = slice_set s.words 0 new; homes = s.homes; views = slice_set s.views id w } rule id w (here s.views id v w at) (record { first = h.first; children = h.children });
         last = subst (λ o. w.last ≡ last_from t v.names o items 0) (sym mine.opened) last_here;
+        own = mine.own;
       }) in (
         w,
         keeps,
@@ -263,7 +263,7 @@ module _ {V E : Type 0} (t : Telling V E) (opening : V) where
         (
           refl,
           (let here_seen = sound_seen s k id v at (subst IsLive (sym stage) tt) in
-              record { legal = here_seen.legal; whole = λ h. here_seen.whole (record { first = h.first; children = h.children }); last = here_seen.last }),
+              record { legal = here_seen.legal; whole = λ h. here_seen.whole (record { first = h.first; children = h.children }); last = here_seen.last; own = here_seen.own }),
           begins_both v.told v.seen.items mine.told.0 mine.sees.rest (sym mine.told.1 ∙ mine.sees.is) le,
           let p = total_ge parts s.views id v at in let a = k.fit.all in omega arith,
           mine.once,
@@ -273,4 +273,4 @@ module _ {V E : Type 0} (t : Telling V E) (opening : V) where
 module _ {V E : Type 0} (t : Telling V E) where
   -- a view at another stage is as sound
   pub sound_staged : (v : View V E) (st : Stage E) → IsSound t v → IsSound t (at_stage v st)
-  sound_staged v st h = record { legal = h.legal; whole = λ w. h.whole (record { first = w.first; children = w.children }); last = h.last }
+  sound_staged v st h = record { legal = h.legal; whole = λ w. h.whole (record { first = w.first; children = w.children }); last = h.last; own = h.own }

@@ -1,13 +1,11 @@
 -- A view that is whole has every name, so the whole history was made under its names.
-use Rattle.std.proofs.Common.{◌≡◌, ◌≢◌, ◌⊎◌, ℕ, zero, suc, ◌+◌, ◌<◌, ◌≤◌, min, Bool, true, false, List, [], ◌∷◌, ◌++◌, length, Option, Some, None, refl, sym, ap, ◌∙◌, subst, inl, inr, ⊎_elim, arith}
+use Rattle.std.proofs.Common.{◌≡◌, ℕ, zero, suc, ◌<◌, true, List, [], ◌∷◌, Option, refl, ap, ◌∙◌, subst, inl, arith}
 use mathlib.Core.Option.{some}
-use mathlib.Core.Logic.{dite}
-use native.Mathlib.Decide.{ℕ_discrete}
 use lib.ListN.{get_elem?}
 use Rattle.atomic_table.specs.Table.{State}
 use Rattle.udt_turn.specs.Story.{Telling}
 use Rattle.udt_turn.specs.History.{has, mine_in, keep_if}
-use Rattle.udt_turn.specs.Rule.{Claims, Some_view, Child, Named, EachItem, NamesInOrder, Kept}
+use Rattle.udt_turn.specs.Rule.{Child, Named, EachItem, NamesInOrder, Kept}
 use Rattle.udt_turn.specs.Kinds.{IsWhole}
 use Rattle.udt_turn.specs.declared.view.View.{View}
 use Rattle.udt_turn.proofs.Views.{same_at}

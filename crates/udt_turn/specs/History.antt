@@ -1,6 +1,6 @@
 -- A history: the value that opened it, and the items in order, each with the number of the pass that made it.
 -- It stands for the value after its last item, and is legal where each item may stand behind the value after the items before it, and raises the count by one.
-use Rattle.std.specs.Prelude.{◌≡◌, ℕ, ◌+◌, ◌<◌, Bool, true, false, ◌||◌, eqb, if◌then◌else◌, List, [], ◌∷◌, ◌++◌, length, leb}
+use Rattle.std.specs.Prelude.{◌≡◌, ℕ, ◌+◌, Bool, true, false, ◌||◌, eqb, if◌then◌else◌, List, [], ◌∷◌, ◌++◌, length, leb}
 use Rattle.udt_turn.specs.Story.{Telling}
 use Rattle.udt_turn.specs.declared.view.History.{History}
 
@@ -9,6 +9,7 @@ abbrev pub has : List ℕ → ℕ → Bool
 has [] n = false
 has (m ∷ ms) n = eqb m n || has ms n
 
+-- the item before the others, or left out
 abbrev pub keep_if : {A : Type 0} → Bool → A → List A → List A
 keep_if true x xs = x ∷ xs
 keep_if false x xs = xs
@@ -26,6 +27,7 @@ Begins {A} xs ys = (rest : List A) × (ys ≡ xs ++ rest)
 abbrev pub longer : {A : Type 0} → List A → List A → List A
 longer xs ys = if leb (length xs) (length ys) then ys else xs
 
+-- the other one of the two
 abbrev pub shorter : {A : Type 0} → List A → List A → List A
 shorter xs ys = if leb (length xs) (length ys) then xs else ys
 
@@ -49,6 +51,7 @@ module _ {V E : Type 0} (t : Telling V E) where
   abbrev pub value_of : History V E → V
   value_of h = value_after h.opening h.items
 
+  -- each of its items may stand where it stands
   abbrev pub IsLegal : History V E → Type 0
   IsLegal h = MayFollow h.opening h.items
 

@@ -1,5 +1,5 @@
 -- The kinds of step: what each tells the pass that takes it, of the word that it found and of its view before and after.
-use Rattle.std.specs.Prelude.{◌≡◌, ◌≢◌, ℕ, ◌+◌, ◌*◌, ◌%◌, ◌^◌, ◌<◌, ◌≤◌, min, max, Bool, true, List, [], ◌∷◌, ◌++◌, length, Option, Some, None}
+use Rattle.std.specs.Prelude.{◌≡◌, ◌≢◌, ℕ, ◌+◌, ◌*◌, ◌%◌, ◌^◌, ◌<◌, ◌≤◌, min, max, true, List, [], ◌∷◌, ◌++◌, length, Option, Some}
 use Rattle.atomic_table.specs.Table.{Step, Me, rest}
 use Rattle.udt_turn.specs.Story.{Telling}
 use Rattle.udt_turn.specs.History.{has, mine_in, Begins, longer, shorter, value_of, value_after, IsLegal, last_of}
@@ -34,9 +34,11 @@ module _ {V E : Type 0} where
   abbrev pub spent : V → View V E
   spent s = record { number = 0; names = []; made = []; seen = record { opening = s; items = [] }; told = []; last = 0; drawn = 0; stage = Spent }
 
+  -- the view at another stage
   abbrev pub at_stage : View V E → Stage E → View V E
   at_stage v st = record v { stage = st }
 
+  -- the view, having seen this much, at another stage
   abbrev pub seeing : View V E → List (ℕ × E) → Stage E → View V E
   seeing v xs st = record v { seen = record { opening = v.seen.opening; items = xs }; stage = st }
 
@@ -45,11 +47,12 @@ module _ {V E : Type 0} where
     pub first : has v.names 0 ≡ true
     pub children : (p m : ℕ) → Child v.made p m → has v.names m ≡ true
 
-  -- what was seen is legal, where the view is whole all of it was made under its names, and the count after the last item of its own is known
+  -- what was seen is legal, where the view is whole all of it was made under its names, the count after the last item of its own is known, and its own number is a name of it
   pub record IsSound (t : Telling V E) (v : View V E) : Type 0 where
     pub legal : IsLegal t v.seen
     pub whole : IsWhole v → mine_in v.names v.seen.items ≡ v.seen.items
     pub last : v.last ≡ last_of t v.names v.seen
+    pub own : has v.names v.number ≡ true
 
   -- K1: it has the ticket that it found
   abbrev pub Draws : Step (Option V) → Me (Option V) (View V E) → ℕ → Me (Option V) (View V E) → Type 0
@@ -73,6 +76,24 @@ module _ {V E : Type 0} where
     last = t.count (t.after (value_after t v.seen.opening (found_in v.stage)) e);
     stage = Done (ticket_in v.stage);
   }
+
+  -- the value of the history that the holder of the turn found
+  abbrev pub value_found : Telling V E → View V E → V
+  value_found t v = value_after t v.seen.opening (found_in v.stage)
+
+  -- the item may stand behind that value, and these are the count and the bits after it
+  pub record Agrees (t : Telling V E) (item : Option E) (before : V) (count bits : ℕ) : Type 0 where
+    pub entry : E
+    pub named : item ≡ Some entry
+    pub legal : t.legal before entry
+    pub count_is : count ≡ t.count (t.after before entry)
+    pub bits_is : bits ≡ t.bits (t.after before entry)
+    pub next : count ≡ t.count before + 1
+    pub most : count < 2 ^ 55
+
+  -- it has the turn
+  abbrev pub HasTicket : View V E → Type 0
+  HasTicket v = (k : ℕ) × (v.stage ≡ Holding k (found_in v.stage))
 
   -- K10: it has seen the history that it found with its item behind
   abbrev pub Says : Telling V E → Option E → Step (Option V) → Me (Option V) (View V E) → ℕ → Me (Option V) (View V E) → Type 0
@@ -100,6 +121,7 @@ module _ {V E : Type 0} where
   abbrev pub Looks : Telling V E → Step (Option V) → Me (Option V) (View V E) → ℕ → Me (Option V) (View V E) → Type 0
   Looks t st me n me' = Shows t me n me'
 
+  -- the view, having learnt that so many numbers were drawn, at another stage
   abbrev pub drawn_to : View V E → ℕ → Stage E → View V E
   drawn_to v n st = record v { drawn = n; stage = st }
 
@@ -110,6 +132,21 @@ module _ {V E : Type 0} where
   -- K7: it owns the number that it found where that is below 65535
   abbrev pub Numbers : Step (Option V) → Me (Option V) (View V E) → ℕ → Me (Option V) (View V E) → Type 0
   Numbers st me n me' = (me.0.drawn ≤ n) × (me.0.number < n) × (mine_in (n ∷ []) me.0.seen.items ≡ []) × (n < 65535 → me' ≡ (drawn_to me.0 (n + 1) (Owning n), me.1)) × (65535 ≤ n → me' ≡ (drawn_to me.0 (n + 1) Idle, me.1))
+
+  -- it owns a number below 65535, which no step of it had shown as drawn, and under which it has seen nothing made
+  pub record HasDrawn (me me' : Me (Option V) (View V E)) : Type 0 where
+    pub drew : ℕ
+    pub now : me' ≡ (drawn_to me.0 (drew + 1) (Owning drew), me.1)
+    pub few : drew < 65535
+    pub fresh : me.0.drawn ≤ drew
+    pub above : me.0.number < drew
+    pub unmade : mine_in (drew ∷ []) me.0.seen.items ≡ []
+
+  -- it has learnt that 65535 numbers were drawn, and draws none
+  pub record HasFound (me me' : Me (Option V) (View V E)) : Type 0 where
+    pub found : ℕ
+    pub now : me' ≡ (drawn_to me.0 found Idle, me.1)
+    pub many : 65535 ≤ found
 
   -- K8: the number that was owned becomes a child of the view's own number
   abbrev pub parent_of : View V E → View V E

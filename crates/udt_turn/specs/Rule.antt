@@ -1,16 +1,16 @@
 -- The rule of a turn: what its words, its slot, one history and the views of all passes have to do with one another between any two steps.
 -- Word 0 tells the value: 256 times its count, and its bits. Word 1 counts the tickets drawn and word 2 those served, both modulo 2 ^ 64. Word 3 counts the pass numbers drawn, and is 1 at first.
 -- The one slot has the value while nobody has the turn.
-use Rattle.std.specs.Prelude.{◌≡◌, ◌≢◌, ℕ, ◌+◌, ◌*◌, ◌%◌, ◌^◌, ◌<◌, ◌≤◌, min, ◌⊎◌, Bool, true, false, List, [], ◌∷◌, ◌++◌, length, Option, Some, None}
+use Rattle.std.specs.Prelude.{◌≡◌, ℕ, ◌+◌, ◌*◌, ◌%◌, ◌^◌, ◌<◌, ◌≤◌, min, ◌⊎◌, true, false, List, [], ◌∷◌, ◌++◌, length, Option, Some, None}
 use mathlib.Core.Option as opt
 use mathlib.Core.Option.{some, none}
 use lib.ListN.{get_elem?}
-use Rattle.atomic_table.specs.Table.{State, Me, Step}
+use Rattle.atomic_table.specs.Table.{State}
 use Rattle.udt_turn.specs.Story.{Telling}
 use Rattle.udt_turn.specs.History.{has, mine_in, Begins, value_after, MayFollow, last_from}
 use Rattle.udt_turn.specs.declared.view.View.{View}
 use Rattle.udt_turn.specs.declared.view.Stage.{Stage}
-use Rattle.udt_turn.specs.declared.view.Stage.TheVariants.{Idle, Waiting, Holding, Done, Counting, Owning, Alone, Spent}
+use Rattle.udt_turn.specs.declared.view.Stage.TheVariants.{Waiting, Holding, Done, Counting, Owning, Alone, Spent}
 
 -- the sum of a number of each
 abbrev pub total_of : {A : Type 0} → (A → ℕ) → List A → ℕ
@@ -46,17 +46,20 @@ module _ {E : Type 0} where
   ticket_of (Done n) = Some n
   ticket_of _ = None
 
+  -- 1 for a pass that has drawn a ticket, and else 0
   abbrev pub queues : Stage E → ℕ
   queues (Waiting _) = 1
   queues (Holding _ _) = 1
   queues (Done _) = 1
   queues _ = 0
 
+  -- its ticket is served, and the slot is with it
   abbrev pub HasTurn : Stage E → Type 0
   HasTurn (Holding _ _) = Unit {0}
   HasTurn (Done _) = Unit {0}
   HasTurn _ = ⊥
 
+  -- 1 for a pass that may draw a number, and else 0
   abbrev pub draws : Stage E → ℕ
   draws Counting = 1
   draws _ = 0
@@ -66,14 +69,17 @@ module _ {E : Type 0} where
   owned_of (Owning n) = Some n
   owned_of _ = None
 
+  -- 1 for a pass that owns a number, and else 0
   abbrev pub owns : Stage E → ℕ
   owns (Owning _) = 1
   owns _ = 0
 
+  -- it was not joined into another
   abbrev pub IsLive : Stage E → Type 0
   IsLive Spent = ⊥
   IsLive _ = Unit {0}
 
+  -- it knows that all others were joined into it
   abbrev pub IsAlone : Stage E → Type 0
   IsAlone Alone = Unit {0}
   IsAlone _ = ⊥
@@ -89,12 +95,15 @@ module _ {V E : Type 0} where
   abbrev pub Claims : View V E → ℕ → Type 0
   Claims v m = (has v.names m ≡ true) ⊎ (owned_of v.stage ≡ Some m)
 
+  -- how many numbers a view answers for
   abbrev pub parts : View V E → ℕ
   parts v = length v.names + owns v.stage
 
+  -- each view meets it
   abbrev pub Each : List (View V E) → (View V E → Type 0) → Type 0
   Each views P = (j : ℕ) (v : View V E) → get_elem? views j ≡ some v → P v
 
+  -- some view meets it
   abbrev pub Some_view : List (View V E) → (View V E → Type 0) → Type 0
   Some_view views P = (j : ℕ) × (v : View V E) × (get_elem? views j ≡ some v) × P v
 
@@ -102,6 +111,7 @@ module _ {V E : Type 0} where
   abbrev pub Apart : (View V E → ℕ → Type 0) → List (View V E) → Type 0
   Apart C views = (i j : ℕ) (u v : View V E) (m : ℕ) → get_elem? views i ≡ some u → get_elem? views j ≡ some v → C u m → C v m → i ≡ j
 
+  -- the view's ticket is this one
   abbrev pub Tickets : View V E → ℕ → Type 0
   Tickets v n = ticket_of v.stage ≡ Some n
 
@@ -135,6 +145,7 @@ module _ {V E : Type 0} where
     pub count : t.count (value_after t opening items) < 2 ^ 55
     pub bits : t.bits (value_after t opening items) < 256
 
+  -- the number is a name of some view
   abbrev pub Named : List (View V E) → ℕ → Type 0
   Named views m = Some_view views (λ v. has v.names m ≡ true)
 
@@ -158,6 +169,7 @@ module _ {V E : Type 0} where
   abbrev pub AloneHasAll : List (View V E) → Type 0
   AloneHasAll views = Each views (λ v. IsAlone v.stage → total_of parts views ≡ parts v)
 
+  -- The whole rule, of some history, some numbers of tickets served and drawn, and some number of pass numbers drawn
   pub record Kept (t : Telling V E) (opening : V) (s : State (Option V) (View V E)) : Type 0 where
     pub items : List (ℕ × E)
     pub word : ℕ

@@ -1,6 +1,7 @@
 -- What a kind of value says of its histories: how an item goes on from a value, where it may stand, and what a value tells.
 use Rattle.std.specs.Prelude.{ℕ}
 
+-- how the histories of a kind of value go on, and what a value tells
 pub record Telling (V E : Type 0) : Type 1 where
   -- the value after an item
   pub after : V → E → V

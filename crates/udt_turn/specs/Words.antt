@@ -1,10 +1,10 @@
 -- What contracts say of passes, of a turn and of whoever has it.
-use Rattle.std.specs.Prelude.{◌≡◌, ℕ, ◌+◌, ◌*◌, ◌%◌, ◌^◌, ◌<◌, ◌≤◌, Bool, true, List, [], ◌∷◌, ◌++◌, length, Option, Some, None}
+use Rattle.std.specs.Prelude.{◌≡◌, ℕ, ◌+◌, ◌^◌, ◌<◌, ◌≤◌, List, [], ◌∷◌, ◌++◌, Option, Some, None}
 use Rattle.atomic_table.specs.Seated.{TableId}
 use Rattle.udt_turn.specs.Story.{Telling}
-use Rattle.udt_turn.specs.History.{has, mine_in, Begins, longer, value_of, value_after, IsLegal}
+use Rattle.udt_turn.specs.History.{mine_in}
 use Rattle.udt_turn.specs.Rule.{Sees}
-use Rattle.udt_turn.specs.Kinds.{at_stage, seeing, found_in, ticket_in, IsWhole, IsSound}
+use Rattle.udt_turn.specs.Kinds.{seeing, found_in, IsSound}
 use Rattle.udt_turn.specs.declared.story.Story as story
 use Rattle.udt_turn.specs.declared.pass.Pass.{Pass}
 use Rattle.udt_turn.specs.declared.turn.Turn.{Turn}
@@ -18,15 +18,17 @@ module _ {V E : Type 0} where
   abbrev pub opening_of : Turn V E → V
   opening_of turn = turn.table.shared.key.value
 
+  -- which table the turn lies in
   abbrev pub table_of : Turn V E → TableId
   table_of turn = turn.table.shared.table_id
 
 module _ {V E : Type 0} where
-  -- number, names and pairs stay
+  -- number, names and pairs stay, and so does what is known of the numbers drawn
   pub record KeepsNames (before after : View V E) : Type 0 where
     pub number : after.number ≡ before.number
     pub names : after.names ≡ before.names
     pub made : after.made ≡ before.made
+    pub drawn : after.drawn ≡ before.drawn
 
   -- the new view has a number of its own, which no step had shown as drawn yet, and it has seen as much and made nothing
   pub record HasBranched (old new : View V E) : Type 0 where
@@ -48,9 +50,11 @@ module _ {V E : Type 0} where
     pub most : t.count after < 2 ^ 55
 
 module _ {V E : Type 0} {g : story.Ghosts V E} where
+  -- what the pass knows
   abbrev pub view_of : Pass V E g → View V E
   view_of p = p.seat.me.0
 
+  -- the pass's own number
   abbrev pub number_of : Pass V E g → ℕ
   number_of p = (view_of p).number
 
@@ -89,6 +93,18 @@ module _ {V E : Type 0} {g : story.Ghosts V E} where
   abbrev pub with_item : Pass V E g → E → History V E
   with_item p e = record { opening = (found_of p).opening; items = (found_of p).items ++ (number_of p, e) ∷ [] }
 
+  -- that history, with the item behind, is seen afterwards
+  abbrev pub SeesItem : Option E → Pass V E g → Pass V E g → Type 0
+  SeesItem item before after = (e : E) → item ≡ Some e → seen_of after ≡ with_item before e
+
+  -- and the item is one more of its own
+  abbrev pub MakesItem : Option E → Pass V E g → Pass V E g → Type 0
+  MakesItem item before after = (e : E) → item ≡ Some e → mine_of after ≡ mine_of before ++ (number_of before, e) ∷ []
+
+  -- the number of a new pass stands in the pairs of its parent
+  abbrev pub MakesPair : Pass V E g → Pass V E g → Pass V E g → Type 0
+  MakesPair before after new = made_of after ≡ (number_of before, number_of new) ∷ made_of before
+
   -- the pass has the turn, the value is out of the slot, and what was found is legal and goes on from what the pass had seen
   pub record IsHolding (t : Telling V E) (turn : Turn V E) (p : Pass V E g) : Type 0 where
     pub ticket : ℕ
@@ -99,8 +115,10 @@ module _ {V E : Type 0} {g : story.Ghosts V E} where
     pub sees : Sees (names_of p) (seen_of p).items (found_of p).items
     pub sound : IsSound t (seeing (view_of p) (found_of p).items Idle)
 
+  -- the same, of whoever has the turn
   abbrev pub found_by : Held V E g → History V E
   found_by h = found_of h.pass.now
 
+  -- the same, of whoever has the turn and the value
   abbrev pub IsHeld : Telling V E → Held V E g → Type 0
   IsHeld t h = IsHolding t h.turn.now h.pass.now

@@ -45,11 +45,12 @@ pub struct Look {
 }
 
 impl<V: Story> Turn<V> {
-    ghost use Rattle.std.specs.Prelude.{◌≡◌, ◌+◌, ◌^◌, ◌<◌, ◌≤◌, [], ◌∷◌, ◌++◌, IfOk, IfErr};
+    ghost use Rattle.std.specs.Prelude.{◌≡◌, ◌+◌, ◌^◌, ◌<◌, ◌≤◌, [], ◌∷◌, ◌++◌, IfOk, IfErr, max};
     ghost use Rattle.udt_turn.specs.History.{value_of, longer, Begins, IsLegal};
     ghost use Rattle.udt_turn.specs.Rule.{NoTwice};
     ghost use Rattle.udt_turn.specs.Kinds.{newcomer, IsSound, IsWhole};
-    ghost use Rattle.udt_turn.specs.Words.{view_of, seen_of, number_of, names_of, made_of, mine_of, drawn_of, opening_of, found_by, IsPassOf, IsHeld, KeepsNames, HasBranched};
+    ghost use Rattle.udt_turn.specs.Words.{view_of, seen_of, number_of, names_of, made_of, mine_of, drawn_of};
+    ghost use Rattle.udt_turn.specs.Words.{opening_of, found_by, IsPassOf, IsHeld, KeepsNames, HasBranched, MakesPair};
 
     /// A turn round this value, which opens its history, and the pass with the number 0.
     pub fn make(alloc: Global, value: V) -> Result<(Turn<V>, Pass<V>), (V, OutOfMemory)>
@@ -117,9 +118,12 @@ impl<V: Story> Turn<V> {
         ensures number { number_of pass.new ≡ number_of pass.old }
         ensures names { names_of pass.new ≡ names_of pass.old }
         ensures seen { seen_of pass.new ≡ seen_of pass.old }
-        ensures new { IfOk result (λ p. IsPassOf self.now p × HasBranched (view_of pass.old) (view_of p)) }
-        ensures made { IfOk result (λ p. made_of pass.new ≡ (number_of pass.old, number_of p) ∷ made_of pass.old) }
-        ensures full { IfErr result (λ _. (65535 ≤ drawn_of pass.new) × (made_of pass.new ≡ made_of pass.old)) }
+        ensures new { IfOk result (λ p. IsPassOf self.now p) }
+        ensures branch { IfOk result (λ p. HasBranched (view_of pass.old) (view_of p)) }
+        ensures made { IfOk result (λ p. MakesPair pass.old pass.new p) }
+        ensures drawn { IfOk result (λ p. drawn_of pass.new ≡ number_of p + 1) }
+        ensures full { IfErr result (λ _. 65535 ≤ drawn_of pass.new) }
+        ensures err { IfErr result (λ _. made_of pass.new ≡ made_of pass.old) }
     {
         if !self.number(&mut pass.seat) {
             return Err(Full);
@@ -141,6 +145,7 @@ impl<V: Story> Turn<V> {
         ensures names { names_of into.new ≡ names_of into.old ++ names_of gone }
         ensures apart { NoTwice (names_of into.new) }
         ensures made { made_of into.new ≡ made_of into.old ++ made_of gone }
+        ensures drawn { drawn_of into.new ≡ max (drawn_of into.old) (drawn_of gone) }
         ensures longer { (seen_of into.new).items ≡ longer (seen_of into.old).items (seen_of gone).items }
         ensures from_into { Begins (seen_of into.old).items (seen_of into.new).items }
         ensures from_gone { Begins (seen_of gone).items (seen_of into.new).items }
@@ -152,14 +157,17 @@ impl<V: Story> Turn<V> {
         into.joined += joined;
     }
 
-    /// Gives the value back, which stands for all that the pass has seen. At `Err` another pass was not joined.
+    /// Gives back the value, which stands for all that the pass has seen.
+    /// At `Err` another pass was not joined.
     pub fn close(self, mut pass: Pass<V>) -> Result<V, (Turn<V>, Pass<V>)>
         requires { IsPassOf self pass }
         ensures whole { IfOk result (λ _. IsWhole (view_of pass)) }
         ensures value { IfOk result (λ v. v ≡ value_of V.tale (seen_of pass)) }
-        ensures legal { IfOk result (λ _. IsLegal V.tale (seen_of pass) × (mine_of pass ≡ (seen_of pass).items)) }
+        ensures legal { IfOk result (λ _. IsLegal V.tale (seen_of pass)) }
+        ensures mine { IfOk result (λ _. mine_of pass ≡ (seen_of pass).items) }
         ensures parted { IfErr result (λ _. IsWhole (view_of pass) → ⊥) }
-        ensures err { IfErr result (λ r. (r.0 ≡ self) × IsPassOf r.0 r.1 × (view_of r.1 ≡ view_of pass)) }
+        ensures err { IfErr result (λ r. (r.0 ≡ self) × (view_of r.1 ≡ view_of pass)) }
+        ensures own { IfErr result (λ r. IsPassOf r.0 r.1) }
     {
         let joined = pass.joined;
         if self.ends(&mut pass.seat, joined) {

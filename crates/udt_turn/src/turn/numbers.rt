@@ -11,7 +11,7 @@ impl<V: Story> Turn<V> {
     ghost use Rattle.udt_turn.specs.declared.view.Stage.TheVariants.{Idle, Owning, Alone};
     ghost use Rattle.udt_turn.specs.History.{value_of, mine_in, Begins, longer};
     ghost use Rattle.udt_turn.specs.Rule.{NoTwice};
-    ghost use Rattle.udt_turn.specs.Kinds.{at_stage, drawn_to, parent_of, child_of, joined, Shows, IsSound, IsWhole};
+    ghost use Rattle.udt_turn.specs.Kinds.{at_stage, drawn_to, parent_of, child_of, joined, Shows, HasDrawn, HasFound, IsSound, IsWhole};
 
     // Loads word 0, and shows the history.
     pub(crate) fn glance(&self, seat: &mut Sat<V>) -> u64
@@ -28,8 +28,8 @@ impl<V: Story> Turn<V> {
         requires own { seat.old.table_id ≡ self.now.table.shared.table_id }
         requires idle { seat.old.me.0.stage ≡ Idle }
         ensures same { (seat.new.table_id ≡ seat.old.table_id) × (seat.new.id ≡ seat.old.id) }
-        ensures drew { IsTrue result → (n : ℕ) × (seat.new.me ≡ (drawn_to seat.old.me.0 (n + 1) (Owning n), seat.old.me.1)) × (n < 65535) × (seat.old.me.0.drawn ≤ n) × (seat.old.me.0.number < n) × (mine_in (n ∷ []) seat.old.me.0.seen.items ≡ []) }
-        ensures full { IsFalse result → (n : ℕ) × (seat.new.me ≡ (drawn_to seat.old.me.0 n Idle, seat.old.me.1)) × (65535 ≤ n) }
+        ensures drew { IsTrue result → HasDrawn seat.old.me seat.new.me }
+        ensures full { IsFalse result → HasFound seat.old.me seat.new.me }
     {
         if self.table.shared.load::<Count>(seat, 3) >= PASSES {
             return false;
@@ -50,7 +50,8 @@ impl<V: Story> Turn<V> {
 
     // Joins a seat into another, and looks at what both had seen.
     pub(crate) fn merge(&self, seat: &mut Sat<V>, gone: Sat<V>)
-        requires own { (seat.old.table_id ≡ self.now.table.shared.table_id) × (gone.table_id ≡ self.now.table.shared.table_id) × (gone.me.1 ≡ []) }
+        requires own { seat.old.table_id ≡ self.now.table.shared.table_id }
+        requires gone { (gone.table_id ≡ self.now.table.shared.table_id) × (gone.me.1 ≡ []) }
         requires idle { (seat.old.me.0.stage ≡ Idle) × (gone.me.0.stage ≡ Idle) }
         ensures same { (seat.new.table_id ≡ seat.old.table_id) × (seat.new.id ≡ seat.old.id) }
         ensures both { seat.new.me ≡ (record (joined seat.old.me.0 gone.me.0) { told = [] }, seat.old.me.1) }

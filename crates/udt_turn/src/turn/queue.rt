@@ -15,7 +15,9 @@ impl<V: Story> Turn<V> {
     ghost use Rattle.std.specs.Prelude.{◌≡◌, ℕ, ◌+◌, ◌*◌, ◌%◌, ◌^◌, ◌<◌, ◌≤◌, [], ◌∷◌, Some, None};
     ghost use Rattle.udt_turn.specs.declared.view.Stage.TheVariants.{Idle, Waiting, Holding, Done};
     ghost use Rattle.udt_turn.specs.History.{value_after};
-    ghost use Rattle.udt_turn.specs.Kinds.{at_stage, seeing, saying, found_in, ticket_in, Takes, IsSound};
+    ghost use Rattle.udt_turn.specs.Kinds.{at_stage, value_found, Agrees, HasTicket, Says, Leaves, Takes};
+    ghost use Rattle.atomic_table.specs.Table.{step};
+    ghost use mathlib.Core.Option.{none};
 
     // Draws a ticket, of which the low 64 bits are answered.
     pub(crate) fn draw(&self, seat: &mut Sat<V>) -> u64
@@ -78,14 +80,10 @@ impl<V: Story> Turn<V> {
     // Publishes the item that N names, with the count and the bits after it.
     pub(crate) fn say<N: Naming<V::Entry>>(&self, seat: &mut Sat<V>, count: u64, bits: u8)
         requires own { seat.old.table_id ≡ self.now.table.shared.table_id }
-        requires holds { (k : ℕ) × (seat.old.me.0.stage ≡ Holding k (found_in seat.old.me.0.stage)) }
-        requires item { (e : V.Entry) × (N.item ≡ Some e) × V.tale.legal (value_after V.tale seat.old.me.0.seen.opening (found_in seat.old.me.0.stage)) e
-            × (count ≡ V.tale.count (V.tale.after (value_after V.tale seat.old.me.0.seen.opening (found_in seat.old.me.0.stage)) e))
-            × (bits ≡ V.tale.bits (V.tale.after (value_after V.tale seat.old.me.0.seen.opening (found_in seat.old.me.0.stage)) e)) }
-        requires next { count ≡ V.tale.count (value_after V.tale seat.old.me.0.seen.opening (found_in seat.old.me.0.stage)) + 1 }
-        requires most { count < 2 ^ 55 }
+        requires holds { HasTicket seat.old.me.0 }
+        requires item { Agrees V.tale N.item (value_found V.tale seat.old.me.0) count bits }
         ensures same { (seat.new.table_id ≡ seat.old.table_id) × (seat.new.id ≡ seat.old.id) }
-        ensures said { (e : V.Entry) → N.item ≡ Some e → (seat.new.me ≡ (saying V.tale seat.old.me.0 e, seat.old.me.1)) × IsSound V.tale seat.new.me.0 }
+        ensures said { Says V.tale N.item (step 0 0 0 0 none) seat.old.me 0 seat.new.me }
     {
         self.table
             .shared
@@ -95,9 +93,9 @@ impl<V: Story> Turn<V> {
     // Says nothing: the history that was found is seen.
     pub(crate) fn pass_by(&self, seat: &mut Sat<V>)
         requires own { seat.old.table_id ≡ self.now.table.shared.table_id }
-        requires holds { (k : ℕ) × (seat.old.me.0.stage ≡ Holding k (found_in seat.old.me.0.stage)) }
+        requires holds { HasTicket seat.old.me.0 }
         ensures same { (seat.new.table_id ≡ seat.old.table_id) × (seat.new.id ≡ seat.old.id) }
-        ensures seen { seat.new.me ≡ (seeing seat.old.me.0 (found_in seat.old.me.0.stage) (Done (ticket_in seat.old.me.0.stage)), seat.old.me.1) }
+        ensures seen { Leaves (step 0 0 0 0 none) seat.old.me 0 seat.new.me }
     {
         self.table.shared.load::<Leave>(seat, 0);
     }

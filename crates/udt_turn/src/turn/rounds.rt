@@ -5,10 +5,11 @@ use crate::turn::Turn;
 use std::sync::Wait;
 
 impl<V: Story> Turn<V> {
-    ghost use Rattle.std.specs.Prelude.{◌≡◌, Some};
+    ghost use Rattle.std.specs.Prelude.{◌≡◌};
     ghost use Rattle.udt_turn.specs.History.{value_of};
     ghost use Rattle.udt_turn.specs.Kinds.{IsSound};
-    ghost use Rattle.udt_turn.specs.Words.{view_of, seen_of, found_of, with_item, IsPassOf, IsHolding, GoesOn, KeepsNames};
+    ghost use Rattle.udt_turn.specs.Words.{view_of, seen_of, mine_of, found_of, SeesItem, MakesItem};
+    ghost use Rattle.udt_turn.specs.Words.{IsPassOf, IsHolding, GoesOn, KeepsNames};
 
     // Waits for the turn, and takes the value.
     pub(crate) fn begin<R: Wait>(&self, rt: &R, pass: &mut Pass<V>) -> V
@@ -29,7 +30,8 @@ impl<V: Story> Turn<V> {
         requires item { GoesOn V.tale N.item (value_of V.tale (found_of pass.old)) value }
         ensures own { IsPassOf self.now pass.new }
         ensures names { KeepsNames (view_of pass.old) (view_of pass.new) }
-        ensures seen { (e : V.Entry) → N.item ≡ Some e → seen_of pass.new ≡ with_item pass.old e }
+        ensures seen { SeesItem N.item pass.old pass.new }
+        ensures mine { MakesItem N.item pass.old pass.new }
         ensures sound { IsSound V.tale (view_of pass.new) }
     {
         let count = value.count();
@@ -46,6 +48,7 @@ impl<V: Story> Turn<V> {
         ensures own { IsPassOf self.now pass.new }
         ensures names { KeepsNames (view_of pass.old) (view_of pass.new) }
         ensures seen { seen_of pass.new ≡ found_of pass.old }
+        ensures mine { mine_of pass.new ≡ mine_of pass.old }
         ensures sound { IsSound V.tale (view_of pass.new) }
     {
         self.pass_by(&mut pass.seat);

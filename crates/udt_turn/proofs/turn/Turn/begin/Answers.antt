@@ -1,5 +1,5 @@
-use Rattle.std.proofs.Common.{◌≡◌, ℕ, [], ◌∷◌, Some, rules, refl, sym, ap, ◌∙◌, subst}
-use Rattle.udt_turn.specs.History.{value_of, value_after}
+use Rattle.std.proofs.Common.{◌∷◌, Some, ap, ◌∙◌}
+use Rattle.udt_turn.specs.History.{value_after}
 use Rattle.udt_turn.proofs.turn.Turn.begin.Goals as goal
 
 -- the slot that was taken with the turn has the value

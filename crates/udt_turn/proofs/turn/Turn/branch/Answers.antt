@@ -1,6 +1,4 @@
-use Rattle.std.proofs.Common.{◌≡◌, ◌<◌, ◌*◌, ◌+◌, ℕ, [], ◌∷◌, Some, None, arith, rules, refl, sym, ap, ◌∙◌, subst}
-use mathlib.Core.Option as opt
-use Rattle.atomic_table.specs.Table.{step, rest}
+use Rattle.std.proofs.Common.{arith}
 use Rattle.udt_turn.proofs.Passes.{splits_keeps}
 use Rattle.udt_turn.proofs.turn.Turn.branch.Goals as goal
 

@@ -1,4 +1,4 @@
-use Rattle.std.proofs.Common.{◌≡◌, ◌<◌, ◌*◌, ◌+◌, ℕ, [], ◌∷◌, Some, None, arith, rules, refl, sym, ap, ◌∙◌, subst}
+use Rattle.std.proofs.Common.{◌∷◌, Some, arith, sym, ap, ◌∙◌}
 use mathlib.Core.Option as opt
 use Rattle.atomic_table.specs.Table.{step, rest}
 use Rattle.udt_turn.specs.History.{value_after}

@@ -1,8 +1,8 @@
-use Rattle.std.proofs.Common.{◌≡◌, ℕ, [], ◌∷◌, Some, rules, refl, sym, ap, ◌∙◌, subst}
-use Rattle.udt_turn.specs.History.{value_after}
+use Rattle.std.proofs.Common.{sym, ap, ◌∙◌, subst}
+use Rattle.udt_turn.specs.History.{value_after, mine_in}
 use Rattle.udt_turn.specs.Kinds.{IsSound, found_in}
 use Rattle.udt_turn.specs.declared.view.Stage.TheVariants.{Idle}
-use Rattle.udt_turn.proofs.Histories.{value_after-push}
+use Rattle.udt_turn.proofs.Histories.{value_after-push, mine_in-own}
 use Rattle.udt_turn.proofs.Tells.{sound_staged}
 use Rattle.udt_turn.proofs.turn.Turn.finish.Goals as goal
 
@@ -19,3 +19,12 @@ returns-clause-sound g c =
     let t = g.V.Story.tale in
     let said = (c.say.ensures.said c.requires.item.entry c.requires.item.named).1 in
     subst (λ m. IsSound t m.0) (sym c.call.ensures.idle) (sound_staged t c.say.new.seat.me.0 Idle said)
+
+-- the item is the one more of its own
+pub returns-clause-mine : goal.returns-clause-mine
+returns-clause-mine g c e named =
+    let old = c.args.pass.now.seat.me.0 in
+    let h = c.requires.holds in
+    let said = (c.say.ensures.said e named).0 in
+    ap (λ m. mine_in m.0.names m.0.seen.items) (c.call.ensures.idle) ∙ ap (λ m. mine_in m.0.names m.0.seen.items) said
+    ∙ mine_in-own old.names old.seen.items (found_in old.stage) (old.number, e) h.sees h.sound.own

@@ -1,7 +1,4 @@
-use Rattle.std.proofs.Common.{◌≡◌, ◌<◌, ◌≤◌, ◌*◌, ◌+◌, ◌^◌, ℕ, [], ◌∷◌, Some, None, arith, rules, refl, sym, ap, ◌∙◌, subst}
-use mathlib.Core.Option as opt
-use mathlib.Core.Option.{some-injective}
-use lib.ListN.{get_elem?}
+use Rattle.std.proofs.Common.{ap, ◌∙◌}
 use Rattle.udt_turn.specs.History.{mine_in}
 use Rattle.udt_turn.proofs.Histories.{sees_mine}
 use Rattle.udt_turn.proofs.turn.Turn.look.Goals as goal

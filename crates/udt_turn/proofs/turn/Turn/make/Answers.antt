@@ -1,4 +1,4 @@
-use Rattle.std.proofs.Common.{◌≡◌, ◌<◌, ◌≤◌, ◌*◌, ◌+◌, ◌^◌, ℕ, [], ◌∷◌, Some, None, arith, rules, refl, sym, ap, ◌∙◌, subst}
+use Rattle.std.proofs.Common.{◌≡◌, ◌<◌, ◌*◌, ◌+◌, ℕ, [], ◌∷◌, arith, sym, subst}
 use Rattle.std.proofs.Common.{List, Option}
 use Rattle.atomic_table.specs.Table.{opening}
 use Rattle.udt_turn.specs.Rule.{Kept}

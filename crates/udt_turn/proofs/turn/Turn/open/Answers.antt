@@ -1,4 +1,4 @@
-use Rattle.std.proofs.Common.{◌≡◌, ◌<◌, ◌≤◌, ◌*◌, ◌+◌, ◌^◌, ℕ, [], ◌∷◌, Some, None, arith, rules, refl, sym, ap, ◌∙◌, subst}
+use Rattle.std.proofs.Common.{sym, ◌∙◌}
 use Rattle.udt_turn.proofs.Joining.{closed_value}
 use Rattle.udt_turn.proofs.turn.Turn.open.Goals as goal
 

@@ -1,6 +1,6 @@
-use Rattle.std.proofs.Common.{◌≡◌, ◌<◌, ◌*◌, ◌+◌, ℕ, [], ◌∷◌, Some, None, arith, rules, refl, sym, ap, ◌∙◌, subst}
+use Rattle.std.proofs.Common.{arith}
 use mathlib.Core.Option as opt
-use Rattle.atomic_table.specs.Table.{step, rest}
+use Rattle.atomic_table.specs.Table.{step}
 use Rattle.udt_turn.proofs.Tells.{leaves_keeps}
 use Rattle.udt_turn.proofs.turn.Turn.pass_by.Goals as goal
 

@@ -1,4 +1,4 @@
-use Rattle.std.proofs.Common.{◌≡◌, ◌<◌, ◌*◌, ◌+◌, ◌^◌, ℕ, arith, rules, refl, sym, ap, ◌∙◌, subst}
+use Rattle.std.proofs.Common.{◌≡◌, ◌<◌, ◌*◌, ◌+◌, ◌^◌, ℕ, arith, sym, ◌∙◌, subst}
 use mathlib.Core.Option as opt
 use Rattle.atomic_table.specs.Table.{step}
 use Rattle.udt_turn.proofs.Tells.{says_keeps}
@@ -11,16 +11,16 @@ told count bits from x y a b c = omega arith
 pub store-requires : goal.store-requires
 store-requires g c =
     let words = c.args.self.now.words in
-    let (e, named, legal, count, bits) = c.requires.item in
+    let i = c.requires.item in
     let small : c.args.bits < 256 = omega (arith, c.ranges.bits) in (
       c.requires.own,
       omega arith,
-      says_keeps g.V.Story.tale c.args.self.now.table.shared.key.value _ _ c.args.seat.now.me (step 0 0 0 0 opt.none) g.N.Naming.item c.requires.holds.0 _ e _
+      says_keeps g.V.Story.tale c.args.self.now.table.shared.key.value _ _ c.args.seat.now.me (step 0 0 0 0 opt.none) g.N.Naming.item c.requires.holds.0 _ i.entry _
           c.requires.holds.1
-          named
-          legal
-          (sym count ∙ c.requires.next)
-          (subst (λ n. n < 2 ^ 55) count c.requires.most)
-          (subst (λ n. n < 256) bits small)
-          (told _ _ _ _ _ count bits c.from.ensures),
+          i.named
+          i.legal
+          (sym i.count_is ∙ i.next)
+          (subst (λ n. n < 2 ^ 55) i.count_is i.most)
+          (subst (λ n. n < 256) i.bits_is small)
+          (told _ _ _ _ _ i.count_is i.bits_is c.from.ensures),
     )

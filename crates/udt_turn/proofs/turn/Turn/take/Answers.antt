@@ -1,6 +1,5 @@
-use Rattle.std.proofs.Common.{◌≡◌, ◌<◌, ◌*◌, ◌+◌, ℕ, [], ◌∷◌, Some, None, arith, rules, refl, sym, ap, ◌∙◌, subst}
-use mathlib.Core.Option as opt
-use Rattle.atomic_table.specs.Table.{step, rest}
+use Rattle.std.proofs.Common.{◌∷◌, Some, sym, ap, ◌∙◌}
+use Rattle.atomic_table.specs.Table.{rest}
 use Rattle.udt_turn.proofs.turn.Turn.take.Goals as goal
 
 -- the slot was taken last
