@@ -1,2 +1,3 @@
 pub mod ScriptLines
 pub mod Worlds
+pub mod Plays

@@ -1,4 +1,5 @@
 //! The commands of the program, over sources and sinks of bytes.
 #![tactic(auto)]
 
+mod play;
 mod world;
