@@ -1,2 +1,4 @@
 pub mod Pieces
 pub mod Progress
+pub mod Streaming
+pub mod Replaying

@@ -1,3 +1,5 @@
 pub mod ScriptLines
 pub mod Worlds
 pub mod Plays
+pub mod Streamed
+pub mod Commands
