@@ -231,6 +231,7 @@ impl Receiver {
     pub fn recv(&mut self, into: &mut [u8]) -> Result<usize, Refusal>
         ensures reply { receive_answer self.old (length into.old) ≡ received_in result into.new }
         ensures after { self.new ≡ after_receive self.old (length into.old) }
+        ensures within { IfOk result (λ count. count ≤ length into.old) }
         ensures rest { IfOk result (λ count. drop count into.new ≡ drop count into.old) }
         ensures err { OnErr result (into.new ≡ into.old) }
     {

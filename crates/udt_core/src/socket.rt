@@ -176,6 +176,7 @@ impl Socket {
             ≡ (step self.old (record { now = now; act = Recv (length into.old) })).reply }
         ensures after {
             self.new ≡ (step self.old (record { now = now; act = Recv (length into.old) })).after }
+        ensures within { IfOk result (λ count. count ≤ length into.old) }
         ensures rest { IfOk result (λ count. drop count into.new ≡ drop count into.old) }
         ensures err { OnErr result (into.new ≡ into.old) }
     {

@@ -201,8 +201,10 @@ emits-items s start blocks (item ∷ items) legal id_fits is_cut =
     (taken_by item.event.act reply)) (sym legal.0) outs in
     let fits = subst (λ (peer : Peer). peer.id < 2 ^ 32) (sym same.peer) id_fits in
     let rest = emits-items next start (blocks ++ one.more) items legal.2 fits one.is_cut in
-    let from = subst (λ (peer : Peer). Emits peer next.sending.isn start (blocks ++ one.more) (after_items next items).sending (emitted_by next items) (accepted_by items)) same.peer rest in
-    let two = subst (λ (isn : ℕ). Emits s.peer isn start (blocks ++ one.more) (after_items next items).sending (emitted_by next items) (accepted_by items)) same.sending.isn from in
+    let Rest = λ (peer : Peer) (isn : ℕ).
+    Emits peer isn start (blocks ++ one.more) (after_items next items).sending (emitted_by next items) (accepted_by items) in
+    let from = subst (λ (peer : Peer). Rest peer next.sending.isn) same.peer rest in
+    let two = subst (λ (isn : ℕ). Rest s.peer isn) same.sending.isn from in
     emits-both s.peer s.sending.isn start blocks next.sending (after_items next items).sending _ _ _ _ one two
 
 -- bytes read as one packet alone

@@ -85,8 +85,10 @@ module _ (own : ℕ) (config : Config) (peer : Peer) (now start : ℕ) (h : Hist
   made_of : IsMadeOf (delivered h) (arrivals h) own peer.addr ((peer.isn + start) % 2 ^ 31)
   made_of =
       let P = HasArrived (arrivals h) own peer.addr peer.isn in
-      let meets = all-arrived (arrivals h) own peer.addr peer.isn h.opening h.items (opened_own own config peer now start h opened) (ap (λ (p : Peer). p.addr) (opened_peer own config peer now start h opened)) (opened_receiving own config peer now start h opened)
-      (λ datagram among. among) in
+      let own_is = opened_own own config peer now start h opened in
+      let addr_is = ap (λ (p : Peer). p.addr) (opened_peer own config peer now start h opened) in
+      let isn_is = opened_receiving own config peer now start h opened in
+      let meets = all-arrived (arrivals h) own peer.addr peer.isn h.opening h.items own_is addr_is isn_is (λ datagram among. among) in
       let front = kept-front P start _ (delivered h) (keep-items P start h.opening h.items [] legal meets (opened_kept P)) in
       record {
         payloads = front.blocks;

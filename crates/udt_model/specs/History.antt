@@ -1,8 +1,7 @@
 -- Histories of one socket, and what can be read off them.
-use Rattle.std.specs.Prelude.{◌≡◌, ℕ, List, [], ◌∷◌, ◌++◌, take, Result, Ok, Err}
-use Rattle.udt_model.specs.declared.answers.Refusal.{Refusal}
+use Rattle.std.specs.Prelude.{◌≡◌, ℕ, List, [], ◌∷◌, ◌++◌, take, Ok}
 use Rattle.udt_model.specs.State.{State, Datagram}
-use Rattle.udt_model.specs.Step.{Act, Send, Recv, Pack, Arrive, Event, Reply, Sent, Received, DidPack, DidHear, step}
+use Rattle.udt_model.specs.Step.{Act, Send, Event, Reply, Sent, Received, step}
 
 -- an event with its answer and what it emitted, made by the holder of the pass with this number
 pub record Item : Type 0 where

@@ -1,6 +1,5 @@
 -- What a script prints: lines of calls and arrivals at sockets of a network in which anything may be delivered.
-use Rattle.std.specs.Prelude.{◌≡◌, ℕ, ◌+◌, ◌-◌, ◌*◌, ◌<◌, ◌==◌, Bool, true, false, not, ◌&&◌, ◌||◌, List, [], ◌∷◌, ◌++◌, length, take, map, Option, Some, None, Result, Ok, Err, slice_get, slice_set, option_map, position, take_while, sum_by, nat_lt, nat_le, decimal, codes, if◌then◌else◌}
-use Rattle.std.specs.List.{list_any}
+use Rattle.std.specs.Prelude.{ℕ, ◌+◌, ◌-◌, ◌==◌, Bool, true, false, not, ◌&&◌, List, [], ◌∷◌, ◌++◌, length, take, map, Option, Some, None, Result, Ok, Err, slice_get, slice_set, option_map, position, is_some, take_while, sum_by, nat_le, decimal, codes, if◌then◌else◌}
 use Rattle.udt_model.specs.declared.limits.TheConstants.{MOST_SOCKETS, LONGEST_SCRIPT, LONGEST_LINE}
 use Rattle.udt_model.specs.declared.addresses.Addr.{Addr}
 use Rattle.udt_model.specs.declared.addresses.Ip.TheVariants.{V4}
@@ -20,9 +19,9 @@ use Rattle.udt_model.specs.declared.packets.Malformed.TheVariants as malformed
 use Rattle.udt_model.specs.declared.scripts.ControlName.{ControlName}
 use Rattle.udt_model.specs.Addresses.{same_addr, address_text}
 use Rattle.udt_model.specs.Wire.{target}
-use Rattle.udt_model.specs.State.{State, Datagram}
+use Rattle.udt_model.specs.State.{Datagram}
 use Rattle.udt_model.specs.Step.{Act, Send, Recv, Pack, Arrive, Event, Reply, Sent, Received, DidPack, DidHear, step, opening}
-use Rattle.udt_model.specs.History.{Item, History, state_of, happened}
+use Rattle.udt_model.specs.History.{History, state_of, happened}
 use Rattle.udt_model.specs.Words.{◌>>=◌, is_word, hex_word}
 use Rattle.udt_model.specs.Lines.{Pairing, Line, Silent, PairLine, SendLine, RecvLine, PackLine, DeliverLine, read_line}
 
@@ -59,8 +58,9 @@ second_host = record { ip = V4 167772162; port = 9000 }
 unfoldable pub place_of : List ℕ → List Seat → Option ℕ
 place_of name seats = position (λ seat. is_word seat.name name) seats
 
+-- a socket has this name
 abbrev pub is_taken : List ℕ → List Seat → Bool
-is_taken name seats = list_any (λ seat. is_word seat.name name) seats
+is_taken name seats = is_some (place_of name seats)
 
 -- ---- what is printed
 

@@ -1,5 +1,5 @@
 -- The machine: what each event of a socket answers, leaves and emits.
-use Rattle.std.specs.Prelude.{◌≡◌, ℕ, ◌+◌, ◌-◌, ◌%◌, ◌^◌, ◌==◌, min, max, Bool, ◌&&◌, ◌||◌, List, [], ◌∷◌, length, Option, Some, None, Result, Ok, Err, nat_lt, nat_le, if◌then◌else◌}
+use Rattle.std.specs.Prelude.{ℕ, ◌+◌, ◌-◌, ◌%◌, ◌^◌, ◌==◌, min, max, Bool, ◌&&◌, ◌||◌, List, [], ◌∷◌, length, Result, Ok, Err, nat_lt, if◌then◌else◌}
 use Rattle.udt_model.specs.declared.limits.TheConstants.{LAST_MOMENT, FEWEST_BLOCKS, MOST_BLOCKS}
 use Rattle.udt_model.specs.declared.addresses.Addr.{Addr}
 use Rattle.udt_model.specs.declared.answers.Heard.{Heard}
@@ -14,7 +14,7 @@ use Rattle.udt_model.specs.declared.packets.Malformed.{Malformed}
 use Rattle.udt_model.specs.Addresses.{same_addr}
 use Rattle.udt_model.specs.Numbers.{wire_number}
 use Rattle.udt_model.specs.Wire.{Packet, Block, spelling, read}
-use Rattle.udt_model.specs.State.{KeptBlock, Sending, Receiving, Counters, State, Datagram}
+use Rattle.udt_model.specs.State.{KeptBlock, Receiving, Counters, State, Datagram}
 use Rattle.udt_model.specs.Sending.{send_answer, after_send, Packing, Waits, Sends, Idles, packing, after_pack}
 use Rattle.udt_model.specs.Receiving.{Placing, AtOffset, IsDouble, IsBelow, IsAbove, placing, after_arrival, receive_answer, after_receive}
 

@@ -1,3 +1,4 @@
+pub mod EventLemmas
 pub mod Pieces
 pub mod Progress
 pub mod Streaming

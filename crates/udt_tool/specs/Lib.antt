@@ -1,3 +1,5 @@
+pub mod Seats
+pub mod Done
 pub mod ScriptLines
 pub mod Worlds
 pub mod Plays

@@ -1,9 +1,13 @@
 //! The commands of the program, over sources and sinks of bytes.
 #![tactic(auto)]
 
+mod calls;
+mod network;
 mod offline;
 mod play;
 mod streams;
+#[cfg(test)]
+mod tests;
 mod world;
 
 pub use offline::{

@@ -1,0 +1,63 @@
+//! A program that counts events a second: `udt_bench turn` takes turns from several threads, beside a lock of the standard library.
+#![tactic(auto)]
+
+mod locks;
+mod tally;
+mod turns;
+
+use crate::tally::Tally;
+use std::alloc::Global;
+use std::rt::Clock;
+use std::sync::{Mutex, Wait};
+use std::thread::Threads;
+use std::time::{Duration, Instant};
+use std::{env, io};
+use udt_turn::Turn;
+
+// So many events each thread makes.
+const EVENTS: u32 = 100_000;
+
+fn main(rt: HostRuntime) -> io::Result<()> {
+    let mut words = env::args(&rt)?.skip(1);
+    match words.next() {
+        Some(word) if word.as_str() == "turn" => bench_turn(&rt, rt.alloc()),
+        _ => {
+            println!(rt; "usage: udt_bench turn")?;
+            Ok(())
+        }
+    }
+}
+
+// Prints the line of one run.
+fn report<R: Print>(rt: &R, what: &str, threads: u32, took: Duration) -> io::Result<()> {
+    let events = u64::from(threads) * u64::from(EVENTS);
+    let micros = took.as_micros().max(1);
+    let rate = u128::from(events) * 1_000_000 / micros;
+    println!(rt; "{what}, {threads} threads: {rate} events a second")?;
+    Ok(())
+}
+
+fn bench_turn<R: Print + Clock + Threads + Wait + Sync>(rt: &R, alloc: Global) -> io::Result<()> {
+    if let Ok((turn, mut pass)) = Turn::make(alloc, Tally { count: 0 }) {
+        let start = Instant::now(rt)?;
+        if let Ok(first) = turn.split(&mut pass) {
+            turns::two(rt, &turn, first, EVENTS);
+        }
+        report(rt, "turn", 2, start.elapsed(rt)?)?;
+        let start = Instant::now(rt)?;
+        if let Ok(first) = turn.split(&mut pass) {
+            turns::eight(rt, &turn, first, EVENTS);
+        }
+        report(rt, "turn", 8, start.elapsed(rt)?)?;
+        println!(rt; "counted by turns: {}", turn.look(&mut pass).count)?;
+    }
+    let lock = Mutex::new(Tally { count: 0 });
+    let start = Instant::now(rt)?;
+    locks::two(rt, &lock, EVENTS);
+    report(rt, "lock", 2, start.elapsed(rt)?)?;
+    let start = Instant::now(rt)?;
+    locks::eight(rt, &lock, EVENTS);
+    report(rt, "lock", 8, start.elapsed(rt)?)?;
+    println!(rt; "counted under the lock: {}", lock.into_inner().count)?;
+    Ok(())
+}

@@ -1,0 +1,11 @@
+use Rattle.std.proofs.Common.{◌≡◌, ◌<◌, ◌*◌, ◌+◌, ℕ, [], ◌∷◌, Some, None, arith, rules, refl, sym, ap, ◌∙◌, subst}
+use mathlib.Core.Option as opt
+use Rattle.atomic_table.specs.Table.{step, rest}
+use Rattle.udt_turn.proofs.Tells.{leaves_keeps}
+use Rattle.udt_turn.proofs.turn.Turn.pass_by.Goals as goal
+
+-- the kind of step keeps the rule
+pub load-requires : goal.load-requires
+load-requires g c =
+    let words = c.args.self.now.words in
+    (c.requires.own, omega arith, leaves_keeps g.V.Story.tale c.args.self.now.table.shared.key.value _ _ _ (step 0 0 0 0 opt.none) c.requires.holds.0 _ c.requires.holds.1)

@@ -1,0 +1,115 @@
+//! The single steps of whoever takes the turn: draw, read, take, put and call.
+use crate::rule::{Call, Draw, Leave, Read, Sat, Say};
+use crate::story::{Naming, Story};
+use crate::turn::Turn;
+use std::sync::Wait;
+use std::{hint, thread};
+
+// So many rounds are spun before the thread yields.
+const SPINS: u32 = 2_000;
+
+// Only a thread spins that has fewer tickets before its own.
+const NEAR: u64 = 2;
+
+impl<V: Story> Turn<V> {
+    ghost use Rattle.std.specs.Prelude.{◌≡◌, ℕ, ◌+◌, ◌*◌, ◌%◌, ◌^◌, ◌<◌, ◌≤◌, [], ◌∷◌, Some, None};
+    ghost use Rattle.udt_turn.specs.declared.view.Stage.TheVariants.{Idle, Waiting, Holding, Done};
+    ghost use Rattle.udt_turn.specs.History.{value_after};
+    ghost use Rattle.udt_turn.specs.Kinds.{at_stage, seeing, saying, found_in, ticket_in, Takes, IsSound};
+
+    // Draws a ticket, of which the low 64 bits are answered.
+    pub(crate) fn draw(&self, seat: &mut Sat<V>) -> u64
+        requires own { seat.old.table_id ≡ self.now.table.shared.table_id }
+        requires idle { seat.old.me.0.stage ≡ Idle }
+        ensures same { (seat.new.table_id ≡ seat.old.table_id) × (seat.new.id ≡ seat.old.id) }
+        ensures drew { (k : ℕ) × (result ≡ k % 2 ^ 64) × (seat.new.me ≡ (at_stage seat.old.me.0 (Waiting k), seat.old.me.1)) }
+    {
+        self.table.shared.fetch_add::<Draw>(seat, 1, 1)
+    }
+
+    // Reads which ticket is served until it is this one, and takes the slot.
+    pub(crate) fn reach<R: Wait>(&self, rt: &R, seat: &mut Sat<V>, ticket: u64)
+        requires own { seat.old.table_id ≡ self.now.table.shared.table_id }
+        requires drew { (k : ℕ) × (ticket ≡ k % 2 ^ 64) × (seat.old.me.0.stage ≡ Waiting k) }
+        ensures same { (seat.new.table_id ≡ seat.old.table_id) × (seat.new.id ≡ seat.old.id) }
+        ensures takes { Takes V.tale seat.old.me seat.new.me }
+    {
+        let mut rounds = 0u32;
+        for _ in rt.forever() {
+            let served = self.table.shared.load::<Read>(seat, 2);
+            if served == ticket {
+                return;
+            }
+            rounds = pause(rounds, ticket.wrapping_sub(served));
+        }
+        unreachable!()
+    }
+
+    // Takes the value out of the slot.
+    pub(crate) fn take(&self, seat: &mut Sat<V>) -> V
+        requires own { seat.old.table_id ≡ self.now.table.shared.table_id }
+        requires slot { (x : V) × (seat.old.me.1 ≡ (0, Some x) ∷ []) }
+        ensures same { (seat.new.table_id ≡ seat.old.table_id) × (seat.new.id ≡ seat.old.id) }
+        ensures value { seat.old.me.1 ≡ (0, Some result) ∷ [] }
+        ensures slot { seat.new.me ≡ (seat.old.me.0, (0, None) ∷ []) }
+    {
+        match self.table.shared.exchange(seat, 0, None) {
+            Some(value) => value,
+            None => unreachable!(),
+        }
+    }
+
+    // Puts the value into the slot, and serves the next ticket.
+    pub(crate) fn call(&self, seat: &mut Sat<V>, value: V)
+        requires own { seat.old.table_id ≡ self.now.table.shared.table_id }
+        requires done { (k : ℕ) × (seat.old.me.0.stage ≡ Done k) }
+        requires slot { seat.old.me.1 ≡ (0, None) ∷ [] }
+        requires value { value ≡ value_after V.tale seat.old.me.0.seen.opening seat.old.me.0.seen.items }
+        ensures same { (seat.new.table_id ≡ seat.old.table_id) × (seat.new.id ≡ seat.old.id) }
+        ensures idle { seat.new.me ≡ (at_stage seat.old.me.0 Idle, []) }
+    {
+        match self.table.shared.exchange(seat, 0, Some(value)) {
+            Some(_) => unreachable!(),
+            None => (),
+        }
+        self.table.shared.fetch_add::<Call>(seat, 2, 1);
+    }
+
+    // Publishes the item that N names, with the count and the bits after it.
+    pub(crate) fn say<N: Naming<V::Entry>>(&self, seat: &mut Sat<V>, count: u64, bits: u8)
+        requires own { seat.old.table_id ≡ self.now.table.shared.table_id }
+        requires holds { (k : ℕ) × (seat.old.me.0.stage ≡ Holding k (found_in seat.old.me.0.stage)) }
+        requires item { (e : V.Entry) × (N.item ≡ Some e) × V.tale.legal (value_after V.tale seat.old.me.0.seen.opening (found_in seat.old.me.0.stage)) e
+            × (count ≡ V.tale.count (V.tale.after (value_after V.tale seat.old.me.0.seen.opening (found_in seat.old.me.0.stage)) e))
+            × (bits ≡ V.tale.bits (V.tale.after (value_after V.tale seat.old.me.0.seen.opening (found_in seat.old.me.0.stage)) e)) }
+        requires next { count ≡ V.tale.count (value_after V.tale seat.old.me.0.seen.opening (found_in seat.old.me.0.stage)) + 1 }
+        requires most { count < 2 ^ 55 }
+        ensures same { (seat.new.table_id ≡ seat.old.table_id) × (seat.new.id ≡ seat.old.id) }
+        ensures said { (e : V.Entry) → N.item ≡ Some e → (seat.new.me ≡ (saying V.tale seat.old.me.0 e, seat.old.me.1)) × IsSound V.tale seat.new.me.0 }
+    {
+        self.table
+            .shared
+            .store::<Say<N>>(seat, 0, count * 256 + u64::from(bits));
+    }
+
+    // Says nothing: the history that was found is seen.
+    pub(crate) fn pass_by(&self, seat: &mut Sat<V>)
+        requires own { seat.old.table_id ≡ self.now.table.shared.table_id }
+        requires holds { (k : ℕ) × (seat.old.me.0.stage ≡ Holding k (found_in seat.old.me.0.stage)) }
+        ensures same { (seat.new.table_id ≡ seat.old.table_id) × (seat.new.id ≡ seat.old.id) }
+        ensures seen { seat.new.me ≡ (seeing seat.old.me.0 (found_in seat.old.me.0.stage) (Done (ticket_in seat.old.me.0.stage)), seat.old.me.1) }
+    {
+        self.table.shared.load::<Leave>(seat, 0);
+    }
+}
+
+// Spins a little where the turn is near, and then lets other threads run.
+fn pause(rounds: u32, distance: u64) -> u32 {
+    if rounds < SPINS && distance < NEAR {
+        hint::spin_loop();
+        rounds + 1
+    } else {
+        thread::yield_now();
+        0
+    }
+}
