@@ -42,16 +42,16 @@ pub one_piece : (text : List ℕ) → 0 < length text → length (line_in text) 
 one_piece [] some all = absurd (omega (arith, some))
 one_piece (c ∷ []) some all =
     elim (c == 10) as (λ b. (c == 10) ≡ b → pieces_of (c ∷ []) ≡ (c ∷ []) ∷ []) [
-      true ↦ λ e. absurd (not_first c [] e all)
-    | false ↦ λ e. first_goes_on c [] e ∙ ap (onto_piece c) no_pieces
+      | true ↦ λ e. absurd (not_first c [] e all)
+      | false ↦ λ e. first_goes_on c [] e ∙ ap (onto_piece c) no_pieces
     ] refl
 one_piece (c ∷ (d ∷ ds)) some all =
     elim (c == 10) as (λ b. (c == 10) ≡ b → pieces_of (c ∷ (d ∷ ds)) ≡ (c ∷ (d ∷ ds)) ∷ []) [
-      true ↦ λ e. absurd (not_first c (d ∷ ds) e all)
-    | false ↦ λ e.
-        let longer : length (line_in (c ∷ (d ∷ ds))) ≡ suc (length (line_in (d ∷ ds))) = ap length (longer_line c (d ∷ ds) e) in
-        let rest : pieces_of (d ∷ ds) ≡ (d ∷ ds) ∷ [] = one_piece (d ∷ ds) (omega arith) (omega (arith, longer, all)) in
-        first_goes_on c (d ∷ ds) e ∙ ap (onto_piece c) rest
+      | true ↦ λ e. absurd (not_first c (d ∷ ds) e all)
+      | false ↦ λ e.
+          let longer : length (line_in (c ∷ (d ∷ ds))) ≡ suc (length (line_in (d ∷ ds))) = ap length (longer_line c (d ∷ ds) e) in
+          let rest : pieces_of (d ∷ ds) ≡ (d ∷ ds) ∷ [] = one_piece (d ∷ ds) (omega arith) (omega (arith, longer, all)) in
+          first_goes_on c (d ∷ ds) e ∙ ap (onto_piece c) rest
     ] refl
 
 -- the piece of a line that ends, and the pieces behind it
@@ -59,13 +59,13 @@ pub first_piece : (text : List ℕ) → length (line_in text) < length text → 
 first_piece [] ends = absurd (omega (arith, ends))
 first_piece (c ∷ cs) ends =
     elim (c == 10) as (λ b. (c == 10) ≡ b → pieces_of (c ∷ cs) ≡ take (suc (length (line_in (c ∷ cs)))) (c ∷ cs) ∷ pieces_of (drop (suc (length (line_in (c ∷ cs)))) (c ∷ cs))) [
-      true ↦ λ e.
-        let none : length (line_in (c ∷ cs)) ≡ 0 = ap length (empty_line c cs e) in
-        rw none (first_ends c cs e)
-    | false ↦ λ e.
-        let longer : length (line_in (c ∷ cs)) ≡ suc (length (line_in cs)) = ap length (longer_line c cs e) in
-        let rest : pieces_of cs ≡ take (suc (length (line_in cs))) cs ∷ pieces_of (drop (suc (length (line_in cs))) cs) = first_piece cs (omega (arith, longer, ends)) in
-        rw longer (first_goes_on c cs e ∙ ap (onto_piece c) rest)
+      | true ↦ λ e.
+          let none : length (line_in (c ∷ cs)) ≡ 0 = ap length (empty_line c cs e) in
+          rw none (first_ends c cs e)
+      | false ↦ λ e.
+          let longer : length (line_in (c ∷ cs)) ≡ suc (length (line_in cs)) = ap length (longer_line c cs e) in
+          let rest : pieces_of cs ≡ take (suc (length (line_in cs))) cs ∷ pieces_of (drop (suc (length (line_in cs))) cs) = first_piece cs (omega (arith, longer, ends)) in
+          rw longer (first_goes_on c cs e ∙ ap (onto_piece c) rest)
     ] refl
 
 -- the line of a text is the line of its first piece
@@ -73,11 +73,11 @@ pub line_length : (text : List ℕ) → length (line_in (take (suc (length (line
 line_length [] = refl
 line_length (c ∷ cs) =
     elim (c == 10) as (λ b. (c == 10) ≡ b → length (line_in (take (suc (length (line_in (c ∷ cs)))) (c ∷ cs))) ≡ length (line_in (c ∷ cs))) [
-      true ↦ λ e.
-        let none : length (line_in (c ∷ cs)) ≡ 0 = ap length (empty_line c cs e) in
-        rw none (ap length (empty_line c [] e))
-    | false ↦ λ e.
-        let longer : length (line_in (c ∷ cs)) ≡ suc (length (line_in cs)) = ap length (longer_line c cs e) in
-        let behind : length (line_in (c ∷ take (suc (length (line_in cs))) cs)) ≡ suc (length (line_in (take (suc (length (line_in cs))) cs))) = ap length (longer_line c (take (suc (length (line_in cs))) cs) e) in
-        rw longer (behind ∙ ap suc (line_length cs))
+      | true ↦ λ e.
+          let none : length (line_in (c ∷ cs)) ≡ 0 = ap length (empty_line c cs e) in
+          rw none (ap length (empty_line c [] e))
+      | false ↦ λ e.
+          let longer : length (line_in (c ∷ cs)) ≡ suc (length (line_in cs)) = ap length (longer_line c cs e) in
+          let behind : length (line_in (c ∷ take (suc (length (line_in cs))) cs)) ≡ suc (length (line_in (take (suc (length (line_in cs))) cs))) = ap length (longer_line c (take (suc (length (line_in cs))) cs) e) in
+          rw longer (behind ∙ ap suc (line_length cs))
     ] refl

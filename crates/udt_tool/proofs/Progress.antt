@@ -83,12 +83,12 @@ accepted control text world new out after rest piece others number size p pieces
       lines = p.lines ++ line_in piece ∷ [];
       is = there.kept;
       so_far =
-        p.so_far
-        ∙ ap (λ ps. behind out (played_from p.lines ps)) pieces
-        ∙ ap (behind out) (plays_on p.lines piece (pieces_of others))
-        ∙ ap (λ t. behind out (then_played (length p.lines + 1) t (played_from (p.lines ++ line_in piece ∷ []) (pieces_of others)))) there.printed
-        ∙ then_more out there.text (length p.lines + 1) (played_from (p.lines ++ line_in piece ∷ []) (pieces_of others))
-        ∙ ap (λ o. behind o (played_from (p.lines ++ line_in piece ∷ []) (pieces_of others))) (sym there.output);
+          p.so_far
+          ∙ ap (λ ps. behind out (played_from p.lines ps)) pieces
+          ∙ ap (behind out) (plays_on p.lines piece (pieces_of others))
+          ∙ ap (λ t. behind out (then_played (length p.lines + 1) t (played_from (p.lines ++ line_in piece ∷ []) (pieces_of others)))) there.printed
+          ∙ then_more out there.text (length p.lines + 1) (played_from (p.lines ++ line_in piece ∷ []) (pieces_of others))
+          ∙ ap (λ o. behind o (played_from (p.lines ++ line_in piece ∷ []) (pieces_of others))) (sym there.output);
       next = grind (arith, common_steps, p.next);
       counted = ap (λ n. n + (length (line_in piece) + 1)) p.counted ∙ sym more;
       bound = omega (arith, fits_behind, short);

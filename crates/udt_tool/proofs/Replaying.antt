@@ -18,14 +18,14 @@ same_rest rest other same = cc
 looked_the_same : (before : List ℕ) (after : Option (List ℕ)) (script : List ℕ) → ReadsScript before after script → take (LONGEST_SCRIPT + 1) script ≡ take (LONGEST_SCRIPT + 1) before
 looked_the_same before after script r =
     elim (nat_le (length script) LONGEST_SCRIPT) as (λ b. nat_le (length script) LONGEST_SCRIPT ≡ b → take (LONGEST_SCRIPT + 1) script ≡ take (LONGEST_SCRIPT + 1) before) [
-      true ↦ λ e.
-        let small : length script ≤ LONGEST_SCRIPT = search (rules, e) in
-        let none : r.reads.rest ≡ [] = same_rest r.reads.rest [] (sym r.reads.left ∙ r.to_end small) in
-        let same : before ≡ script = r.reads.whole ∙ ap (λ rest. script ++ rest) none ∙ append-nil script in
-        ap (take (LONGEST_SCRIPT + 1)) (sym same)
-    | false ↦ λ e.
-        let past : LONGEST_SCRIPT + 1 ≤ length script = search (rules, e) in
-        sym (ap (take (LONGEST_SCRIPT + 1)) r.reads.whole ∙ take-append-le (LONGEST_SCRIPT + 1) script r.reads.rest past)
+      | true ↦ λ e.
+          let small : length script ≤ LONGEST_SCRIPT = search (rules, e) in
+          let none : r.reads.rest ≡ [] = same_rest r.reads.rest [] (sym r.reads.left ∙ r.to_end small) in
+          let same : before ≡ script = r.reads.whole ∙ ap (λ rest. script ++ rest) none ∙ append-nil script in
+          ap (take (LONGEST_SCRIPT + 1)) (sym same)
+      | false ↦ λ e.
+          let past : LONGEST_SCRIPT + 1 ≤ length script = search (rules, e) in
+          sym (ap (take (LONGEST_SCRIPT + 1)) r.reads.whole ∙ take-append-le (LONGEST_SCRIPT + 1) script r.reads.rest past)
     ] refl
 
 pub enough : (before : List ℕ) (after : Option (List ℕ)) (script : List ℕ) → ReadsScript before after script → played Native script ≡ played Native before

@@ -96,10 +96,10 @@ more_read (Some left) now after script new n r p =
       rest = p'.reads.rest;
       left = p'.reads.left;
       whole =
-        r.whole
-        ∙ ap (λ t. script ++ t) p'.reads.whole
-        ∙ sym (append_assoc script p'.piece p'.reads.rest)
-        ∙ ap (λ t. t ++ p'.reads.rest) (sym p'.behind);
+          r.whole
+          ∙ ap (λ t. script ++ t) p'.reads.whole
+          ∙ sym (append_assoc script p'.piece p'.reads.rest)
+          ∙ ap (λ t. t ++ p'.reads.rest) (sym p'.behind);
     }
 
 -- what is left of nothing is nothing
@@ -131,12 +131,14 @@ read_past (Some left) now script r past = record { reads = r; to_end = λ small.
 pub read_some : (first now after : Option (List ℕ)) (script : List ℕ) → ReadTo first now script → IfSome now (λ left. ReadsSome left after) → IfSome first (λ left. ReadsSome left after)
 read_some None now after script r p = tt
 read_some (Some left) now after script r p =
-    let p' : ReadsSome r.rest after = rw r.left at p in
-    (script ++ p'.0, record {
-      rest = p'.1.rest;
-      left = p'.1.left;
-      whole = r.whole ∙ ap (λ t. script ++ t) p'.1.whole ∙ sym (append_assoc script p'.0 p'.1.rest);
-    })
+    let p' : ReadsSome r.rest after = rw r.left at p in (
+      script ++ p'.0,
+      record {
+        rest = p'.1.rest;
+        left = p'.1.left;
+        whole = r.whole ∙ ap (λ t. script ++ t) p'.1.whole ∙ sym (append_assoc script p'.0 p'.1.rest);
+      },
+    )
 
 -- a call that failed read nothing
 pub read_none : (before after : Option (List ℕ)) → after ≡ before → IfSome before (λ left. ReadsSome left after)

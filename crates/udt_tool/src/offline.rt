@@ -33,7 +33,8 @@ pub const SINK_FAILED: u8 = 4;
 /// No memory was left.
 pub const OUT_OF_MEMORY: u8 = 8;
 
-const USAGE: &[u8] = b"usage: udt replay [CONTROL] | world N TURNS [CONTROL] | pair SIZE COUNT N | recv PORT FILE COUNT | recv6 PORT FILE COUNT | send FILE ADDR PORT | record TURNS N | check\n";
+const USAGE: &[u8] =
+    b"usage: udt replay [CONTROL] | world N TURNS [CONTROL] | pair SIZE COUNT N | recv PORT FILE COUNT | recv6 PORT FILE COUNT | send FILE ADDR PORT | record TURNS N | check\n";
 
 fn names_replay(word: &String) -> bool
     ensures { result ≡ spec.is_offline (string_bytes word.now ∷ []) }

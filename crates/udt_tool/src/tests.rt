@@ -142,7 +142,15 @@ fn replays_scripts(rt: HostRuntime) {
     };
     for (script, printed, status) in &stories {
         for outside in [whole, in_pieces] {
-            assert_runs(&rt, rt.alloc(), outside, &["replay"], script, printed, *status);
+            assert_runs(
+                &rt,
+                rt.alloc(),
+                outside,
+                &["replay"],
+                script,
+                printed,
+                *status,
+            );
         }
     }
 }
@@ -170,6 +178,14 @@ fn ends_early_by_faults_and_words(rt: HostRuntime) {
             failing_reads,
             failing_writes,
         };
-        assert_runs(&rt, rt.alloc(), outside, words, &[b"jump\n"], &[printed], status);
+        assert_runs(
+            &rt,
+            rt.alloc(),
+            outside,
+            words,
+            &[b"jump\n"],
+            &[printed],
+            status,
+        );
     }
 }
