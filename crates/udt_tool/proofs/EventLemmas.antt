@@ -65,11 +65,12 @@ event_shown network place known event seats new_seats letters new_letters text n
     let name : h.before.name.items ≡ known.name = ap (λ s. s.name) same in
     let next : state_of (happened known.history 0 event) ≡ (step (state_of known.history) event).after = state_of-happened known.history 0 event in
     let after : sight_of h.after ≡ sight_of_history (record known { history = happened known.history 0 event }) =
-    let same_name = h.same_name ∙ name in
-    let same_host = h.same_host ∙ host in
-    let same_state = h.stepped ∙ (ap (λ (s : State). (step s event).after) state ∙ sym next) in
-    rw (same_name, same_host, same_state) refl in
-    let count : length letters ≡ length network.letters = sym (length-map letters letter_of) ∙ ap length shows.letters_are in (
+      let same_name = h.same_name ∙ name in
+      let same_host = h.same_host ∙ host in
+      let same_state = h.stepped ∙ (ap (λ (s : State). (step s event).after) state ∙ sym next) in
+      rw (same_name, same_host, same_state) refl in
+    let count : length letters ≡ length network.letters = sym (length-map letters letter_of) ∙ ap length shows.letters_are in
+    (
       record {
         seats_are = rw (h.set, map-set sight_of seats place h.after, map-set sight_of_history network.seats place (record known { history = happened known.history 0 event }), shows.seats_are, after) refl;
         letters_are = rw (h.mailed, shows.letters_are, state, host) refl;
