@@ -1,6 +1,6 @@
 -- How a text is cut into its pieces at the first line feed.
-use Rattle.std.proofs.Common.{◌≡◌, ◌∙◌, ℕ, suc, zero, ◌+◌, ◌<◌, ◌≤◌, List, [], ◌∷◌, length, take, drop, refl, sym, ap, arith, rules, true, false, Bool, cond}
-use Rattle.std.specs.Prelude.{◌==◌, not, take_while}
+use Rattle.std.proofs.Common.{◌≡◌, ◌∙◌, ℕ, suc, ◌+◌, ◌<◌, List, [], ◌∷◌, length, take, drop, refl, ap, arith, rules, true, false, Bool, cond}
+use Rattle.std.specs.Prelude.{◌==◌, not}
 use Rattle.std.specs.List.{prefix_len}
 use Rattle.udt_model.specs.Script.{pieces_of, onto_piece, line_in}
 

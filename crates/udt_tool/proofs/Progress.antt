@@ -1,12 +1,12 @@
 -- A script that is played piece by piece.
-use Rattle.std.proofs.Common.{◌≡◌, ◌∙◌, ℕ, suc, zero, ◌+◌, ◌<◌, ◌≤◌, List, [], ◌∷◌, ◌++◌, length, take, drop, refl, sym, ap, arith, rules, true, false, Bool, Option, Some, None, cond, append_assoc, append-nil}
+use Rattle.std.proofs.Common.{◌≡◌, ◌∙◌, ℕ, ◌+◌, ◌≤◌, List, [], ◌∷◌, ◌++◌, length, take, refl, sym, ap, arith, rules, true, false, Bool, Option, Some, None, cond, append_assoc, append-nil}
 use Rattle.std.proofs.lemmas.Grind.{common_steps}
 use Rattle.std.proofs.lemmas.List.{length-take}
-use Rattle.std.specs.Prelude.{min, nat_le, sum_by, Result, Ok, Err}
+use Rattle.std.specs.Prelude.{min, nat_le, Ok, Err}
 use Rattle.udt_model.specs.declared.limits.TheConstants.{LONGEST_SCRIPT}
 use Rattle.udt_model.specs.declared.scripts.ControlName.{ControlName}
-use Rattle.udt_model.specs.Script.{Played, pieces_of, line_in, played, played_from, then_played, refused_at, piece_printed, printed_behind, size_of}
-use Rattle.udt_tool.specs.declared.world.LineNo.TheVariants.{Refused, OutOfMemory}
+use Rattle.udt_model.specs.Script.{Played, pieces_of, line_in, played, played_from, then_played, refused_at, piece_printed, size_of}
+use Rattle.udt_tool.specs.declared.world.LineNo.TheVariants.{Refused}
 use Rattle.udt_tool.specs.Plays.{AnswersPiece, AcceptsPiece, RefusesPiece}
 use Rattle.udt_tool.proofs.Pieces.{no_pieces}
 

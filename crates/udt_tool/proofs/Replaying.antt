@@ -1,15 +1,12 @@
 -- How a replay ends, by what was read and written.
-use Rattle.std.proofs.Common.{◌≡◌, ◌∙◌, ℕ, ◌+◌, ◌<◌, ◌≤◌, List, [], ◌∷◌, ◌++◌, length, take, refl, sym, ap, subst, arith, rules, Option, Some, None, Bool, true, false, append-nil, nat_le}
-use Rattle.std.proofs.lemmas.Grind.{common_steps}
+use Rattle.std.proofs.Common.{◌≡◌, ◌∙◌, ℕ, ◌+◌, ◌<◌, ◌≤◌, List, [], ◌∷◌, ◌++◌, length, take, refl, sym, ap, subst, rules, Option, Some, None, true, false, append-nil, nat_le}
 use Rattle.std.proofs.lemmas.List.{take-append-le}
 use Rattle.std.specs.Prelude.{IfSome}
 use Rattle.udt_model.specs.declared.limits.TheConstants.{LONGEST_SCRIPT}
 use Rattle.udt_model.specs.declared.scripts.ControlName.TheVariants.{Native}
 use Rattle.udt_model.specs.Script.{Played, played, played_from, pieces_of}
-use Rattle.udt_tool.specs.declared.offline.TheConstants.{DONE, OUT_OF_MEMORY}
-use Rattle.udt_tool.specs.Streamed.{Reads, ReadsSome, ReadsMore, ReadsScript, Wrote, WroteFront, WrotePart}
-use Rattle.udt_tool.specs.Commands.{Outcome, replayed, replays, faulty, usage_line, is_early, outcome_of, is_offline, is_replay, HasStatus, HasText, BreaksOff, BreaksOffThere, ReadsToEnd}
-use Rattle.udt_tool.proofs.Streaming.{some_of_more}
+use Rattle.udt_tool.specs.Streamed.{ReadsSome, ReadsMore, ReadsScript, Wrote, WrotePart}
+use Rattle.udt_tool.specs.Commands.{replayed, replays, faulty, usage_line, is_early, outcome_of, is_offline, is_replay, HasStatus, HasText, BreaksOffThere}
 
 same_rest : (rest other : List ℕ) → Some rest ≡ Some other → rest ≡ other
 same_rest rest other same = cc

@@ -1,9 +1,9 @@
 -- What several calls of a source or a sink move together.
-use Rattle.std.proofs.Common.{◌≡◌, ◌∙◌, ℕ, ◌+◌, ◌<◌, ◌≤◌, List, [], ◌∷◌, ◌++◌, length, take, drop, refl, sym, ap, arith, rules, Option, Some, None, append_assoc, append-nil}
+use Rattle.std.proofs.Common.{◌≡◌, ◌∙◌, ℕ, ◌<◌, ◌≤◌, List, [], ◌∷◌, ◌++◌, length, take, drop, refl, sym, ap, arith, Option, Some, None, append_assoc, append-nil}
 use Rattle.std.proofs.lemmas.Grind.{common_steps}
-use Rattle.std.specs.Prelude.{IfSome, min, ◌-◌, ◌^◌}
+use Rattle.std.specs.Prelude.{IfSome}
 use Rattle.udt_outside.specs.Faults.{Rose}
-use Rattle.udt_outside.specs.Streams.{Gives, EndsOnlyWhenEmpty, Takes, MovesFront}
+use Rattle.udt_outside.specs.Streams.{Gives, EndsOnlyWhenEmpty, Takes}
 use Rattle.udt_tool.specs.Streamed.{Reads, ReadsSome, ReadsMore, ReadsScript, ReadsPiece, Wrote, WroteFront, WrotePart}
 use Rattle.udt_model.specs.declared.limits.TheConstants.{LONGEST_SCRIPT}
 

@@ -1,9 +1,5 @@
-use Rattle.std.proofs.Common.{◌≡◌, false, sym, subst}
 use Rattle.std.specs.Prelude.{IfSome}
-use Rattle.udt_model.specs.Script.{played}
-use Rattle.udt_model.specs.declared.scripts.ControlName.TheVariants.{Native}
-use Rattle.udt_tool.specs.Streamed.{ReadsScript, Wrote}
-use Rattle.udt_tool.specs.Commands.{replays, is_early}
+use Rattle.udt_tool.specs.Streamed.{ReadsScript}
 use Rattle.udt_tool.proofs.Replaying.{status_read, text_read, breaks_off_reading}
 use Rattle.udt_tool.proofs.offline.replay.Goals as goal
 

@@ -1,4 +1,4 @@
-use Rattle.std.proofs.Common.{refl, sym, ap}
+use Rattle.std.proofs.Common.{sym, ap}
 use Rattle.udt_tool.specs.Commands.{spelled}
 use Rattle.udt_tool.proofs.Replaying.{no_replay, breaks_off_faulty}
 use Rattle.udt_tool.proofs.offline.run_plain.Goals as goal

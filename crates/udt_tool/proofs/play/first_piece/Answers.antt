@@ -1,4 +1,4 @@
-use Rattle.std.proofs.Common.{◌≡◌, ◌+◌, ◌∷◌, ◌<◌, List, ℕ, [], suc, length, take, drop, arith, sym, add-one}
+use Rattle.std.proofs.Common.{◌≡◌, ◌∷◌, ◌<◌, [], suc, length, take, drop, arith}
 use Rattle.std.proofs.lemmas.Grind.{common_steps}
 use Rattle.udt_model.specs.Script.{pieces_of, line_in}
 use Rattle.udt_tool.proofs.Pieces.{one_piece, first_piece, line_length, no_pieces}

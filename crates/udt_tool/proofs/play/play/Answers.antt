@@ -1,13 +1,12 @@
-use Rattle.std.proofs.Common.{◌≡◌, ◌∙◌, ◌+◌, ◌≤◌, ◌++◌, true, List, ℕ, [], length, take, arith, sym, ap, rules}
-use Rattle.std.proofs.lemmas.Grind.{common_steps}
-use Rattle.std.proofs.lemmas.List.{nil_from_length, length-take, length-take-le}
-use Rattle.std.specs.Prelude.{Ok, Err}
+use Rattle.std.proofs.Common.{◌≡◌, ◌∙◌, ◌+◌, ◌≤◌, ◌++◌, true, [], length, take, arith, sym, ap}
+use Rattle.std.proofs.lemmas.List.{nil_from_length, length-take}
+use Rattle.std.specs.Prelude.{Err}
 use Rattle.udt_model.specs.declared.limits.TheConstants.{LONGEST_SCRIPT}
 use Rattle.udt_model.specs.declared.scripts.ControlName.TheVariants.{Native}
-use Rattle.udt_model.specs.Script.{Played, played, pieces_of, line_in, refused_at}
+use Rattle.udt_model.specs.Script.{Played, played, line_in, refused_at}
 use Rattle.udt_tool.specs.Plays.{AnswersPiece}
 use Rattle.udt_tool.specs.declared.world.LineNo.TheVariants.{Refused}
-use Rattle.udt_tool.proofs.Progress.{Progress, starts, accepted, refused, ends, shorter_text}
+use Rattle.udt_tool.proofs.Progress.{starts, accepted, refused, ends, shorter_text}
 use Rattle.udt_tool.proofs.play.play.Goals as goal
 
 -- nothing was played yet
