@@ -1,2 +1,6 @@
 pub mod EventLemmas
 pub mod CallLemmas
+pub mod Pieces
+pub mod Progress
+pub mod Streaming
+pub mod Replaying

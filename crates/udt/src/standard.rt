@@ -1,0 +1,67 @@
+// Standard input and output, which count their faults and tell nothing of their bytes.
+
+ghost use Rattle.std.specs.Prelude.{None};
+
+use std::io::{Read, Write};
+use udt_outside::{Failed, Sink, Source};
+
+/// An input over a reader. Its count of faults ends at 2^64 - 1.
+#[derive(Drop)]
+pub struct Input<R> {
+    reader: R,
+    failed: u64,
+}
+
+impl<R> Input<R> {
+    /// An input that has not failed.
+    pub fn new(reader: R) -> Input<R> {
+        Input { reader, failed: 0 }
+    }
+}
+
+impl<R: Read> Source for Input<R> {
+    ghost faults = { λ s. s.failed };
+
+    ghost left = { λ s. None };
+
+    fn read(&mut self, into: &mut [u8]) -> Result<usize, Failed> {
+        match self.reader.read(into) {
+            Ok(n) => Ok(n),
+            Err(_) => {
+                self.failed = self.failed.saturating_add(1);
+                Err(Failed)
+            }
+        }
+    }
+}
+
+/// An output over a writer that keeps no bytes back. Its count of faults ends at 2^64 - 1.
+#[derive(Drop)]
+pub struct Output<W> {
+    writer: W,
+    failed: u64,
+}
+
+impl<W> Output<W> {
+    /// An output that has not failed.
+    pub fn new(writer: W) -> Output<W> {
+        Output { writer, failed: 0 }
+    }
+}
+
+impl<W: Write> Sink for Output<W> {
+    ghost faults = { λ s. s.failed };
+
+    ghost taken = { λ s. None };
+
+    /// A writer that takes no byte of some has failed.
+    fn write(&mut self, bytes: &[u8]) -> Result<usize, Failed> {
+        match self.writer.write(bytes) {
+            Ok(n) if n > 0 || bytes.is_empty() => Ok(n),
+            _ => {
+                self.failed = self.failed.saturating_add(1);
+                Err(Failed)
+            }
+        }
+    }
+}
