@@ -41,7 +41,7 @@ module _ {V E : Type 0} (t : Telling V E) (opening : V) where
       ))
       (longer_case v.seen.items u.seen.items)
 
-  -- K9 keeps the rule
+  -- a join keeps the rule
   pub joins_keeps : (any : V) (id other : ℕ) (v u : View V E) → v.stage ≡ Idle → u.stage ≡ Idle → Joins (Kept t opening) id v other u (joined v u) (spent any)
   joins_keeps any id other v u sv su s k at apart there =
       let w = joined v u in
@@ -161,7 +161,7 @@ module _ {V E : Type 0} (t : Telling V E) (opening : V) where
       owned_none (Owning _) f = absurd (f tt)
       owned_none _ f = refl
 
-  -- K6, at the end, keeps the rule
+  -- the look at the end keeps the rule
   pub ends_keeps : (slots id : ℕ) (me : Me (Option V) (View V E)) (st : Step (Option V)) → me.0.stage ≡ Idle → Allows (Kept t opening) slots id me 3 (λ n. n) (Ends st me)
   ends_keeps slots id me st stage s k len at fits =
       let v = me.0 in

@@ -77,7 +77,7 @@ module _ {V E : Type 0} (t : Telling V E) (opening : V) where
   pub read_back : (s : State (Option V) (View V E)) (k : Kept t opening s) → (slice_set s.words 0 (slice_index s.words 0) ≡ s.words) × (slice_set s.words 2 (slice_index s.words 2) ≡ s.words) × (slice_set s.words 3 (slice_index s.words 3) ≡ s.words)
   read_back s k = (ap (λ ws. slice_set ws 0 (slice_index ws 0)) k.words ∙ sym k.words, ap (λ ws. slice_set ws 2 (slice_index ws 2)) k.words ∙ sym k.words, ap (λ ws. slice_set ws 3 (slice_index ws 3)) k.words ∙ sym k.words)
 
-  -- K1 keeps the rule
+  -- drawing a ticket keeps the rule
   pub draws_keeps : (slots id : ℕ) (me : Me (Option V) (View V E)) (st : Step (Option V)) → me.0.stage ≡ Idle
       → Allows (Kept t opening) slots id me 1 (λ n. (n + 1) % 2 ^ 64) (Draws st me)
   draws_keeps slots id me st e s k len at fits =
@@ -127,7 +127,7 @@ module _ {V E : Type 0} (t : Telling V E) (opening : V) where
       let f = few_out s k in
       one_turn k.served n 18446744073709551616 w.0 (omega arith) e
 
-  -- K2 keeps the rule
+  -- asking for the turn keeps the rule
   pub reads_keeps : (slots id : ℕ) (me : Me (Option V) (View V E)) (st : Step (Option V)) (n : ℕ) → me.0.stage ≡ Waiting n
       → Allows (Kept t opening) slots id me 2 (λ n. n) (Reads t st me)
   reads_keeps slots id me st n e s k len at fits =
@@ -190,7 +190,7 @@ module _ {V E : Type 0} (t : Telling V E) (opening : V) where
         ((λ is. absurd (isnt (is ∙ ap (λ m. m % 2 ^ 64) ticket))), (λ _. refl)),
       ))
 
-  -- K5 keeps the rule
+  -- giving the turn back keeps the rule
   pub calls_keeps : (slots id : ℕ) (me : Me (Option V) (View V E)) (st : Step (Option V)) (n : ℕ) (x : V) → me.0.stage ≡ Done n → me.1 ≡ (0, Some x) ∷ []
       → x ≡ value_after t me.0.seen.opening me.0.seen.items → Allows (Kept t opening) slots id me 2 (λ n. (n + 1) % 2 ^ 64) (Calls st me)
   calls_keeps slots id me st n x e c is s k len at fits =

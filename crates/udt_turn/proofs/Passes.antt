@@ -126,7 +126,7 @@ module _ {V E : Type 0} (t : Telling V E) (opening : V) where
       (λ q. let one = drawing_one v.stage in let p = live_parts t opening k.numbers k.items v (k.view j v g (drawing_live v.stage q)) in omega arith)
       (λ q. let z : draws v.stage < 1 = lt_of_not-le q in omega arith))
 
-  -- K6 keeps the rule
+  -- a look at the numbers that were drawn keeps the rule
   pub counts_keeps : (slots id : ℕ) (me : Me (Option V) (View V E)) (st : Step (Option V)) → me.0.stage ≡ Idle → Allows (Kept t opening) slots id me 3 (λ n. n) (Counts st me)
   counts_keeps slots id me st stage s k len at fits =
       let v = me.0 in
@@ -238,7 +238,7 @@ module _ {V E : Type 0} (t : Telling V E) (opening : V) where
         alone = alone_set t opening k.numbers k.items s.views id v w at (live_parts t opening k.numbers k.items v mine) alone k.alone;
       }
 
-  -- K7 keeps the rule
+  -- drawing a number keeps the rule
   pub numbers_keeps : (slots id : ℕ) (me : Me (Option V) (View V E)) (st : Step (Option V)) → me.0.stage ≡ Counting → Allows (Kept t opening) slots id me 3 (λ n. (n + 1) % 2 ^ 64) (Numbers st me)
   numbers_keeps slots id me st stage s k len at fits =
       let v = me.0 in
@@ -268,7 +268,7 @@ module _ {V E : Type 0} (t : Telling V E) (opening : V) where
         (lower, above, unmade, (λ _. refl), (λ big. absurd (omega arith))),
       ))
 
-  -- K8 keeps the rule
+  -- making a pass of a number keeps the rule
   pub splits_keeps : (id : ℕ) (v : View V E) (n : ℕ) → v.stage ≡ Owning n → Splits (Kept t opening) id v (parent_of v) (child_of v)
   splits_keeps id v n stage s k at =
       let left = parent_of v in

@@ -53,7 +53,7 @@ module _ {V E : Type 0} (t : Telling V E) (opening : V) where
         own = mine.own;
       }
 
-  -- K10 keeps the rule
+  -- telling an item keeps the rule
   pub says_keeps : (slots id : ℕ) (me : Me (Option V) (View V E)) (st : Step (Option V)) (item : Option E) (n : ℕ) (found : List (ℕ × E)) (e : E) (new : ℕ)
       → me.0.stage ≡ Holding n found → item ≡ Some e → t.legal (value_after t me.0.seen.opening found) e
       → t.count (t.after (value_after t me.0.seen.opening found) e) ≡ t.count (value_after t me.0.seen.opening found) + 1
@@ -145,7 +145,7 @@ module _ {V E : Type 0} (t : Telling V E) (opening : V) where
         (λ e' same. let one : e ≡ e' = cc in (ap (λ z. (saying t v z, me.1)) one, now)),
       )
 
-  -- K11 keeps the rule, for a pass that has the turn
+  -- seeing the history keeps the rule, for a pass that has the turn
   pub leaves_keeps : (slots id : ℕ) (me : Me (Option V) (View V E)) (st : Step (Option V)) (n : ℕ) (found : List (ℕ × E)) → me.0.stage ≡ Holding n found
       → Allows (Kept t opening) slots id me 0 (λ n. n) (Leaves st me)
   leaves_keeps slots id me st n found stage s k len at fits =
@@ -187,7 +187,7 @@ module _ {V E : Type 0} (t : Telling V E) (opening : V) where
         refl,
       )
 
-  -- K11 keeps the rule
+  -- seeing the history keeps the rule
   pub looks_keeps : (slots id : ℕ) (me : Me (Option V) (View V E)) (st : Step (Option V)) → me.0.stage ≡ Idle → Allows (Kept t opening) slots id me 0 (λ n. n) (Looks t st me)
   looks_keeps slots id me st stage s k len at fits =
       let v = me.0 in

@@ -54,7 +54,7 @@ module _ {V E : Type 0} where
     pub last : v.last ≡ last_of t v.names v.seen
     pub own : has v.names v.number ≡ true
 
-  -- K1: it has the ticket that it found
+  -- it has the ticket that it found
   abbrev pub Draws : Step (Option V) → Me (Option V) (View V E) → ℕ → Me (Option V) (View V E) → Type 0
   Draws st me n me' = (k : ℕ) × (n ≡ k % 2 ^ 64) × (me' ≡ (at_stage me.0 (Waiting k), me.1))
 
@@ -65,7 +65,7 @@ module _ {V E : Type 0} where
     pub sees : Sees me.0.names me.0.seen.items found
     pub sound : IsSound t (seeing me.0 found Idle)
 
-  -- K2: where its ticket is served it has the turn and the slot, and knows the history that it found; else nothing changes
+  -- where its ticket is served it has the turn and the slot, and knows the history that it found; else nothing changes
   abbrev pub Reads : Telling V E → Step (Option V) → Me (Option V) (View V E) → ℕ → Me (Option V) (View V E) → Type 0
   Reads t st me n me' = (n ≡ ticket_in me.0.stage % 2 ^ 64 → Takes t me me') × (n ≢ ticket_in me.0.stage % 2 ^ 64 → me' ≡ me)
 
@@ -95,16 +95,16 @@ module _ {V E : Type 0} where
   abbrev pub HasTicket : View V E → Type 0
   HasTicket v = (k : ℕ) × (v.stage ≡ Holding k (found_in v.stage))
 
-  -- K10: it has seen the history that it found with its item behind
+  -- it has seen the history that it found with its item behind
   abbrev pub Says : Telling V E → Option E → Step (Option V) → Me (Option V) (View V E) → ℕ → Me (Option V) (View V E) → Type 0
   Says t item st me n me' = (e : E) → item ≡ Some e
       → (me' ≡ (saying t me.0 e, me.1)) × IsSound t me'.0
 
-  -- K11, with the turn: it has seen the history that it found
+  -- with the turn: it has seen the history that it found
   abbrev pub Leaves : Step (Option V) → Me (Option V) (View V E) → ℕ → Me (Option V) (View V E) → Type 0
   Leaves st me n me' = me' ≡ (seeing me.0 (found_in me.0.stage) (Done (ticket_in me.0.stage)), me.1)
 
-  -- K5: it has no ticket and no turn, and the slot is given back
+  -- it has no ticket and no turn, and the slot is given back
   abbrev pub Calls : Step (Option V) → Me (Option V) (View V E) → ℕ → Me (Option V) (View V E) → Type 0
   Calls st me n me' = me' ≡ (at_stage me.0 Idle, rest me.1)
 
@@ -117,7 +117,7 @@ module _ {V E : Type 0} where
     pub word : n ≡ 256 * t.count (value_of t me'.0.seen) + t.bits (value_of t me'.0.seen)
     pub bits : t.bits (value_of t me'.0.seen) < 256
 
-  -- K11: it has seen the history
+  -- it has seen the history
   abbrev pub Looks : Telling V E → Step (Option V) → Me (Option V) (View V E) → ℕ → Me (Option V) (View V E) → Type 0
   Looks t st me n me' = Shows t me n me'
 
@@ -125,11 +125,11 @@ module _ {V E : Type 0} where
   abbrev pub drawn_to : View V E → ℕ → Stage E → View V E
   drawn_to v n st = record v { drawn = n; stage = st }
 
-  -- K6: it may draw a number where fewer than 65535 were drawn
+  -- it may draw a number where fewer than 65535 were drawn
   abbrev pub Counts : Step (Option V) → Me (Option V) (View V E) → ℕ → Me (Option V) (View V E) → Type 0
   Counts st me n me' = (me.0.drawn ≤ n) × (n < 65535 → me' ≡ (drawn_to me.0 n Counting, me.1)) × (65535 ≤ n → me' ≡ (drawn_to me.0 n Idle, me.1))
 
-  -- K7: it owns the number that it found where that is below 65535
+  -- it owns the number that it found where that is below 65535
   abbrev pub Numbers : Step (Option V) → Me (Option V) (View V E) → ℕ → Me (Option V) (View V E) → Type 0
   Numbers st me n me' = (me.0.drawn ≤ n) × (me.0.number < n) × (mine_in (n ∷ []) me.0.seen.items ≡ []) × (n < 65535 → me' ≡ (drawn_to me.0 (n + 1) (Owning n), me.1)) × (65535 ≤ n → me' ≡ (drawn_to me.0 (n + 1) Idle, me.1))
 
@@ -148,7 +148,7 @@ module _ {V E : Type 0} where
     pub now : me' ≡ (drawn_to me.0 found Idle, me.1)
     pub many : 65535 ≤ found
 
-  -- K8: the number that was owned becomes a child of the view's own number
+  -- the number that was owned becomes a child of the view's own number
   abbrev pub parent_of : View V E → View V E
   parent_of v = record v { made = (v.number, number_in v.stage) ∷ v.made; stage = Idle }
 
@@ -156,14 +156,14 @@ module _ {V E : Type 0} where
   abbrev pub child_of : View V E → View V E
   child_of v = record { number = number_in v.stage; names = number_in v.stage ∷ []; made = []; seen = v.seen; told = []; last = 0; drawn = v.drawn; stage = Idle }
 
-  -- K9: the names and pairs of both, and the longer of both histories; the shorter is told
+  -- the names and pairs of both, and the longer of both histories; the shorter is told
   abbrev pub joined : View V E → View V E → View V E
   joined v u = record v { names = v.names ++ u.names; made = v.made ++ u.made; seen = record { opening = v.seen.opening; items = longer v.seen.items u.seen.items }; told = shorter v.seen.items u.seen.items; last = max v.last u.last; drawn = max v.drawn u.drawn }
 
-  -- K11, after a join: what was told is forgotten, being the beginning of what was seen
+  -- after a join, what was told is forgotten, being the beginning of what was seen
   abbrev pub Settles : Telling V E → Step (Option V) → Me (Option V) (View V E) → ℕ → Me (Option V) (View V E) → Type 0
   Settles t st me n me' = (me' ≡ (record me.0 { told = [] }, me.1)) × IsSound t me'.0 × Begins me.0.told me.0.seen.items × (length me.0.names ≤ 65535) × NoTwice me.0.names
 
-  -- K6, at the end: it has all the names there are exactly where it has as many names as numbers below 65535 were drawn
+  -- at the end it has all the names there are exactly where it has as many names as numbers below 65535 were drawn
   abbrev pub Ends : Step (Option V) → Me (Option V) (View V E) → ℕ → Me (Option V) (View V E) → Type 0
   Ends st me n me' = (length me.0.names ≡ min n 65535 → (me' ≡ (at_stage me.0 Alone, me.1)) × IsWhole me.0) × (length me.0.names ≢ min n 65535 → (me' ≡ me) × (IsWhole me.0 → ⊥))
