@@ -1,9 +1,7 @@
 -- The blocks in a row of cells, as the rising list of placed blocks.
-use Rattle.std.proofs.Common.{◌≡◌, ℕ, zero, suc, ◌+◌, ◌-◌, ◌<◌, ◌≤◌, Bool, true, false, not, cond, ◌||◌, ◌&&◌, List, [], ◌∷◌, ◌++◌, length, take, drop, get_or, set, eqb, leb, Option, Some, None, refl, ap, ◌∙◌, sym, arith, inl, inr}
-use Rattle.std.proofs.Math.Numerals.{add-one}
+use Rattle.std.proofs.Common.{◌≡◌, ℕ, zero, suc, ◌+◌, ◌-◌, ◌<◌, ◌≤◌, Bool, true, false, cond, ◌&&◌, List, [], ◌∷◌, ◌++◌, length, set, eqb, leb, Some, refl, ap, ◌∙◌, arith, inl, inr}
 use Rattle.std.proofs.Math.Nat.{add-zero}
-use Rattle.std.specs.Prelude.{All, slice_get, slice_set}
-use Rattle.std.specs.List.{list_any}
+use Rattle.std.specs.Prelude.{All, slice_get}
 use Rattle.std.proofs.lemmas.Bool.{eq-eqb, ne_eqb, lt-ltb, le-ltb, le-leb, lt-leb, leb-true, and_parts, cases_Bool}
 use Rattle.std.proofs.lemmas.List.Elements.{All-head, All-tail}
 use Rattle.udt_model.specs.State.{PlacedBlock}
@@ -162,13 +160,13 @@ front-more [] base given more front e = rw (← e) refl
 front-more (block ∷ blocks) base given more front e =
     elim (cases_Bool (eqb block.offset base && leb (length block.bytes) given)) [
       | inl whole ↦
-        let parts = and_parts (eqb block.offset base) (leb (length block.bytes) given) whole in
-        let le : length block.bytes ≤ given = leb-true (length block.bytes) given parts.1 in
-        let also : leb (length block.bytes) (given + more) ≡ true = le-leb (length block.bytes) (given + more) (omega arith) in
-        let left : (given + more) - length block.bytes ≡ (given - length block.bytes) + more = omega arith in
-        let after : front_after (base + 1) (given - length block.bytes) blocks ≡ front = rw whole at e in
-        rw (parts.0, also, left) (front-more blocks (base + 1) (given - length block.bytes) more front after)
+          let parts = and_parts (eqb block.offset base) (leb (length block.bytes) given) whole in
+          let le : length block.bytes ≤ given = leb-true (length block.bytes) given parts.1 in
+          let also : leb (length block.bytes) (given + more) ≡ true = le-leb (length block.bytes) (given + more) (omega arith) in
+          let left : (given + more) - length block.bytes ≡ (given - length block.bytes) + more = omega arith in
+          let after : front_after (base + 1) (given - length block.bytes) blocks ≡ front = rw whole at e in
+          rw (parts.0, also, left) (front-more blocks (base + 1) (given - length block.bytes) more front after)
       | inr part ↦
-        let stays : record { base = base; given = given; placed = block ∷ blocks } ≡ front = rw part at e in
-        rw (← stays) refl
+          let stays : record { base = base; given = given; placed = block ∷ blocks } ≡ front = rw part at e in
+          rw (← stays) refl
     ]

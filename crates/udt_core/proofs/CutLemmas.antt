@@ -1,8 +1,8 @@
 -- How bytes are cut into the blocks of a message.
-use Rattle.std.proofs.Common.{◌≡◌, ℕ, zero, suc, ◌+◌, ◌-◌, ◌*◌, ◌/◌, ◌<◌, ◌≤◌, Bool, true, false, List, [], ◌∷◌, length, take, drop, min, eqb, refl, ap, ◌∙◌, sym, arith, inl, inr}
+use Rattle.std.proofs.Common.{◌≡◌, ℕ, zero, suc, ◌+◌, ◌-◌, ◌/◌, ◌<◌, Bool, false, List, [], ◌∷◌, length, take, drop, eqb, refl, ap, ◌∙◌, arith, inl, inr}
 use Rattle.std.proofs.Math.Nat.{add-div_right, div-eq_of_lt}
 use Rattle.std.proofs.lemmas.Bool.{cases_lt, ne_eqb}
-use Rattle.std.proofs.lemmas.List.{length-take, length-drop, take_all, drop_all}
+use Rattle.std.proofs.lemmas.List.{length-drop}
 use Rattle.udt_model.specs.State.{KeptBlock}
 use Rattle.std.proofs.Common.{◌++◌, append_assoc}
 use Rattle.udt_model.specs.Sending.{blocks_for, cut}
@@ -16,21 +16,21 @@ pub blocks_for_more : (len payload : ℕ) → 0 < payload → 0 < len → blocks
 blocks_for_more len payload positive some =
     elim (cases_lt len payload) [
       | inl short ↦
-        let none : blocks_for (len - payload) payload ≡ 0 = let e : len - payload ≡ 0 = omega arith in rw e (blocks_for_none payload positive) in
-        let turned : len + payload - 1 ≡ (len - 1) + payload = omega arith in
-        let below : len - 1 < payload = omega arith in
-        let here : (len + payload - 1) / payload ≡ 0 + 1 = rw turned (add-div_right (len - 1) positive ∙ ap (λ (n : ℕ). n + 1) (div-eq_of_lt below)) in
-        omega arith
+          let none : blocks_for (len - payload) payload ≡ 0 = let e : len - payload ≡ 0 = omega arith in rw e (blocks_for_none payload positive) in
+          let turned : len + payload - 1 ≡ (len - 1) + payload = omega arith in
+          let below : len - 1 < payload = omega arith in
+          let here : (len + payload - 1) / payload ≡ 0 + 1 = rw turned (add-div_right (len - 1) positive ∙ ap (λ (n : ℕ). n + 1) (div-eq_of_lt below)) in
+          omega arith
       | inr long ↦
-        let turned : len + payload - 1 ≡ (len - payload + payload - 1) + payload = omega arith in
-        let here : (len + payload - 1) / payload ≡ (len - payload + payload - 1) / payload + 1 = rw turned (add-div_right (len - payload + payload - 1) positive) in
-        omega arith
+          let turned : len + payload - 1 ≡ (len - payload + payload - 1) + payload = omega arith in
+          let here : (len + payload - 1) / payload ≡ (len - payload + payload - 1) / payload + 1 = rw turned (add-div_right (len - payload + payload - 1) positive) in
+          omega arith
     ]
 
 -- there are others exactly where bytes are left
 pub blocks_left : (len payload : ℕ) → 0 < payload → eqb (blocks_for len payload) 0 ≡ eqb len 0
 blocks_left zero payload positive = rw (blocks_for_none payload positive) refl
-blocks_left (suc len) payload positive = 
+blocks_left (suc len) payload positive =
     let other : suc (blocks_for (suc len - payload) payload) ≡ 0 → ⊥ = λ h. absurd (omega (arith, h)) in
     rw (blocks_for_more (suc len) payload positive (omega arith), ne_eqb _ _ other, ne_eqb (suc len) 0 (λ h. absurd (omega (arith, h)))) refl
 

@@ -1,13 +1,12 @@
 -- When a block is sent, and how long its datagram is.
-use Rattle.std.proofs.Common.{◌≡◌, ℕ, ◌+◌, ◌-◌, ◌*◌, ◌<◌, ◌≤◌, List, length, min, Some, refl, ap, ◌∙◌, sym, arith}
+use Rattle.std.proofs.Common.{◌≡◌, ℕ, ◌+◌, ◌-◌, ◌*◌, ◌<◌, ◌≤◌, List, length, min, Some, refl, ap, ◌∙◌, arith}
 use Rattle.std.specs.Prelude.{slice_get, get_or, map, option_map}
 use Rattle.std.proofs.lemmas.Bool.{le-ltb, lt-ltb}
 use Rattle.std.proofs.lemmas.Option.{slice_get-map, slice_get_read}
-use Rattle.std.proofs.lemmas.List.{length-append}
 use Rattle.udt_model.specs.declared.packets.Flags.{Flags}
-use Rattle.udt_model.specs.Wire.{Block, spelling, word, flags_word}
+use Rattle.udt_model.specs.Wire.{Block, spelling}
 use Rattle.udt_model.specs.State.{KeptBlock, Sending}
-use Rattle.udt_model.specs.Sending.{Packing, Sends, packing, after_block, after_pack, window}
+use Rattle.udt_model.specs.Sending.{Sends, packing, after_block, after_pack, window}
 use Rattle.udt_core.specs.declared.sending.SendBlock.{SendBlock}
 use Rattle.udt_core.specs.SendBlocks.{kept_block_of}
 

@@ -1,20 +1,16 @@
 -- Where a block is placed, by the cells.
-use Rattle.std.proofs.Common.{◌≡◌, ℕ, zero, suc, ◌+◌, ◌-◌, ◌<◌, ◌≤◌, Bool, true, false, cond, List, [], ◌∷◌, length, get_or, set, max, Option, Some, None, refl, ap, ◌∙◌, sym, arith, inl, inr, ◌⊎◌, ◌≢◌}
-use Rattle.std.specs.Prelude.{All, slice_get}
-use Rattle.std.specs.VecDeque.{deque_len}
-use Rattle.std.proofs.lemmas.Bool.{le-ltb, lt-leb, cases_eq}
-use Rattle.std.proofs.lemmas.List.{length-set}
-use Rattle.std.proofs.lemmas.List.Elements.{All-set, All-get_or}
-use Rattle.std.proofs.lemmas.Option.{slice_get_within, get_or_from_slice_get, slice_get-get_or}
+use Rattle.std.proofs.Common.{◌≡◌, ℕ, zero, suc, ◌+◌, ◌-◌, ◌<◌, ◌≤◌, false, cond, List, [], ◌∷◌, set, Some, refl, ap, arith, inl, inr, ◌⊎◌}
+use Rattle.std.specs.Prelude.{slice_get}
+use Rattle.std.proofs.lemmas.Bool.{le-ltb, lt-leb}
 use Rattle.udt_model.specs.declared.limits.TheConstants.{PACKET_LIMIT}
 use Rattle.udt_model.specs.declared.packets.Flags.{Flags}
 use Rattle.udt_model.specs.Numbers.{near}
 use Rattle.udt_model.specs.State.{Receiving}
-use Rattle.udt_model.specs.Receiving.{Placing, AtOffset, IsDouble, placing, after_arrival, with_placed, with_block}
+use Rattle.udt_model.specs.Receiving.{AtOffset, IsDouble, placing, after_arrival, with_placed, with_block}
 use Rattle.udt_core.specs.declared.receiving.Cell.{Cell}
 use Rattle.udt_core.specs.declared.receiving.Receiver.TheInside.{Inside}
-use Rattle.udt_core.specs.Cells.{IsCell, FillsCell, block_in, placed_from}
-use Rattle.udt_core.specs.ReceiveHalf.{receiving_of, IsReceiver}
+use Rattle.udt_core.specs.Cells.{FillsCell, placed_from}
+use Rattle.udt_core.specs.ReceiveHalf.{receiving_of}
 use Rattle.udt_core.proofs.CellLemmas.{is_placed-cell, with_block-cell}
 
 -- an offset that there is room for is looked up in its cell

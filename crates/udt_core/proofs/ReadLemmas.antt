@@ -1,15 +1,15 @@
 -- How the bytes at the front are read.
-use Rattle.std.proofs.Common.{◌≡◌, ℕ, zero, suc, ◌+◌, ◌-◌, ◌<◌, ◌≤◌, Bool, true, false, List, [], ◌∷◌, ◌++◌, length, get_or, take, drop, min, eqb, Option, Some, None, Ok, Err, refl, ap, ◌∙◌, sym, arith, inl, inr, ◌⊎◌, append_assoc}
-use Rattle.std.specs.Prelude.{slice_get, All}
-use Rattle.std.proofs.lemmas.Bool.{ne_eqb, eq-eqb}
+use Rattle.std.proofs.Common.{◌≡◌, ℕ, zero, suc, ◌+◌, ◌<◌, ◌≤◌, true, false, List, [], ◌∷◌, ◌++◌, length, get_or, take, drop, eqb, Some, Ok, Err, refl, ap, ◌∙◌, sym, arith, inl, inr, ◌⊎◌}
+use Rattle.std.specs.Prelude.{slice_get}
+use Rattle.std.proofs.lemmas.Bool.{ne_eqb}
 use Rattle.std.proofs.lemmas.List.{append-nil, take_at, take_all, drop_at, drop-drop, take-append-drop, drop-append-le, take-append-le, length-append, length-drop, length-take}
 use Rattle.udt_model.specs.declared.answers.Refusal.TheVariants as refusal
 use Rattle.udt_model.specs.State.{Receiving}
-use Rattle.udt_model.specs.Receiving.{contiguous, waiting, receive_answer, after_receive, Front, front_after, at_front}
+use Rattle.udt_model.specs.Receiving.{contiguous, waiting, receive_answer, after_receive, front_after, at_front}
 use Rattle.udt_core.specs.declared.receiving.Cell.{Cell}
 use Rattle.udt_core.specs.declared.receiving.Receiver.TheInside.{Inside}
-use Rattle.udt_core.specs.Cells.{IsCell, IsGiven, IsGivenOf, placed_from}
-use Rattle.udt_core.specs.ReceiveHalf.{receiving_of, front_of, IsReceiver}
+use Rattle.udt_core.specs.Cells.{IsGivenOf, placed_from}
+use Rattle.udt_core.specs.ReceiveHalf.{receiving_of, front_of}
 use Rattle.udt_core.proofs.SettleLemmas.{front_stays}
 use Rattle.udt_core.proofs.CellLemmas.{contiguous-used, contiguous-unused}
 
@@ -25,7 +25,7 @@ found_first cells first some read = rw (first_of cells first some read) refl
 pub waits_not : (r : Inside) (first : Cell) → 0 < length r.cells.items → first ≡ get_or r.cells.items 0 first → first.used ≡ false → waiting (receiving_of r) ≡ []
 waits_not r first some read unused =
     let none : contiguous r.base (placed_from r.base r.cells.items) ≡ [] =
-      rw (first_of r.cells.items first some read) (contiguous-unused first (drop 1 r.cells.items) r.base unused) in
+    rw (first_of r.cells.items first some read) (contiguous-unused first (drop 1 r.cells.items) r.base unused) in
     rw none (nothing_dropped r.given)
   where
     nothing_dropped : (n : ℕ) → drop {A = ℕ} n [] ≡ []
@@ -62,10 +62,10 @@ answer_read r room filled into rest some waits split within len done =
     let front_len : length (take filled into) ≡ filled = omega (arith, length-take filled into) in
     let not_none : eqb (length (waiting r)) 0 ≡ false = ne_eqb (length (waiting r)) 0 (λ e. absurd (omega (arith, e, waits))) in
     let taken : take room (waiting r) ≡ take filled into = rw split (
-      elim done [
-        | inl full ↦ take_at (take filled into) rest room (omega (arith, front_len, full))
-        | inr none ↦ rw (none, append-nil (take filled into)) (take_all room (take filled into) (omega (arith, front_len)))
-      ]) in
+    elim done [
+      | inl full ↦ take_at (take filled into) rest room (omega (arith, front_len, full))
+      | inr none ↦ rw (none, append-nil (take filled into)) (take_all room (take filled into) (omega (arith, front_len)))
+    ]) in
     rw (some, not_none, taken) refl
 
 -- and the half stands where the reading ended
@@ -82,7 +82,7 @@ pub waiting_more : (given n : ℕ) (bytes others : List ℕ) → given + n ≤ l
     → drop given (bytes ++ others) ≡ take n (drop given bytes) ++ drop (given + n) (bytes ++ others)
 waiting_more given n bytes others within =
     let front : take n (drop given (bytes ++ others)) ≡ take n (drop given bytes) =
-      rw (drop-append-le given bytes others (omega arith)) (take-append-le n (drop given bytes) others (omega (arith, length-drop given bytes))) in
+    rw (drop-append-le given bytes others (omega arith)) (take-append-le n (drop given bytes) others (omega (arith, length-drop given bytes))) in
     let back : drop n (drop given (bytes ++ others)) ≡ drop (given + n) (bytes ++ others) = drop-drop n given (bytes ++ others) in
     sym (take-append-drop n (drop given (bytes ++ others))) ∙ rw (front, back) refl
 

@@ -1,15 +1,13 @@
 -- How the first block is consumed.
-use Rattle.std.proofs.Common.{◌≡◌, ℕ, zero, suc, ◌+◌, ◌-◌, ◌<◌, ◌≤◌, Bool, true, false, List, [], ◌∷◌, ◌++◌, length, get_or, drop, Option, Some, None, refl, ap, ◌∙◌, sym, arith, inl, inr, ◌⊎◌}
+use Rattle.std.proofs.Common.{◌≡◌, ℕ, zero, suc, ◌+◌, ◌<◌, true, false, List, [], ◌∷◌, ◌++◌, length, get_or, drop, Some, refl, ap, ◌∙◌, sym, arith, inl, inr}
 use Rattle.std.specs.Prelude.{All, slice_get}
 use Rattle.std.proofs.lemmas.Bool.{cases_Bool, false≢true}
 use Rattle.std.proofs.lemmas.List.{drop_at}
-use Rattle.std.proofs.lemmas.List.Elements.{All-head, All-tail, All-push, All-same}
-use Rattle.udt_model.specs.declared.limits.TheConstants.{PACKET_LIMIT}
-use Rattle.udt_model.specs.State.{PlacedBlock}
-use Rattle.udt_model.specs.Receiving.{contiguous, Front, front_after}
+use Rattle.std.proofs.lemmas.List.Elements.{All-head, All-tail, All-push}
+use Rattle.udt_model.specs.Receiving.{contiguous, front_after}
 use Rattle.udt_core.specs.declared.receiving.Cell.{Cell}
-use Rattle.udt_core.specs.Cells.{IsCell, TurnsCell, IsRead, IsGiven, IsGivenOf, AreBelow, block_in, placed_from}
-use Rattle.udt_core.proofs.CellLemmas.{placed_from-append, contiguous-used, contiguous-unused, front-unused, front-part, front-whole}
+use Rattle.udt_core.specs.Cells.{IsCell, TurnsCell, IsRead, IsGiven, IsGivenOf, AreBelow, placed_from}
+use Rattle.udt_core.proofs.CellLemmas.{placed_from-append, contiguous-used, front-unused, front-part, front-whole}
 
 -- where no whole block is read, the front stays
 pub front_stays : (cells : List Cell) (base given : ℕ) → IsGivenOf given cells
@@ -65,7 +63,7 @@ pub turned_waiting : (old new : List Cell) (base : ℕ) (t : TurnsCell old new) 
 turned_waiting old new base t used =
     let others : placed_from (base + 1) new ≡ placed_from (base + 1) t.others = rw t.after (placed_from-append t.others (base + 1) t.last t.unused) in
     rw (t.before, contiguous-used t.first t.others base used, others)
-      (drop_at t.first.bytes.items (contiguous (base + 1) (placed_from (base + 1) t.others)) (length t.first.bytes.items) refl)
+    (drop_at t.first.bytes.items (contiguous (base + 1) (placed_from (base + 1) t.others)) (length t.first.bytes.items) refl)
 
 -- the first cell of a turn is the one that was read
 pub same_first : (old new : List Cell) (given : ℕ) (r : IsRead old given) (t : TurnsCell old new) → t.first.used ≡ true

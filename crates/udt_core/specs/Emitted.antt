@@ -1,5 +1,5 @@
 -- What an event emits, as it lies in memory.
-use Rattle.std.specs.Prelude.{◌≡◌, ℕ, ◌+◌, ◌≤◌, List, map, All, vec_len, vec_capacity}
+use Rattle.std.specs.Prelude.{◌≡◌, ◌+◌, ◌≤◌, List, map, All, vec_len, vec_capacity}
 use Rattle.udt_model.specs.State.{Datagram}
 use Rattle.udt_core.specs.declared.outs.Out.{Out}
 use Rattle.udt_core.specs.declared.outs.Outs.TheInside.{Inside}

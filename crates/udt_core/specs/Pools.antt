@@ -1,5 +1,5 @@
 -- A pool of buffers.
-use Rattle.std.specs.Prelude.{◌≡◌, ℕ, ◌≤◌, [], All, Vec, vec_len, vec_capacity}
+use Rattle.std.specs.Prelude.{◌≡◌, ◌≤◌, [], All, vec_len, vec_capacity}
 use Rattle.udt_core.specs.declared.pool.Pool.TheInside.{Inside}
 use Rattle.udt_core.specs.Stock.{Stock}
 

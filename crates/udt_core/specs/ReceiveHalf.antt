@@ -1,5 +1,5 @@
 -- The receiving half, as it lies in memory.
-use Rattle.std.specs.Prelude.{◌≡◌, ℕ, ◌<◌, ◌≤◌, true, false, List, [], ◌∷◌, length, All, slice_get, Some, ◌+◌}
+use Rattle.std.specs.Prelude.{◌≡◌, ◌<◌, ◌≤◌, All}
 use Rattle.std.specs.VecDeque.{deque_len}
 use Rattle.udt_model.specs.declared.limits.TheConstants.{MOST_PAYLOAD, MOST_BLOCKS, PACKET_LIMIT}
 use Rattle.udt_model.specs.State.{Receiving}

@@ -1,5 +1,5 @@
 -- The sending half, as it lies in memory.
-use Rattle.std.specs.Prelude.{◌≡◌, ℕ, ◌+◌, ◌*◌, ◌^◌, ◌<◌, ◌≤◌, map, All}
+use Rattle.std.specs.Prelude.{◌≡◌, ◌+◌, ◌^◌, ◌<◌, ◌≤◌, map, All}
 use Rattle.std.specs.VecDeque.{deque_len, deque_capacity}
 use Rattle.udt_model.specs.declared.limits.TheConstants.{LAST_MESSAGE, MOST_PAYLOAD, PACKET_LIMIT}
 use Rattle.udt_model.specs.State.{Sending}

@@ -15,3 +15,6 @@ pub use memory::OutOfMemory;
 pub use outs::Outs;
 pub use socket::{OpenNo, Socket};
 pub use udt_model::{Cause, Heard, Packed, Peer, Refusal};
+
+#[cfg(test)]
+mod tests;

@@ -136,7 +136,7 @@ fn settle(cells: &mut VecDeque<Cell>, base: &mut u64, given: &mut usize)
     requires base { base.old < PACKET_LIMIT }
     ensures front { (payload : ℕ) → All (IsCell payload) cells.old.items
         → front_after base.old given.old (placed_from base.old cells.old.items)
-            ≡ record { base = base.new; given = given.new; placed = placed_from base.new cells.new.items } }
+        ≡ record { base = base.new; given = given.new; placed = placed_from base.new cells.new.items } }
     ensures waiting { drop given.old (contiguous base.old (placed_from base.old cells.old.items))
         ≡ drop given.new (contiguous base.new (placed_from base.new cells.new.items)) }
     ensures len { deque_len cells.new ≡ deque_len cells.old }
@@ -168,13 +168,13 @@ impl Receiver {
         requires most { blocks ≤ MOST_BLOCKS }
         requires start { start ≤ PACKET_LIMIT }
         ensures { IfOk result (λ half. half ≡ record {
-            isn = isn;
-            payload = payload;
-            blocks = blocks;
-            base = start;
-            top = start;
-            given = 0;
-            placed = [];
+          isn = isn;
+          payload = payload;
+          blocks = blocks;
+          base = start;
+          top = start;
+          given = 0;
+          placed = [];
         }) }
     {
         let cells = empty_cells(alloc, blocks, payload)?;

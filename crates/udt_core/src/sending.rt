@@ -60,7 +60,11 @@ fn message_after(message: u32) -> u32
     requires { message ≤ LAST_MESSAGE }
     ensures { result ≡ next_message message }
 {
-    if message == LAST_MESSAGE { 1 } else { message + 1 }
+    if message == LAST_MESSAGE {
+        1
+    } else {
+        message + 1
+    }
 }
 
 // Keeps a block in a buffer of the pool.
@@ -68,9 +72,8 @@ fn keep_block(kept: &mut VecDeque<SendBlock>, pool: &mut Pool, flags: Flags, byt
     requires free { 0 < pool.old.free }
     requires place { deque_len kept.old < deque_capacity kept.old }
     requires short { length bytes.now ≤ pool.old.room }
-    ensures kept {
-        map kept_block_of kept.new.items
-            ≡ map kept_block_of kept.old.items ++ record { flags = flags; bytes = bytes.now } ∷ [] }
+    ensures kept { map kept_block_of kept.new.items
+        ≡ map kept_block_of kept.old.items ++ record { flags = flags; bytes = bytes.now } ∷ [] }
     ensures sound { (payload : ℕ) → length bytes.now ≤ payload → flags.message ≤ LAST_MESSAGE
         → All (IsSendBlock payload pool.old.room) kept.old.items
         → All (IsSendBlock payload pool.old.room) kept.new.items }
@@ -80,7 +83,10 @@ fn keep_block(kept: &mut VecDeque<SendBlock>, pool: &mut Pool, flags: Flags, byt
 {
     let mut buffer = pool.take();
     let _ = buffer.extend_from_slice(bytes);
-    kept.push_back_reserved(SendBlock { flags, bytes: buffer });
+    kept.push_back_reserved(SendBlock {
+        flags,
+        bytes: buffer,
+    });
 }
 
 // Cuts the bytes of a message into blocks, and keeps them.
@@ -97,9 +103,8 @@ fn keep_message(
     requires places { deque_len kept.old + pool.old.free ≤ deque_capacity kept.old }
     requires number { message ≤ LAST_MESSAGE }
     requires sound { All (IsSendBlock payload pool.old.room) kept.old.items }
-    ensures kept {
-        map kept_block_of kept.new.items
-            ≡ map kept_block_of kept.old.items ++ cut (blocks_for (length bytes.now) payload) payload message true bytes.now }
+    ensures kept { map kept_block_of kept.new.items
+        ≡ map kept_block_of kept.old.items ++ cut (blocks_for (length bytes.now) payload) payload message true bytes.now }
     ensures sound { All (IsSendBlock payload pool.old.room) kept.new.items }
     ensures len { deque_len kept.new ≡ deque_len kept.old + blocks_for (length bytes.now) payload }
     ensures capacity { deque_capacity kept.old ≤ deque_capacity kept.new }
@@ -137,15 +142,15 @@ impl Sender {
         requires most_payload { payload ≤ MOST_PAYLOAD }
         requires start { start ≤ PACKET_LIMIT }
         ensures { IfOk result (λ half. half ≡ record {
-            isn = isn;
-            payload = payload;
-            blocks = blocks;
-            acked = start;
-            kept = [];
-            next = start;
-            message = 1;
-            flow = flow;
-            due = 0;
+          isn = isn;
+          payload = payload;
+          blocks = blocks;
+          acked = start;
+          kept = [];
+          next = start;
+          message = 1;
+          flow = flow;
+          due = 0;
         }) }
     {
         let kept = VecDeque::with_capacity(alloc, blocks as usize)?;

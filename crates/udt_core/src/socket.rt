@@ -160,10 +160,8 @@ impl Socket {
     /// carried all the packets that it may, AgainSend where no block is free.
     #[tactic(auto, unfolding(udt_model::specs::Step::step))]
     pub fn send(&mut self, now: u64, bytes: &[u8]) -> Result<usize, Refusal>
-        ensures reply {
-            Sent result ≡ (step self.old (record { now = now; act = Send bytes.now })).reply }
-        ensures after {
-            self.new ≡ (step self.old (record { now = now; act = Send bytes.now })).after }
+        ensures reply { Sent result ≡ (step self.old (record { now = now; act = Send bytes.now })).reply }
+        ensures after { self.new ≡ (step self.old (record { now = now; act = Send bytes.now })).after }
     {
         self.at(now);
         self.sending.send(bytes)
@@ -174,8 +172,7 @@ impl Socket {
     pub fn recv(&mut self, now: u64, into: &mut [u8]) -> Result<usize, Refusal>
         ensures reply { Received (received_in result into.new)
             ≡ (step self.old (record { now = now; act = Recv (length into.old) })).reply }
-        ensures after {
-            self.new ≡ (step self.old (record { now = now; act = Recv (length into.old) })).after }
+        ensures after { self.new ≡ (step self.old (record { now = now; act = Recv (length into.old) })).after }
         ensures within { IfOk result (λ count. count ≤ length into.old) }
         ensures rest { IfOk result (λ count. drop count into.new ≡ drop count into.old) }
         ensures err { OnErr result (into.new ≡ into.old) }
@@ -204,12 +201,9 @@ impl Socket {
     /// Takes in a datagram that came from this address.
     #[tactic(auto, unfolding(udt_model::specs::Step::step))]
     pub fn arrive(&mut self, now: u64, from: Addr, bytes: &[u8], outs: &mut Outs) -> Heard
-        ensures reply {
-            DidHear result ≡ (step self.old (record { now = now; act = Arrive from bytes.now })).reply }
-        ensures after {
-            self.new ≡ (step self.old (record { now = now; act = Arrive from bytes.now })).after }
-        ensures outs {
-            outs.new ≡ (step self.old (record { now = now; act = Arrive from bytes.now })).outs }
+        ensures reply { DidHear result ≡ (step self.old (record { now = now; act = Arrive from bytes.now })).reply }
+        ensures after { self.new ≡ (step self.old (record { now = now; act = Arrive from bytes.now })).after }
+        ensures outs { outs.new ≡ (step self.old (record { now = now; act = Arrive from bytes.now })).outs }
     {
         outs.clear();
         self.at(now);
@@ -218,7 +212,15 @@ impl Socket {
                 self.counts.malformed = risen(self.counts.malformed);
                 Heard::Malformed(why)
             }
-            Ok(Packet::Block { seq, flags, dest, bytes, .. }) => {
+            Ok(
+                Packet::Block {
+                    seq,
+                    flags,
+                    dest,
+                    bytes,
+                    ..
+                },
+            ) => {
                 if !is_same(from, self.peer.addr) || dest != self.own {
                     self.counts.foreign = risen(self.counts.foreign);
                     return Heard::Foreign;

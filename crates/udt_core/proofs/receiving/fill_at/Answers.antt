@@ -1,6 +1,5 @@
 use Rattle.std.proofs.Common.{length, refl, arith}
 use Rattle.std.proofs.lemmas.Option.{slice_get_read}
-use Rattle.udt_core.specs.Cells.{FillsCell}
 use Rattle.udt_core.proofs.receiving.fill_at.Goals as goal
 
 -- the cell at the place was filled

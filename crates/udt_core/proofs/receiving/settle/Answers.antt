@@ -1,9 +1,6 @@
-use Rattle.std.proofs.Common.{◌≡◌, ℕ, ◌+◌, ◌<◌, ◌≤◌, true, List, ◌∷◌, length, get_or, drop, refl, ap, ◌∙◌, sym, arith, rules}
-use Rattle.std.specs.Prelude.{All}
-use Rattle.udt_model.specs.Receiving.{contiguous, front_after}
+use Rattle.std.proofs.Common.{◌≡◌, ◌<◌, true, length, ap, arith}
 use Rattle.udt_core.specs.declared.receiving.Cell.{Cell}
-use Rattle.udt_core.specs.Cells.{IsCell, TurnsCell, IsRead, IsGivenOf, AreBelow, placed_from}
-use Rattle.udt_core.proofs.SettleLemmas.{front_part_read, front_stays, none_given, turned_sound, turned_below, turned_front, turned_waiting, same_first, read_first}
+use Rattle.udt_core.proofs.SettleLemmas.{front_part_read, none_given, turned_sound, turned_below, turned_front, turned_waiting, same_first, read_first}
 use Rattle.udt_core.proofs.receiving.settle.Goals as goal
 use Rattle.udt_core.proofs.receiving.settle.Goals.{After-turn, Then-given-len}
 

@@ -1,6 +1,5 @@
-use Rattle.std.proofs.Common.{rules, ◌≡◌, true, false, refl}
+use Rattle.std.proofs.Common.{◌≡◌, true, false, refl}
 use Rattle.udt_core.specs.declared.receiving.Cell.{Cell}
-use Rattle.udt_core.specs.Cells.{IsCell, TurnsCell}
 use Rattle.udt_core.proofs.receiving.turn.Goals as goal
 
 -- the cell that left comes back

@@ -1,8 +1,8 @@
-use Rattle.std.proofs.Common.{rules, ◌≡◌, ℕ, suc, ◌+◌, ◌-◌, ◌<◌, ◌≤◌, List, [], ◌++◌, ◌∷◌, map, length, take, drop, min, arith, ap, ◌∙◌, sym}
+use Rattle.std.proofs.Common.{rules, ◌≡◌, ℕ, suc, ◌-◌, List, ◌++◌, map, length, take, drop, arith, ap, ◌∙◌, sym}
 use Rattle.std.proofs.lemmas.List.{append-nil, take_min, drop_min, length-drop}
 use Rattle.udt_model.specs.State.{KeptBlock}
-use Rattle.udt_model.specs.Sending.{blocks_for, cut}
-use Rattle.udt_core.specs.SendBlocks.{kept_block_of, IsSendBlock}
+use Rattle.udt_model.specs.Sending.{blocks_for}
+use Rattle.udt_core.specs.SendBlocks.{kept_block_of}
 use Rattle.udt_core.proofs.CutLemmas.{blocks_for_more, blocks_for_none, cut_none, keep_more}
 use Rattle.udt_core.proofs.sending.keep_message.Goals as goal
 
@@ -16,7 +16,7 @@ loop-rest-preserved c =
     let grown = rw c.is_empty.ensures at c.keep_block.ensures.kept in
     let left : length c.split_at.result.1.now ≡ length rest - payload = rw back (length-drop payload rest) in
     let more : blocks_for (length rest) payload ≡ suc (blocks_for (length c.split_at.result.1.now) payload) =
-      rw left (blocks_for_more (length rest) payload c.requires.payload c.loop-rest-test.true) in
+    rw left (blocks_for_more (length rest) payload c.requires.payload c.loop-rest-test.true) in
     let room : c.loop-rest.pool.room ≡ c.args.pool.now.room = ap (λ p. p.room) c.loop-rest.invariant.pool in
     let taken : c.keep_block.new.pool.free ≡ c.loop-rest.pool.free - 1 = ap (λ p. p.free) c.keep_block.ensures.pool in
     let sound = c.keep_block.ensures.sound payload (omega (arith, c.split_at.ensures.front_len, c.min.ensures)) c.requires.number (rw room c.loop-rest.invariant.sound) in
@@ -41,6 +41,6 @@ returns-clause-kept c =
 pub returns-clause-pool : goal.returns-clause-pool
 returns-clause-pool c =
     let none : blocks_for (length c.loop-rest.rest.now) c.args.payload ≡ 0 =
-      let e : length c.loop-rest.rest.now ≡ 0 = omega arith in rw e (blocks_for_none c.args.payload c.requires.payload) in
+    let e : length c.loop-rest.rest.now ≡ 0 = omega arith in rw e (blocks_for_none c.args.payload c.requires.payload) in
     let free : c.loop-rest.pool.free ≡ c.args.pool.now.free - blocks_for (length c.args.bytes.now) c.args.payload = omega arith in
     c.loop-rest.invariant.pool ∙ ap (λ (n : ℕ). record c.args.pool.now { free = n }) free

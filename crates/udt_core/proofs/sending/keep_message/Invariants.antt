@@ -1,4 +1,4 @@
-use Rattle.std.proofs.Common.{◌≡◌, ◌+◌, ◌≤◌, ◌++◌, map, length, true}
+use Rattle.std.proofs.Common.{◌≡◌, ◌+◌, ◌++◌, map, length, true}
 use Rattle.std.specs.Prelude.{All}
 use Rattle.std.specs.VecDeque.{deque_len, deque_capacity}
 use Rattle.udt_model.specs.Sending.{blocks_for, cut}

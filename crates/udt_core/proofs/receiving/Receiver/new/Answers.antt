@@ -1,4 +1,4 @@
-use Rattle.std.proofs.Common.{◌≡◌, refl}
+use Rattle.std.proofs.Common.{refl}
 use Rattle.udt_core.proofs.CellLemmas.{placed_from-unused}
 use Rattle.udt_core.proofs.receiving.Receiver.new.Goals as goal
 

@@ -1,13 +1,11 @@
-use Rattle.std.proofs.Common.{◌≡◌, ℕ, ◌+◌, ◌-◌, ◌<◌, ◌≤◌, ◌≢◌, ◌⊎◌, Bool, true, false, cond, List, length, max, Option, Some, refl, ap, ◌∙◌, sym, arith, inl, inr}
-use Rattle.std.specs.Prelude.{slice_get, IfSome, vec_capacity}
-use Rattle.std.proofs.lemmas.List.{length-set}
+use Rattle.std.proofs.Common.{◌≡◌, ◌-◌, ◌<◌, ◌≤◌, Bool, true, false, cond, length, Some, refl, ap, ◌∙◌, sym, arith, inl, inr}
+use Rattle.std.specs.Prelude.{slice_get, vec_capacity}
 use Rattle.std.proofs.lemmas.List.Elements.{All-set}
 use Rattle.std.proofs.lemmas.Option.{slice_get_read}
-use Rattle.udt_model.specs.declared.limits.TheConstants.{PACKET_LIMIT}
-use Rattle.udt_model.specs.Receiving.{Placing, AtOffset, IsDouble, placing}
+use Rattle.udt_model.specs.Receiving.{AtOffset, IsDouble, placing}
 use Rattle.udt_core.specs.declared.receiving.Cell.{Cell}
-use Rattle.udt_core.specs.Cells.{IsCell, FillsCell, IsGiven}
-use Rattle.udt_core.specs.ReceiveHalf.{receiving_of, IsReceiver}
+use Rattle.udt_core.specs.Cells.{IsCell}
+use Rattle.udt_core.specs.ReceiveHalf.{receiving_of}
 use Rattle.udt_core.proofs.PlaceLemmas.{placing-cell, arrival-new, arrival-double, placed-filled, same_cell, found-set}
 use Rattle.udt_core.proofs.receiving.Receiver.on_block.Goals as goal
 use Rattle.udt_core.proofs.receiving.Receiver.on_block.Goals.{After-index}
@@ -25,7 +23,7 @@ cell_found c =
 by_cell : (c : After-index) → placing c.args.self.now c.args.seq ≡ cond c.index.result.now.used IsDouble (AtOffset c.in-Some.offset)
 by_cell c =
     rw (← c.self.view_is)
-      (placing-cell c.self.inside c.args.seq c.in-Some.offset c.index.result.now c.in-Some.ensures.value c.if-offset-ge-PACKET_LIMIT.false c.if-offset-self.false c.if-offset-self-2.false (cell_found c))
+    (placing-cell c.self.inside c.args.seq c.in-Some.offset c.index.result.now c.in-Some.ensures.value c.if-offset-ge-PACKET_LIMIT.false c.if-offset-self.false c.if-offset-self-2.false (cell_found c))
 
 is_double : (c : After-index) → c.index.result.now.used ≡ true → placing c.args.self.now c.args.seq ≡ IsDouble
 is_double c used = by_cell c ∙ ap (λ (u : Bool). cond u IsDouble (AtOffset c.in-Some.offset)) used
@@ -97,20 +95,20 @@ invariant_of-self c =
       base = i.base;
       top = omega (arith, i.top, c.max-self-inside.ensures);
       below = λ at cell used there.
-        elim (found-set cells place at f.block cell (rw f.items at there)) [
-          | inl at_place ↦ let at_it : at ≡ place = at_place.0 in omega (arith, at_it)
-          | inr other ↦ i.below at cell used other
-        ];
+          elim (found-set cells place at f.block cell (rw f.items at there)) [
+            | inl at_place ↦ let at_it : at ≡ place = at_place.0 in omega (arith, at_it)
+            | inr other ↦ i.below at cell used other
+          ];
       given = λ cell there.
-        elim (found-set cells place 0 f.block cell (rw f.items at there)) [
-          | inl first ↦
-            let at_first : slice_get cells 0 ≡ Some f.before = rw (first.0) f.found in
-            let none : c.self.inside.given ≡ 0 = (i.given f.before at_first).none unused in
-            let some : 0 < length cell.bytes.items = rw (first.1, f.same_bytes) c.requires.some in
-            record {
-              block = λ used. omega (arith, none, some);
-              none = λ not_used. none;
-            }
-          | inr other ↦ i.given cell other
-        ];
+          elim (found-set cells place 0 f.block cell (rw f.items at there)) [
+            | inl first ↦
+                let at_first : slice_get cells 0 ≡ Some f.before = rw (first.0) f.found in
+                let none : c.self.inside.given ≡ 0 = (i.given f.before at_first).none unused in
+                let some : 0 < length cell.bytes.items = rw (first.1, f.same_bytes) c.requires.some in
+                record {
+                  block = λ used. omega (arith, none, some);
+                  none = λ not_used. none;
+                }
+            | inr other ↦ i.given cell other
+          ];
     }

@@ -1,13 +1,12 @@
-use Rattle.std.proofs.Common.{◌≡◌, ℕ, ◌+◌, ◌-◌, ◌<◌, ◌≤◌, Bool, true, false, List, [], ◌∷◌, ◌++◌, length, get_or, take, drop, min, Ok, Err, Some, refl, ap, ◌∙◌, sym, arith, inl, inr, append_assoc, rules}
-use Rattle.std.specs.Prelude.{All, slice_get}
+use Rattle.std.proofs.Common.{◌≡◌, ℕ, ◌+◌, ◌<◌, ◌≤◌, true, List, [], ◌++◌, length, take, drop, Err, Some, refl, ap, ◌∙◌, sym, arith, inl, inr, append_assoc, rules}
+use Rattle.std.specs.Prelude.{slice_get}
 use Rattle.std.proofs.lemmas.List.{length-take, length-drop}
 use Rattle.udt_model.specs.declared.answers.Refusal.TheVariants as refusal
-use Rattle.udt_model.specs.declared.limits.TheConstants.{PACKET_LIMIT}
 use Rattle.udt_model.specs.State.{Receiving}
-use Rattle.udt_model.specs.Receiving.{waiting, contiguous, receive_answer, after_receive, front_after, at_front}
+use Rattle.udt_model.specs.Receiving.{waiting, contiguous, receive_answer, at_front}
 use Rattle.udt_core.specs.declared.receiving.Cell.{Cell}
-use Rattle.udt_core.specs.Cells.{IsCell, IsGiven, IsGivenOf, IsRead, AreBelow, placed_from}
-use Rattle.udt_core.specs.ReceiveHalf.{receiving_of, front_of, IsReceiver}
+use Rattle.udt_core.specs.Cells.{placed_from}
+use Rattle.udt_core.specs.ReceiveHalf.{receiving_of, front_of}
 use Rattle.udt_core.proofs.CellLemmas.{front-more}
 use Rattle.udt_core.proofs.SettleLemmas.{front_stays}
 use Rattle.udt_core.proofs.ReadLemmas.{first_of, found_first, waits_not, waits_some, contiguous_first, answer_again, after_again, after_none, answer_read, after_reading, waiting_more, filled_take, filled_drop, drop_further}
@@ -28,7 +27,7 @@ some_cell c = omega (arith, c.self.inside.cells.ok.0, c.self.invariant.cells, c.
 none_waits : (c : goal.Then-not-waits) → waiting c.args.self.now ≡ []
 none_waits c =
     rw (← c.self.view_is)
-      (waits_not c.self.inside c.index.result.now (omega (arith, c.self.inside.cells.ok.0, c.self.invariant.cells, c.self.invariant.some)) c.index.ensures c.if-not-waits.true)
+    (waits_not c.self.inside c.index.result.now (omega (arith, c.self.inside.cells.ok.0, c.self.invariant.cells, c.self.invariant.some)) c.index.ensures c.if-not-waits.true)
 
 again : (c : goal.Then-not-waits) → receive_answer c.args.self.now (length c.args.into.now) ≡ Err refusal.AgainRecv
 again c = answer_again c.args.self.now (length c.args.into.now) (sym c.is_empty.ensures ∙ c.if-is_empty.false) (none_waits c)
@@ -116,7 +115,7 @@ loop-filled-preserved c =
     let len : length piece ≡ n = omega (arith, length-take n (drop r.given first.bytes.items), length-drop r.given first.bytes.items, count) in
     let all = contiguous_first r first (some_in_loop here) c.index-in-loop-filled-2.ensures (is_used here) in
     let more : waiting (receiving_of r) ≡ piece ++ drop (r.given + n) (contiguous r.base (placed_from r.base r.cells.items)) =
-      rw all.1 (waiting_more r.given n first.bytes.items all.0 (omega (arith, some, count))) in
+    rw all.1 (waiting_more r.given n first.bytes.items all.0 (omega (arith, some, count))) in
     let takes = filled_take c.loop-filled.into c.copy_from-count.new.into piece filled n within len c.copy_from-count.ensures.into in
     let drops = filled_drop c.loop-filled.into c.copy_from-count.new.into piece filled n within len c.copy_from-count.ensures.into in
     let front = front-more c.args.self.now.placed c.args.self.now.base (c.args.self.now.given + filled) n (front_of r) i.front in
@@ -157,7 +156,7 @@ returns-else-index-clause-reply c =
     let some : 0 < length r.cells.items = omega (arith, r.cells.ok.0, i.well.cells, i.well.some) in
     let none = waits_not r c.index-in-loop-filled.result.now some c.index-in-loop-filled.ensures c.if-index.false in
     answer_read c.args.self.now (length c.args.into.now) c.loop-filled.filled c.loop-filled.into (waiting (receiving_of r)) (sym c.is_empty.ensures ∙ c.if-is_empty.false)
-      (waited ((goal.at.returns-else-index-clause-reply c).Else-not-waits)) i.waits i.filled c.loop-filled.auto.into (inr none)
+    (waited ((goal.at.returns-else-index-clause-reply c).Else-not-waits)) i.waits i.filled c.loop-filled.auto.into (inr none)
 
 pub returns-else-index-clause-after : goal.returns-else-index-clause-after
 returns-else-index-clause-after c =
@@ -169,7 +168,7 @@ pub returns-after-loop-filled-clause-reply : goal.returns-after-loop-filled-clau
 returns-after-loop-filled-clause-reply c =
     let i = c.loop-filled.invariant in
     answer_read c.args.self.now (length c.args.into.now) c.loop-filled.filled c.loop-filled.into (waiting (receiving_of c.loop-filled.self-inside)) (sym c.is_empty.ensures ∙ c.if-is_empty.false)
-      (waited ((goal.at.returns-after-loop-filled-clause-reply c).Else-not-waits)) i.waits i.filled c.loop-filled.auto.into (inl (omega (arith, i.filled, c.loop-filled-test.false, c.loop-filled.auto.into)))
+    (waited ((goal.at.returns-after-loop-filled-clause-reply c).Else-not-waits)) i.waits i.filled c.loop-filled.auto.into (inl (omega (arith, i.filled, c.loop-filled-test.false, c.loop-filled.auto.into)))
 
 pub returns-after-loop-filled-clause-after : goal.returns-after-loop-filled-clause-after
 returns-after-loop-filled-clause-after c =

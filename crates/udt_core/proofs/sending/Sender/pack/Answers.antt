@@ -1,13 +1,7 @@
-use Rattle.std.proofs.Common.{rules, ◌≡◌, ℕ, ◌+◌, ◌-◌, ◌*◌, ◌<◌, ◌≤◌, min, [], ◌∷◌, ◌++◌, map, length, Some, refl, ap, ◌∙◌, sym, arith, get_or}
-use Rattle.std.specs.Prelude.{slice_get}
-use Rattle.std.specs.VecDeque.{deque_len}
-use Rattle.std.specs.Prelude.{All}
-use Rattle.std.proofs.lemmas.List.Elements.{All-get_or}
+use Rattle.std.proofs.Common.{◌≡◌, ◌-◌, ◌<◌, ◌≤◌, length, refl, ap, arith}
 use Rattle.udt_model.specs.declared.limits.TheConstants.{MOST_PAYLOAD}
-use Rattle.udt_model.specs.Wire.{spelling}
-use Rattle.udt_model.specs.Sending.{Packing, Sends, packing, after_pack, after_block, window}
+use Rattle.udt_model.specs.Sending.{Sends, packing}
 use Rattle.udt_core.specs.SendBlocks.{kept_block_of, IsSendBlock}
-use Rattle.udt_core.specs.Packings.{packed_answer, packed_datagrams}
 use Rattle.udt_core.proofs.PackLemmas.{packs_block, after_pack_block, block_read, length-spelling}
 use Rattle.udt_core.proofs.sending.Sender.pack.Goals as goal
 use Rattle.udt_core.proofs.sending.Sender.pack.Goals.{After-deref}
