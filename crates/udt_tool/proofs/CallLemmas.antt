@@ -1,16 +1,13 @@
 -- What the forms of lines do to a network that is shown.
-use Rattle.std.proofs.Common.{◌≡◌, ℕ, zero, suc, ◌+◌, ◌-◌, ◌<◌, ◌≤◌, Bool, true, false, not, ◌&&◌, cond, eqb, leb, List, [], ◌∷◌, ◌++◌, length, map, Some, None, Option, refl, ap, ◌∙◌, sym, arith, append_assoc}
-use Rattle.std.specs.Prelude.{slice_get, position, option_map, is_some, codes}
+use Rattle.std.proofs.Common.{◌≡◌, ℕ, zero, suc, ◌+◌, ◌-◌, ◌<◌, ◌≤◌, Bool, true, false, not, cond, eqb, List, [], ◌∷◌, ◌++◌, length, map, Some, None, Option, refl, ap, ◌∙◌, sym, arith, append_assoc}
+use Rattle.std.specs.Prelude.{slice_get, position, is_some, codes}
 use Rattle.std.specs.List.{prefix_len}
-use Rattle.std.proofs.lemmas.Bool.{ne_eqb, lt-leb, le-leb}
-use Rattle.std.proofs.lemmas.List.{map-append, length-map, append-nil}
+use Rattle.std.proofs.lemmas.Bool.{ne_eqb}
+use Rattle.std.proofs.lemmas.List.{map-append, length-map}
 use Rattle.std.proofs.lemmas.Option.{slice_get-map, slice_get_past}
-use Rattle.udt_model.specs.declared.addresses.Addr.{Addr}
-use Rattle.udt_model.specs.declared.limits.TheConstants.{MOST_SOCKETS}
 use Rattle.udt_model.specs.Addresses.{same_addr}
 use Rattle.udt_model.specs.Lines as lines
-use Rattle.udt_model.specs.Step.{Act, Arrive, Event, opening}
-use Rattle.udt_model.specs.History.{after_items}
+use Rattle.udt_model.specs.Step.{Act}
 use Rattle.udt_model.specs.Wire.{target}
 use Rattle.udt_model.specs.Words.{is_word}
 use Rattle.udt_model.specs.Script as model
@@ -149,8 +146,16 @@ paired_shown n seats new_seats letters p a b own shows own_is a_is b_is grown =
     let a_there = rw (second, first) at a_is in
     let b_there = rw (second, first) at b_is in
     record {
-      seats_are = rw (grown, map-append sight_of (seats ++ a ∷ []) (b ∷ []), map-append sight_of seats (a ∷ []), shows.seats_are, a_there, b_there, append_assoc,
-        map-append sight_of_history n.seats) refl;
+      seats_are = rw (
+        grown,
+        map-append sight_of (seats ++ a ∷ []) (b ∷ []),
+        map-append sight_of seats (a ∷ []),
+        shows.seats_are,
+        a_there,
+        b_there,
+        append_assoc,
+        map-append sight_of_history n.seats,
+      ) refl;
       letters_are = shows.letters_are;
     }
 

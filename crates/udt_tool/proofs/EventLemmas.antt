@@ -1,11 +1,11 @@
 -- What an event does to a network.
-use Rattle.std.proofs.Common.{◌≡◌, ℕ, zero, suc, ◌+◌, ◌<◌, ◌≤◌, List, [], ◌∷◌, ◌++◌, length, map, take, drop, get_or, set, Some, None, Option, refl, ap, ◌∙◌, sym, arith, append_assoc}
+use Rattle.std.proofs.Common.{◌≡◌, ℕ, suc, ◌+◌, ◌≤◌, List, [], ◌∷◌, ◌++◌, length, map, take, get_or, Some, refl, ap, ◌∙◌, sym, arith, append_assoc}
 use Rattle.std.specs.Prelude.{slice_get, slice_set, Result, Ok, Err, OnOk, OnErr}
-use Rattle.std.proofs.lemmas.List.{append-nil, map-append, length-append, length-map, map-set, map_more, take_at, take-take}
+use Rattle.std.proofs.lemmas.List.{append-nil, length-append, length-map, map-set, map_more, take_at, take-take}
 use Rattle.std.proofs.lemmas.Option.{slice_get-map, slice_get_within, get_or_from_slice_get}
 use Rattle.udt_model.specs.declared.addresses.Addr.{Addr}
 use Rattle.udt_model.specs.State.{State, Datagram}
-use Rattle.udt_model.specs.Step.{Act, Send, Recv, Pack, Arrive, Event, step}
+use Rattle.udt_model.specs.Step.{Send, Recv, Event, step}
 use Rattle.udt_model.specs.History.{state_of, happened}
 use Rattle.udt_model.proofs.HistoryLemmas.{state_of-happened}
 use Rattle.udt_model.specs.Script as model
@@ -65,12 +65,11 @@ event_shown network place known event seats new_seats letters new_letters text n
     let name : h.before.name.items ≡ known.name = ap (λ s. s.name) same in
     let next : state_of (happened known.history 0 event) ≡ (step (state_of known.history) event).after = state_of-happened known.history 0 event in
     let after : sight_of h.after ≡ sight_of_history (record known { history = happened known.history 0 event }) =
-      let same_name = h.same_name ∙ name in
-      let same_host = h.same_host ∙ host in
-      let same_state = h.stepped ∙ (ap (λ (s : State). (step s event).after) state ∙ sym next) in
-      rw (same_name, same_host, same_state) refl in
-    let count : length letters ≡ length network.letters = sym (length-map letters letter_of) ∙ ap length shows.letters_are in
-    (
+    let same_name = h.same_name ∙ name in
+    let same_host = h.same_host ∙ host in
+    let same_state = h.stepped ∙ (ap (λ (s : State). (step s event).after) state ∙ sym next) in
+    rw (same_name, same_host, same_state) refl in
+    let count : length letters ≡ length network.letters = sym (length-map letters letter_of) ∙ ap length shows.letters_are in (
       record {
         seats_are = rw (h.set, map-set sight_of seats place h.after, map-set sight_of_history network.seats place (record known { history = happened known.history 0 event }), shows.seats_are, after) refl;
         letters_are = rw (h.mailed, shows.letters_are, state, host) refl;

@@ -107,7 +107,7 @@ pub accepted : (did : Bool) (lines new_lines : List (List ℕ)) (line : List ℕ
     → Accepted lines new_lines line new_seats new_letters before after
 accepted true lines new_lines line seats new_seats letters new_letters before after is shows fits kept does =
     accepted_by (network_after lines) (played_line (network_after lines) line) lines new_lines line new_seats new_letters before after
-      kept (printed-fits lines line fits) (one_more model.empty_network lines line) (does (network_after lines) shows)
+    kept (printed-fits lines line fits) (one_more model.empty_network lines line) (does (network_after lines) shows)
 accepted false lines new_lines line seats new_seats letters new_letters before after is shows fits kept does = absurd (cc)
 
 pub refused : (did : Bool) (lines new_lines : List (List ℕ)) (line : List ℕ) (seats new_seats : List Seat) (letters new_letters : List Letter) (before after : List ℕ)
@@ -116,7 +116,7 @@ pub refused : (did : Bool) (lines new_lines : List (List ℕ)) (line : List ℕ)
     → Refused lines new_lines line new_seats new_letters before after
 refused false lines new_lines line seats new_seats letters new_letters before after is shows fits kept does =
     refused_by (network_after lines) (played_line (network_after lines) line) lines new_lines line new_seats new_letters before after
-      kept (printed-fits lines line fits) refl (does (network_after lines) shows)
+    kept (printed-fits lines line fits) refl (does (network_after lines) shows)
 refused true lines new_lines line seats new_seats letters new_letters before after is shows fits kept does = absurd (cc)
 
 -- ---- prefixes

@@ -42,4 +42,4 @@ pub record HasEvent (place : ℕ) (event : Event) (seats : List Seat) (letters :
   pub mailed : map letter_of new_letters ≡ map letter_of letters ++ map (letter_from before.host) (step before.socket event).outs
   pub printed : new_text
       ≡ text ++ (event_text before.name.items (step before.socket event).reply
-        ++ letters_text (length letters) (map (letter_from before.host) (step before.socket event).outs))
+      ++ letters_text (length letters) (map (letter_from before.host) (step before.socket event).outs))

@@ -41,7 +41,7 @@ pub fn send(
     ensures done { IfOk result (λ did. (n : model.Network) (letters : List Letter)
         → Shows n seats.old.items letters
         → DoesLine n (on_line n (SendLine name.now now bytes.now)) did
-            seats.new.items letters out.old.items out.new.items) }
+        seats.new.items letters out.old.items out.new.items) }
     ensures err { OnErr result (take (vec_len out.old) out.new.items ≡ out.old.items) }
 {
     match place_of(seats, name) {
@@ -65,7 +65,7 @@ pub fn recv(
     ensures done { IfOk result (λ did. (n : model.Network) (letters : List Letter)
         → Shows n seats.old.items letters
         → DoesLine n (on_line n (RecvLine name.now now room)) did
-            seats.new.items letters out.old.items out.new.items) }
+        seats.new.items letters out.old.items out.new.items) }
     ensures err { OnErr result (take (vec_len out.old) out.new.items ≡ out.old.items) }
 {
     match place_of(seats, name) {
@@ -89,7 +89,7 @@ pub fn pack(
 ) -> Result<bool, AllocError>
     ensures done { IfOk result (λ did. (n : model.Network) → Shows n seats.old.items letters.old.items
         → DoesLine n (on_line n (PackLine name.now now)) did
-            seats.new.items letters.new.items out.old.items out.new.items) }
+        seats.new.items letters.new.items out.old.items out.new.items) }
     ensures err { OnErr result (take (vec_len out.old) out.new.items ≡ out.old.items) }
 {
     match place_of(seats, name) {
@@ -161,7 +161,7 @@ pub fn deliver(
 ) -> Result<bool, AllocError>
     ensures done { IfOk result (λ did. (n : model.Network) → Shows n seats.old.items letters.old.items
         → DoesLine n (on_line n (DeliverLine number now)) did
-            seats.new.items letters.new.items out.old.items out.new.items) }
+        seats.new.items letters.new.items out.old.items out.new.items) }
     ensures err { OnErr result (take (vec_len out.old) out.new.items ≡ out.old.items) }
 {
     if number >= letters.len() as u64 {
@@ -240,7 +240,7 @@ pub fn pair(
     ensures done { IfOk result (λ did. (n : model.Network) (letters : List Letter)
         → Shows n seats.old.items letters
         → DoesLine n (on_line n (PairLine (pairing_of pairing.now))) did
-            seats.new.items letters out.old.items out.new.items) }
+        seats.new.items letters out.old.items out.new.items) }
     ensures err { OnErr result (take (vec_len out.old) out.new.items ≡ out.old.items) }
 {
     if !may_pair(seats, pairing) {
@@ -248,8 +248,24 @@ pub fn pair(
     }
     let count = seats.len();
     let own = count as u32 + 1;
-    let a = open(alloc, pairing, pairing.a, FIRST_HOST, own, SECOND_HOST, own + 1)?;
-    let b = open(alloc, pairing, pairing.b, SECOND_HOST, own + 1, FIRST_HOST, own)?;
+    let a = open(
+        alloc,
+        pairing,
+        pairing.a,
+        FIRST_HOST,
+        own,
+        SECOND_HOST,
+        own + 1,
+    )?;
+    let b = open(
+        alloc,
+        pairing,
+        pairing.b,
+        SECOND_HOST,
+        own + 1,
+        FIRST_HOST,
+        own,
+    )?;
     seats.push(a)?;
     seats.push(b)?;
     print_pair(out, pairing, count)?;

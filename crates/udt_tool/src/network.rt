@@ -78,7 +78,12 @@ pub fn send_at(
 }
 
 // A receive of this socket into this room.
-fn recv_into(seat: &mut Seat, now: u64, into: &mut [u8], out: &mut Vec<u8>) -> Result<(), AllocError>
+fn recv_into(
+    seat: &mut Seat,
+    now: u64,
+    into: &mut [u8],
+    out: &mut Vec<u8>,
+) -> Result<(), AllocError>
     ensures same { seat.new ≡ record seat.old { socket = seat.new.socket } }
     ensures stepped { seat.new.socket
         ≡ (step seat.old.socket (record { now = now; act = Recv (length into.old) })).after }
@@ -148,8 +153,8 @@ pub fn arrive_at(
     requires number { number < vec_len letters.old }
     ensures ok { OnOk result ((letter : Letter) → slice_get letters.old.items number ≡ Some letter
         → HasEvent place (record { now = now; act = Arrive letter.from letter.bytes.items })
-            seats.old.items letters.old.items out.old.items
-            seats.new.items letters.new.items out.new.items) }
+        seats.old.items letters.old.items out.old.items
+        seats.new.items letters.new.items out.new.items) }
     ensures err { OnErr result (take (vec_len out.old) out.new.items ≡ out.old.items) }
 {
     let letter = &letters[number];

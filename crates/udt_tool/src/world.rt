@@ -61,7 +61,7 @@ fn do_line(
     requires { IsInRange line.now }
     ensures done { IfOk result (λ did. (n : model.Network) → Shows n seats.old.items letters.old.items
         → DoesLine n (on_line n (line_of line.now)) did
-            seats.new.items letters.new.items out.old.items out.new.items) }
+        seats.new.items letters.new.items out.old.items out.new.items) }
     ensures err { OnErr result (take (vec_len out.old) out.new.items ≡ out.old.items) }
 {
     match line {
@@ -85,7 +85,7 @@ fn play_line(
 ) -> Result<bool, AllocError>
     ensures done { IfOk result (λ did. (n : model.Network) → Shows n seats.old.items letters.old.items
         → DoesLine n (played_line n line.now) did
-            seats.new.items letters.new.items out.old.items out.new.items) }
+        seats.new.items letters.new.items out.old.items out.new.items) }
     ensures err { OnErr result (take (vec_len out.old) out.new.items ≡ out.old.items) }
 {
     let Some(read) = read_line(alloc, line)? else {
@@ -119,7 +119,7 @@ fn keep_line(
         map items_of lines.new.items ≡ kept_lines did (map items_of lines.old.items) line.now) }
     ensures done { IfOk result (λ did. (n : model.Network) → Shows n seats.old.items letters.old.items
         → DoesLine n (played_line n line.now) did
-            seats.new.items letters.new.items out.old.items out.new.items) }
+        seats.new.items letters.new.items out.old.items out.new.items) }
     ensures err { OnErr result (take (vec_len out.old) out.new.items ≡ out.old.items) }
 {
     let kept = Vec::from_slice(alloc, line)?;

@@ -1,9 +1,8 @@
-use Rattle.std.proofs.Common.{◌≡◌, ◌<◌, ◌∷◌, [], length, Some, refl, ap, ◌∙◌, sym, arith, append_assoc}
+use Rattle.std.proofs.Common.{◌≡◌, length, Some, refl, ◌∙◌, arith, append_assoc}
 use Rattle.std.specs.Prelude.{slice_get, codes}
 use Rattle.udt_model.specs.Script.{ended}
 use Rattle.std.proofs.lemmas.Option.{slice_get_read}
-use Rattle.udt_tool.specs.Seats.{letter_of, Shows}
-use Rattle.udt_tool.proofs.CallLemmas.{letter_at, no_letter_at}
+use Rattle.udt_tool.proofs.CallLemmas.{letter_at}
 use Rattle.udt_tool.proofs.EventLemmas.{event_shown}
 use Rattle.udt_model.specs.Step.{Arrive}
 use Rattle.udt_tool.proofs.calls.deliver.Goals as goal
@@ -48,5 +47,5 @@ returns-in_ok-arrive_at-in-To-clause-done c = λ n shows.
     let there = letter_at n c.args.seats.now.items c.args.letters.now.items c.args.number letter shows (found here) in
     let goes = c.in-To.ensures.value n c.args.letters.now.items (rw c.deref.ensures.value shows) in
     rw (there, goes.2)
-      (event_shown n c.in-To.place goes.0 (record { now = c.args.now; act = Arrive letter.from letter.bytes.items }) c.args.seats.now.items c.arrive_at.new.seats.items c.args.letters.now.items c.arrive_at.new.letters.items
-        c.args.out.now.items c.arrive_at.new.out.items shows goes.1 (c.in_ok-arrive_at-in-To.ensures.ok letter (found here)))
+    (event_shown n c.in-To.place goes.0 (record { now = c.args.now; act = Arrive letter.from letter.bytes.items }) c.args.seats.now.items c.arrive_at.new.seats.items c.args.letters.now.items c.arrive_at.new.letters.items
+    c.args.out.now.items c.arrive_at.new.out.items shows goes.1 (c.in_ok-arrive_at-in-To.ensures.ok letter (found here)))

@@ -1,4 +1,4 @@
-use Rattle.std.proofs.Common.{◌≡◌, refl}
+use Rattle.std.proofs.Common.{refl}
 use Rattle.udt_model.specs.History.{after_items}
 use Rattle.udt_tool.proofs.calls.open.Goals as goal
 

@@ -9,4 +9,4 @@ returns-in-None-clause-done c = λ n shows.
 pub returns-in_ok-pack_at-in-Some-clause-done : goal.returns-in_ok-pack_at-in-Some-clause-done
 returns-in_ok-pack_at-in-Some-clause-done c = λ n shows.
     call_done n c.args.seats.now.items c.pack_at.new.seats.items c.args.letters.now.items c.pack_at.new.letters.items c.args.out.now.items c.pack_at.new.out.items c.args.name.now c.args.now Pack c.in-Some.place
-      shows (rw c.deref.ensures.value at c.in-Some.ensures.value) (rw c.deref.ensures.value at c.in-Some.ensures.within) c.in_ok-pack_at-in-Some.ensures.ok
+    shows (rw c.deref.ensures.value at c.in-Some.ensures.value) (rw c.deref.ensures.value at c.in-Some.ensures.within) c.in_ok-pack_at-in-Some.ensures.ok

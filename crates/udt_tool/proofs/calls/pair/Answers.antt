@@ -14,6 +14,7 @@ returns-clause-done c = λ n letters shows.
     let grown = c.in_ok-push-2.ensures.items ∙ ap (λ (s : List Seat). s ++ c.in_ok-b.b ∷ []) c.in_ok-push.ensures.items in
     let count : c.len-count.result ≡ length n.seats = omega (arith, c.len-count.ensures, seats.ok.0, count_same n seats.items letters shows) in
     let own : c.len-count.result + 1 ≡ length seats.items + 1 = omega (arith, c.len-count.ensures, seats.ok.0) in
-    rw (← may)
-      (paired_shown n seats.items c.push-2.new.self.items letters pairing c.in_ok-a.a c.in_ok-b.b (c.len-count.result + 1) shows own c.in_ok-a.ensures c.in_ok-b.ensures grown,
-        c.in_ok-print_pair.ensures.ok ∙ rw (paired_text n pairing, count) refl)
+    rw (← may) (
+      paired_shown n seats.items c.push-2.new.self.items letters pairing c.in_ok-a.a c.in_ok-b.b (c.len-count.result + 1) shows own c.in_ok-a.ensures c.in_ok-b.ensures grown,
+      c.in_ok-print_pair.ensures.ok ∙ rw (paired_text n pairing, count) refl,
+    )

@@ -1,4 +1,4 @@
-use Rattle.std.proofs.Common.{◌≡◌, refl, sym}
+use Rattle.std.proofs.Common.{refl, sym}
 use Rattle.udt_tool.specs.Seats.{letter_of}
 use Rattle.udt_tool.proofs.CallLemmas.{route_short}
 use Rattle.udt_tool.proofs.calls.route_of.Goals as goal

@@ -1,8 +1,5 @@
-use Rattle.std.proofs.Common.{◌≡◌, ℕ, List, ◌++◌, length, map, vec_len, get_or, Some, refl, ap, ◌∙◌, sym, arith, append_assoc}
-use Rattle.std.specs.Prelude.{slice_get}
+use Rattle.std.proofs.Common.{◌≡◌, length, vec_len, refl, ◌∙◌, sym, arith, append_assoc}
 use Rattle.std.proofs.lemmas.Option.{slice_get_read}
-use Rattle.udt_model.specs.Script.{letter_from, event_text, letters_text}
-use Rattle.udt_tool.specs.declared.network.Letter.{Letter}
 use Rattle.udt_tool.proofs.EventLemmas.{on_ok_both, same_Some}
 use Rattle.udt_tool.proofs.network.arrive_at.Goals as goal
 
@@ -15,17 +12,17 @@ returns-clause-ok c =
     let count : length letters_now.items ≡ vec_len letters_now = omega (arith, letters_now.ok.0) in
     let read = slice_get_read letters_now.items (length letters_now.items) c.args.number c.index-letter.result.now refl (omega (arith, letters_now.ok.0, c.requires.number)) c.index-letter.ensures in
     on_ok_both c.mail.result
-      (λ letters text letter there.
-        let same : letter ≡ c.index-letter.result.now = same_Some letter c.index-letter.result.now (sym there ∙ read) in
-        rw same (record {
-          before = seat;
-          after = record seat { socket = c.arrive-answer.new.self };
-          found = slice_get_read seats.items (length seats.items) c.args.place seat refl (omega (arith, seats.ok.0, c.requires.place)) c.index_mut-seat.ensures.value;
-          set = refl;
-          same_name = refl;
-          same_host = refl;
-          stepped = rw (← c.deref.ensures.value) c.arrive-answer.ensures.after;
-          mailed = rw (← c.deref.ensures.value, ← c.arrive-answer.ensures.outs) letters;
-          printed = text ∙ rw (c.in_ok-print_heard.ensures.ok, count, ← c.deref.ensures.value, ← c.arrive-answer.ensures.outs, ← c.arrive-answer.ensures.reply, ← c.deref-2.ensures.value, append_assoc) refl;
-        }))
-      c.mail.ensures.letters c.mail.ensures.text
+    (λ letters text letter there.
+    let same : letter ≡ c.index-letter.result.now = same_Some letter c.index-letter.result.now (sym there ∙ read) in
+    rw same (record {
+      before = seat;
+      after = record seat { socket = c.arrive-answer.new.self };
+      found = slice_get_read seats.items (length seats.items) c.args.place seat refl (omega (arith, seats.ok.0, c.requires.place)) c.index_mut-seat.ensures.value;
+      set = refl;
+      same_name = refl;
+      same_host = refl;
+      stepped = rw (← c.deref.ensures.value) c.arrive-answer.ensures.after;
+      mailed = rw (← c.deref.ensures.value, ← c.arrive-answer.ensures.outs) letters;
+      printed = text ∙ rw (c.in_ok-print_heard.ensures.ok, count, ← c.deref.ensures.value, ← c.arrive-answer.ensures.outs, ← c.arrive-answer.ensures.reply, ← c.deref-2.ensures.value, append_assoc) refl;
+    }))
+    c.mail.ensures.letters c.mail.ensures.text

@@ -1,4 +1,4 @@
-use Rattle.std.proofs.Common.{◌≡◌, ℕ, List, length, vec_len, refl, ap, ◌∙◌, sym, arith}
+use Rattle.std.proofs.Common.{◌≡◌, length, refl, ap, arith}
 use Rattle.std.proofs.lemmas.Option.{slice_get_read}
 use Rattle.std.proofs.lemmas.Result.{on_ok_weaker}
 use Rattle.udt_tool.specs.declared.network.Seat.{Seat}
@@ -14,7 +14,7 @@ returns-clause-ok c =
     let stepped = rw room at c.recv_into.ensures.stepped in
     let same = c.recv_into.ensures.same in
     on_ok_weaker c.recv_into.result
-      (λ printed letters. is_call c.args.place _ seats.items _ letters c.args.out.now.items _ seat c.recv_into.new.seat
-        (slice_get_read seats.items (length seats.items) c.args.place seat refl (omega (arith, seats.ok.0)) c.index_mut.ensures.value) refl
-        (ap (λ (s : Seat). s.name.items) same) (ap (λ (s : Seat). s.host) same) stepped (recv-outs seat.socket c.args.now c.args.room) (rw room at printed))
-      c.recv_into.ensures.text
+    (λ printed letters. is_call c.args.place _ seats.items _ letters c.args.out.now.items _ seat c.recv_into.new.seat
+    (slice_get_read seats.items (length seats.items) c.args.place seat refl (omega (arith, seats.ok.0)) c.index_mut.ensures.value) refl
+    (ap (λ (s : Seat). s.name.items) same) (ap (λ (s : Seat). s.host) same) stepped (recv-outs seat.socket c.args.now c.args.room) (rw room at printed))
+    c.recv_into.ensures.text

@@ -1,8 +1,8 @@
-use Rattle.std.proofs.Common.{◌≡◌, ◌∙◌, ◌+◌, ◌<◌, ◌≤◌, Bool, true, false, List, ℕ, Some, None, Option, map, length, refl, sym, ap, arith}
+use Rattle.std.proofs.Common.{◌≡◌, ◌+◌, ◌≤◌, false, Some, map, length, refl, sym, ap, arith}
 use Rattle.udt_model.specs.Script.{size_of, fits_behind}
 use Rattle.udt_tool.specs.Kept.{items_of}
-use Rattle.udt_tool.specs.Worlds.{lines_in, lines_of}
-use Rattle.udt_tool.specs.ScriptLines.{AnswersLine, RefusesLine}
+use Rattle.udt_tool.specs.Worlds.{lines_in}
+use Rattle.udt_tool.specs.ScriptLines.{RefusesLine}
 use Rattle.udt_tool.proofs.WorldLemmas.{fits, printed-none, refused_size, refused_line, accepted, refused, Accepted, Refused, keeps_few, keeps}
 use Rattle.udt_laws.proofs.Scripts.{lines-within}
 use Rattle.udt_tool.proofs.world.World.line.Goals as goal
@@ -18,7 +18,7 @@ returns-then-len-gt-LONGEST_LINE-clause-answer c =
       | then-len-gt-LONGEST_LINE-via-else-len-gt-LONGEST_LINE+then-self-len-gt-LONGEST_SCRIPT w ↦ refused_size (lines_in c.self.inside) c.args.line.now (omega (arith, size, w.if-self-len-gt-LONGEST_SCRIPT))
     ] in
     let refuses : RefusesLine (lines_in c.self.inside) c.args.line.now (Some (lines_in c.self.inside)) c.args.out.now.items c.args.out.now.items =
-      record { refused = printed-none (lines_in c.self.inside) c.args.line.now not_in; same = refl; output = refl } in
+    record { refused = printed-none (lines_in c.self.inside) c.args.line.now not_in; same = refl; output = refl } in
     rw (sym here) refuses
 
 -- src/world.rt:159:13
@@ -32,9 +32,9 @@ was_accepted c =
     let one : length c.args.line.now ≤ 65536 = omega (arith, c.if-len-gt-LONGEST_LINE.false) in
     let whole : size_of (lines_in c.self.inside) + length c.args.line.now ≤ 67108864 = omega (arith, size, c.if-self-len-gt-LONGEST_SCRIPT.false) in
     accepted c.in-Ok-true.field-0 (lines_in c.self.inside) (map items_of c.keep_line.new.lines.items) c.args.line.now
-      c.self.inside.seats.items c.keep_line.new.seats.items c.self.inside.letters.items c.keep_line.new.letters.items c.args.out.now.items c.keep_line.new.out.items
-      c.in-Ok-true.field-0-test (c.self.invariant.shown c.if-self.false) (fits (lines_in c.self.inside) c.args.line.now whole one)
-      c.in-Ok-true.ensures.lines c.in-Ok-true.ensures.done
+    c.self.inside.seats.items c.keep_line.new.seats.items c.self.inside.letters.items c.keep_line.new.letters.items c.args.out.now.items c.keep_line.new.out.items
+    c.in-Ok-true.field-0-test (c.self.invariant.shown c.if-self.false) (fits (lines_in c.self.inside) c.args.line.now whole one)
+    c.in-Ok-true.ensures.lines c.in-Ok-true.ensures.done
 
 -- src/world.rt:173:17
 pub invariant_of-self : goal.invariant_of-self
@@ -64,9 +64,9 @@ was_refused c =
     let one : length c.args.line.now ≤ 65536 = omega (arith, c.if-len-gt-LONGEST_LINE.false) in
     let whole : size_of (lines_in c.self.inside) + length c.args.line.now ≤ 67108864 = omega (arith, size, c.if-self-len-gt-LONGEST_SCRIPT.false) in
     refused c.in-Ok-false.field-0 (lines_in c.self.inside) (map items_of c.keep_line.new.lines.items) c.args.line.now
-      c.self.inside.seats.items c.keep_line.new.seats.items c.self.inside.letters.items c.keep_line.new.letters.items c.args.out.now.items c.keep_line.new.out.items
-      c.in-Ok-false.field-0-test (c.self.invariant.shown c.if-self.false) (fits (lines_in c.self.inside) c.args.line.now whole one)
-      c.in-Ok-false.ensures.lines c.in-Ok-false.ensures.done
+    c.self.inside.seats.items c.keep_line.new.seats.items c.self.inside.letters.items c.keep_line.new.letters.items c.args.out.now.items c.keep_line.new.out.items
+    c.in-Ok-false.field-0-test (c.self.invariant.shown c.if-self.false) (fits (lines_in c.self.inside) c.args.line.now whole one)
+    c.in-Ok-false.ensures.lines c.in-Ok-false.ensures.done
 
 -- src/world.rt:150:5
 pub returns-in-Ok-false-clause-answer : goal.returns-in-Ok-false-clause-answer

@@ -1,4 +1,4 @@
-use Rattle.std.proofs.Common.{◌≡◌, ◌∙◌, List, ℕ, [], map, refl, ap, arith}
+use Rattle.std.proofs.Common.{◌≡◌, ◌∙◌, [], map, refl, ap, arith}
 use Rattle.udt_model.specs.Script as model
 use Rattle.udt_model.specs.Script.{network_after, size_of}
 use Rattle.udt_tool.specs.Kept.{items_of}
