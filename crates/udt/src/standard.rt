@@ -1,6 +1,6 @@
 // Standard input and output, which count their faults and tell nothing of their bytes.
 
-ghost use Rattle.std.specs.Prelude.{None};
+ghost use Rattle.std.specs.Prelude.{◌≡◌, None};
 
 use std::io::{Read, Write};
 use udt_outside::{Failed, Sink, Source};
@@ -14,7 +14,10 @@ pub struct Input<R> {
 
 impl<R> Input<R> {
     /// An input that has not failed.
-    pub fn new(reader: R) -> Input<R> {
+    pub fn new(reader: R) -> Input<R>
+        ensures reader { result.reader ≡ reader }
+        ensures failed { result.failed ≡ 0 }
+    {
         Input { reader, failed: 0 }
     }
 }
@@ -44,7 +47,10 @@ pub struct Output<W> {
 
 impl<W> Output<W> {
     /// An output that has not failed.
-    pub fn new(writer: W) -> Output<W> {
+    pub fn new(writer: W) -> Output<W>
+        ensures writer { result.writer ≡ writer }
+        ensures failed { result.failed ≡ 0 }
+    {
         Output { writer, failed: 0 }
     }
 }
