@@ -1,6 +1,7 @@
 pub mod Addresses
 pub mod Numbers
 pub mod Wire
+pub mod Losses
 pub mod State
 pub mod Sending
 pub mod Receiving

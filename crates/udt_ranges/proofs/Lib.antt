@@ -1,0 +1,11 @@
+pub mod RisingLemmas
+pub mod SeatLemmas
+pub mod ChainLemmas
+pub mod StepLemmas
+pub mod ReadLemmas
+pub mod SeekLemmas
+pub mod PlaceLemmas
+pub mod ItemLemmas
+pub mod MaximalLemmas
+pub mod EditLemmas
+pub mod OffsetLemmas

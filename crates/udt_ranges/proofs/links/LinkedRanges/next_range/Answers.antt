@@ -1,0 +1,14 @@
+use Rattle.std.proofs.Common.{◌≡◌, ap, sym, ◌∙◌, Some}
+use Rattle.udt_ranges.specs.Seats.{begins_at, behind, head_of, first_of}
+use Rattle.udt_ranges.proofs.PlaceLemmas.{found}
+use Rattle.udt_ranges.proofs.links.LinkedRanges.next_range.Goals as goal
+
+pub read-requires : goal.read-requires
+read-requires c =
+    let s = c.args.self.now in
+    (found s.window c.args.seat s.ranges c.in_ok-next.next c.requires c.in_ok-next.ensures.within c.in_ok-next.ensures.value).begins
+
+pub returns-clause-value : goal.returns-clause-value
+returns-clause-value c =
+    let s = c.args.self.now in
+    (found s.window c.args.seat s.ranges c.in_ok-next.next c.requires c.in_ok-next.ensures.within c.in_ok-next.ensures.value).is c.read.result c.read.ensures.value

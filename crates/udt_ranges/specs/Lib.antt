@@ -1,0 +1,4 @@
+pub mod Ranges
+pub mod Offsets
+pub mod Seats
+pub mod Chains

@@ -1,0 +1,4 @@
+pub mod MissingLemmas
+pub mod RunLemmas
+pub mod ReportLemmas
+pub mod PlainLemmas

@@ -1,0 +1,12 @@
+use Rattle.std.proofs.Common.{◌≡◌, ℕ, ◌+◌, ◌-◌, ◌<◌, ◌≤◌, [], length, map, refl, sym, ap, subst, ◌∙◌, arith}
+use Rattle.udt_model.specs.Losses.{with_missing, without_missing, is_missing, missing_ranges}
+use Rattle.udt_ranges.specs.Ranges.{Rises, IsWithin, IsMaximal, items_of}
+use Rattle.udt_rcv_loss.specs.Absent.{MissingList, IsInWindow}
+use Rattle.udt_rcv_loss.specs.Inside.{IsMissingList}
+use Rattle.udt_rcv_loss.proofs.MissingLemmas.{listed_is}
+use Rattle.udt_rcv_loss.proofs.list.RcvLoss.remove.Goals as goal
+
+pub returns-clause-value : goal.returns-clause-value
+returns-clause-value c =
+    let l = c.self.inside in
+    rw (← c.self.view_is) (listed_is c.args.n c.cut.result (items_of l.ranges.ranges) (ap (λ xs. c.cut.result + length xs) (sym c.cut.ensures.next) ∙ c.cut.ensures.count))

@@ -1,0 +1,18 @@
+use Rattle.std.proofs.Common.{◌≡◌, ◌+◌, ◌<◌, ◌≤◌, refl, sym, ap, subst, ◌∙◌, arith}
+use Rattle.udt_rcv_loss.specs.Absent.{AllBelow, AllFrom, first_or}
+use Rattle.udt_rcv_loss.proofs.MissingLemmas.{AllBelow-higher, AllBelow-with, AllBelow-without, AllBelow-report, AllBelow-least, AllFrom-with, AllFrom-without, AllFrom-report, AllFrom-least, AllFrom-none, first_or-from, none_first}
+use Rattle.udt_rcv_loss.proofs.tests.Both.due.Goals as goal
+
+pub invariant_of-self-2 : goal.invariant_of-self-2
+invariant_of-self-2 c =
+    let b = c.self.inside in
+    let i = c.self.invariant in
+    let e = c.due-2.ensures.next in
+    let taken = c.due-2.new.into.ranges in (
+      subst (λ l. AllBelow b.next l.missing) (sym e) (AllBelow-report b.next c.args.now taken b.linked.missing i.0),
+      subst (λ l. AllFrom b.base l.missing) (sym e) (AllFrom-report b.base c.args.now taken b.linked.missing i.1),
+      ap (λ l. l.window) e ∙ i.2,
+      c.due-2.ensures.kept ∙ i.3,
+      i.4,
+      i.5,
+    )

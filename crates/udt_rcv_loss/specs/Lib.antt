@@ -1,0 +1,5 @@
+pub mod Absent
+pub mod Reports
+pub mod Inside
+pub mod Runs
+pub mod Plain

@@ -1,0 +1,2 @@
+pub mod UnreportedLemmas
+pub mod PlainLemmas

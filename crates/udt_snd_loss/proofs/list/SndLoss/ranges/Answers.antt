@@ -1,0 +1,15 @@
+use Rattle.std.proofs.Common.{◌≡◌, ℕ, ◌+◌, ◌-◌, ◌<◌, ◌≤◌, ltb, ◌||◌, ◌++◌, [], length, map, filter, drop, refl, sym, ap, subst, ◌∙◌, arith, length-append, Some, None}
+use Rattle.std.proofs.lemmas.List.{length-map}
+use Rattle.udt_model.specs.Losses.{Missing, with_range, from_offset, without_range, without_missing, offsets_between}
+use Rattle.udt_ranges.specs.Ranges.{Rises, IsMaximal, items_of, items_of_range}
+use Rattle.udt_ranges.specs.Offsets.{offsets_in, Rising, least}
+use Rattle.udt_snd_loss.specs.Lost.{LossList}
+use Rattle.udt_snd_loss.specs.Inside.{Unreported, IsLossList}
+use Rattle.udt_snd_loss.proofs.UnreportedLemmas.{ranges_of-items, ends_of}
+use Rattle.udt_snd_loss.proofs.list.SndLoss.ranges.Goals as goal
+
+pub returns : goal.returns
+returns c =
+    let l = c.self.inside in
+    let i = c.self.invariant in
+    rw (← c.self.view_is) (c.count.ensures.value ∙ sym (length-map l.ranges.ranges ends_of) ∙ sym (ap length (ranges_of-items l.floor (l.floor + l.ranges.window) l.ranges.ranges i.rises i.maximal i.unreported)))
