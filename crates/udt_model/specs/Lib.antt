@@ -14,3 +14,5 @@ pub mod Timing
 pub mod Records
 pub mod Controls
 pub mod Rate
+pub mod SendBlocks
+pub mod ReceiveBlocks

@@ -1,0 +1,185 @@
+-- What is kept in mind of parts, when parts change.
+use Rattle.std.proofs.Common.{◌≡◌, ℕ, zero, suc, ◌+◌, ◌-◌, ◌<◌, ◌≤◌, max, Bool, not, true, false, cond, List, [], ◌∷◌, ◌++◌, length, take, drop, set, get_or, ltb, Some, refl, ap, ◌∙◌, sym, arith, inl, inr}
+use Rattle.std.specs.Prelude.{All, slice_get}
+use Rattle.std.proofs.lemmas.Bool.{cases_lt, lt-ltb, le-ltb, false≢true}
+use Rattle.std.proofs.lemmas.List.{length-set, length-append, take-set-le, drop-set-lt, drop-drop, drop-append-le, take-append-le}
+use Rattle.std.proofs.lemmas.List.Elements.{All-tail, All-get_or, All-more, All-set, All-drop, All-push}
+use Rattle.std.proofs.lemmas.Option.{slice_get_within, get_or_from_slice_get}
+use Rattle.udt_rcv_buffer.specs.declared.marks.Marks.{Marks}
+use Rattle.udt_rcv_buffer.specs.declared.head.Head.{Head}
+use Rattle.udt_ring.specs.Parts.{Part, turned, joined}
+use Rattle.udt_rcv_buffer.specs.PlacedParts.{consumed_part, IsUsed, IsUnused, IsSettled}
+use Rattle.udt_rcv_buffer.specs.Marked.{IsMarked, EndsRun}
+use Rattle.udt_ring.proofs.JoinedLemmas.{joined_more, joined-set}
+use Rattle.udt_ring.proofs.TurnLemmas.{slice_get-drop, slice_get-take}
+
+-- a part of the run is used
+pub used_at : (parts : List (Part Head)) (run i : ℕ) (part : Part Head) → All IsUsed (take run parts) → i < run → slice_get parts i ≡ Some part → part.head.used ≡ true
+used_at parts run i part used lt found =
+    let there : slice_get (take run parts) i ≡ Some part = slice_get-take run i parts lt ∙ found in
+    let within = slice_get_within (take run parts) i part there in
+    rw (get_or_from_slice_get (take run parts) i part part there) at (All-get_or IsUsed (take run parts) i part within used)
+
+-- a part behind the top isn't
+pub unused_at : (parts : List (Part Head)) (top i : ℕ) (part : Part Head) → All IsUnused (drop top parts) → top ≤ i → slice_get parts i ≡ Some part → part.head.used ≡ false
+unused_at parts top i part unused le found =
+    let place : top + (i - top) ≡ i = omega (arith, le) in
+    let there : slice_get (drop top parts) (i - top) ≡ Some part = slice_get-drop top (i - top) parts ∙ ap (slice_get parts) place ∙ found in
+    let within = slice_get_within (drop top parts) (i - top) part there in
+    rw (get_or_from_slice_get (drop top parts) (i - top) part part there) at (All-get_or IsUnused (drop top parts) (i - top) part within unused)
+
+-- ---- the run
+
+take-set-lt : (n i : ℕ) (xs : List (Part Head)) (x : Part Head) → i < n → take n (set xs i x) ≡ set (take n xs) i x
+take-set-lt zero i xs x lt = absurd (omega (arith, lt))
+take-set-lt (suc n) i [] x lt = refl
+take-set-lt (suc n) zero (y ∷ xs) x lt = refl
+take-set-lt (suc n) (suc i) (y ∷ xs) x lt = rw (take-set-lt n i xs x (omega (arith, lt))) refl
+
+-- ---- the run grows
+
+pub grown : (marks new : Marks) (parts : List (Part Head)) (part : Part Head) → IsMarked marks parts → slice_get parts marks.run ≡ Some part → part.head.used ≡ true
+    → new.run ≡ marks.run + 1 → new.bytes ≡ marks.bytes + length part.bytes → new.top ≡ marks.top → IsMarked new parts
+grown marks new parts part m found used run bytes top =
+    let within = slice_get_within parts marks.run part found in
+    let here : IsUsed (get_or parts marks.run part) = rw (get_or_from_slice_get parts marks.run part part found) used in
+    let all : All IsUsed (take (marks.run + 1) parts) = All-more IsUsed parts marks.run part within m.used here in
+    let len : length (joined (take (marks.run + 1) parts)) ≡ length (joined (take marks.run parts)) + length part.bytes =
+    rw (joined_more parts marks.run part found) (length-append (joined (take marks.run parts)) part.bytes) in
+    let below : marks.run < marks.top = elim (cases_lt marks.run marks.top) [
+      | inl lt ↦ lt
+      | inr past ↦ absurd (false≢true (sym (unused_at parts marks.top marks.run part m.unused past found) ∙ used))
+    ] in
+    record {
+      within = omega (arith, run, within);
+      used = rw run all;
+      bytes = rw (run, bytes) (omega (arith, len, m.bytes));
+      top = omega (arith, top, m.top);
+      run_top = omega (arith, run, below, top);
+      unused = rw top m.unused;
+    }
+
+-- ---- a part is consumed
+
+-- the bytes of a part in the run are among those of the run
+pub bytes_within : (marks : Marks) (parts : List (Part Head)) (i : ℕ) (part : Part Head) → IsMarked marks parts → i < marks.run → slice_get parts i ≡ Some part → length part.bytes ≤ marks.bytes
+bytes_within marks parts i part m lt found =
+    let there : slice_get (take marks.run parts) i ≡ Some part = slice_get-take marks.run i parts lt ∙ found in
+    omega (arith, joined-set (take marks.run parts) i part consumed_part there, m.bytes)
+
+pub consumed : (marks new : Marks) (parts : List (Part Head)) (i : ℕ) (part : Part Head) → IsMarked marks parts → slice_get parts i ≡ Some part
+    → new.run ≡ marks.run → new.bytes ≡ cond (ltb i marks.run) (marks.bytes - length part.bytes) marks.bytes → new.top ≡ max marks.top (i + 1)
+    → IsMarked new (set parts i consumed_part)
+consumed marks new parts i part m found run bytes top =
+    let within = slice_get_within parts i part found in
+    let len = length-set parts i consumed_part in
+    let past : drop (max marks.top (i + 1)) (set parts i consumed_part) ≡ drop (max marks.top (i + 1)) parts = drop-set-lt (max marks.top (i + 1)) parts i consumed_part (omega arith) in
+    let more : marks.top + (max marks.top (i + 1) - marks.top) ≡ max marks.top (i + 1) = omega arith in
+    let unused : All IsUnused (drop (max marks.top (i + 1)) parts) =
+    rw (drop-drop (max marks.top (i + 1) - marks.top) marks.top parts, more) at (All-drop IsUnused (max marks.top (i + 1) - marks.top) (drop marks.top parts) m.unused) in
+    let front = elim (cases_lt i marks.run) as (λ _. All IsUsed (take marks.run (set parts i consumed_part)) × (new.bytes ≡ length (joined (take marks.run (set parts i consumed_part))))) [
+      | inl lt ↦
+          let there : slice_get (take marks.run parts) i ≡ Some part = slice_get-take marks.run i parts lt ∙ found in
+          let less = joined-set (take marks.run parts) i part consumed_part there in
+          let changed = take-set-lt marks.run i parts consumed_part lt in
+          let is : new.bytes ≡ marks.bytes - length part.bytes = rw (lt-ltb i marks.run lt) at bytes in
+          (rw changed (All-set IsUsed (take marks.run parts) i consumed_part refl m.used), rw changed (omega (arith, is, less, m.bytes)))
+      | inr behind ↦
+          let same = take-set-le marks.run parts i consumed_part behind in
+          let is : new.bytes ≡ marks.bytes = rw (le-ltb i marks.run behind) at bytes in
+          (rw same m.used, rw same (is ∙ m.bytes))
+    ] in
+    record {
+      within = omega (arith, len, run, m.within);
+      used = rw run front.0;
+      bytes = rw run front.1;
+      top = omega (arith, top, len, within, m.top);
+      run_top = omega (arith, run, top, m.run_top);
+      unused = rw (top, past) unused;
+    }
+
+-- ---- the first part is freed
+
+pub freed : (marks new : Marks) (part empty : Part Head) (parts : List (Part Head)) → IsMarked marks (part ∷ parts) → 0 < marks.run → empty.head.used ≡ false
+    → new.run ≡ marks.run - 1 → new.bytes ≡ marks.bytes - length part.bytes → new.top ≡ marks.top - 1 → IsMarked new (parts ++ empty ∷ [])
+freed marks new part empty parts m some unused run bytes top = freed_at new.run new.top (omega (arith, run, some)) (omega (arith, top, some, m.run_top)) (refl, refl)
+  where
+    freed_at : (r t : ℕ) → marks.run ≡ suc r → marks.top ≡ suc t → (new.run ≡ r) × (new.top ≡ t) → IsMarked new (parts ++ empty ∷ [])
+    freed_at r t is_run is_top same =
+        let len : length (parts ++ empty ∷ []) ≡ length parts + 1 = length-append parts (empty ∷ []) in
+        let within : r ≤ length parts = omega (arith, m.within, is_run) in
+        let top_within : t ≤ length parts = omega (arith, m.top, is_top) in
+        let all : All IsUsed (part ∷ take r parts) = rw is_run at m.used in
+        let sum : marks.bytes ≡ length (joined (part ∷ take r parts)) = rw is_run at m.bytes in
+        let back : All IsUnused (drop t parts) = rw is_top at m.unused in
+        record {
+          within = omega (arith, same.0, within, len);
+          used = rw (same.0, take-append-le r parts (empty ∷ []) within) (All-tail IsUsed part (take r parts) all);
+          bytes = rw (same.0, take-append-le r parts (empty ∷ []) within) (omega (arith, bytes, sum, length-append part.bytes (joined (take r parts))));
+          top = omega (arith, same.1, top_within, len);
+          run_top = omega (arith, same.0, same.1, is_run, is_top, m.run_top);
+          unused = rw (same.1, drop-append-le t parts (empty ∷ []) top_within) (All-push IsUnused (drop t parts) empty back unused);
+        }
+
+-- what ends the run still ends it
+pub freed_ends : (run : ℕ) (part empty : Part Head) (parts : List (Part Head)) → EndsRun run (part ∷ parts) → 0 < run → empty.head.used ≡ false → EndsRun (run - 1) (parts ++ empty ∷ [])
+freed_ends zero part empty parts ends some unused other found = absurd (omega (arith, some))
+freed_ends (suc run) part empty parts ends some unused other found =
+    let less : suc run - 1 ≡ run = omega arith in
+    at_end parts run other ends (rw less at found)
+  where
+    at_end : (ps : List (Part Head)) (r : ℕ) (o : Part Head) → ((p : Part Head) → slice_get ps r ≡ Some p → IsUnused p) → slice_get (ps ++ empty ∷ []) r ≡ Some o → IsUnused o
+    at_end [] zero o ends there = let same : empty ≡ o = cc in rw (← same) unused
+    at_end [] (suc r) o ends there = absurd cc
+    at_end (p ∷ ps) zero o ends there = ends o there
+    at_end (p ∷ ps) (suc r) o ends there = at_end ps r o ends there
+
+-- ---- what was given
+
+-- no more was given than the run has
+pub given_within : (marks : Marks) (parts : List (Part Head)) → IsMarked marks parts → EndsRun marks.run parts → IsSettled marks.given parts → marks.given ≤ marks.bytes
+given_within marks [] m ends settled = omega (arith, settled)
+given_within marks (part ∷ parts) m ends settled = elim (cases_lt 0 marks.run) [
+  | inl some ↦
+      let used = used_at (part ∷ parts) marks.run 0 part m.used some refl in
+      let left = settled.block used in
+      omega (arith, left, bytes_within marks (part ∷ parts) 0 part m some refl)
+  | inr none ↦
+      let is : marks.run ≡ 0 = omega (arith, none) in
+      let there : slice_get (part ∷ parts) marks.run ≡ Some part = rw is refl in
+      omega (arith, settled.none (ends part there))
+]
+
+-- where a part of the run has bytes left, or nothing was given, all is settled
+pub settled_at : (marks : Marks) (parts : List (Part Head)) → IsMarked marks parts → EndsRun marks.run parts → marks.given ≤ marks.bytes
+    → (0 < marks.run → (part : Part Head) → slice_get parts 0 ≡ Some part → marks.given < length part.bytes) → IsSettled marks.given parts
+settled_at marks [] m ends le left =
+    let none : marks.run ≡ 0 = omega (arith, m.within) in
+    let bytes : marks.bytes ≡ length (joined {H = Head} (take 0 [])) = rw none at m.bytes in
+    omega (arith, le, bytes)
+settled_at marks (part ∷ parts) m ends le left = elim (cases_lt 0 marks.run) [
+  | inl some ↦
+      let used = used_at (part ∷ parts) marks.run 0 part m.used some refl in
+      record { block = λ _. left some part refl; none = λ unused. absurd (false≢true (sym unused ∙ used)) }
+  | inr no_run ↦
+      let is : marks.run ≡ 0 = omega (arith, no_run) in
+      let there : slice_get (part ∷ parts) marks.run ≡ Some part = rw is refl in
+      let bytes : marks.bytes ≡ length (joined (take 0 (part ∷ parts))) = rw is at m.bytes in
+      record { block = λ used. absurd (false≢true (sym (ends part there) ∙ used)); none = λ _. omega (arith, le, bytes) }
+]
+
+pub is_true : (b : Bool) → not b ≡ false → b ≡ true
+is_true true h = refl
+is_true false h = absurd (false≢true (sym h))
+
+-- ---- turning
+
+-- the first of some parts
+pub first_of : (parts : List (Part Head)) (part : Part Head) → slice_get parts 0 ≡ Some part → parts ≡ part ∷ drop 1 parts
+first_of [] part found = absurd cc
+first_of (first ∷ parts) part found = let same : first ≡ part = cc in ap (λ (p : Part Head). p ∷ parts) same
+
+-- the first part is emptied, and then the last one
+pub turned_first : (parts : List (Part Head)) (part empty : Part Head) → slice_get parts 0 ≡ Some part → turned 1 (set parts 0 empty) ≡ drop 1 parts ++ empty ∷ []
+turned_first [] part empty found = absurd cc
+turned_first (first ∷ parts) part empty found = refl

@@ -1,0 +1,35 @@
+use Rattle.std.proofs.Common.{◌≡◌, List, length, refl, ap, ◌∙◌, arith}
+use Rattle.std.specs.Prelude.{All}
+use Rattle.std.proofs.lemmas.List.{length-replicate}
+use Rattle.std.proofs.lemmas.List.Elements.{All-replicate}
+use Rattle.udt_rcv_buffer.specs.declared.head.Head.{Head}
+use Rattle.udt_rcv_buffer.specs.declared.head.TheConstants.{MISSING}
+use Rattle.udt_ring.specs.Parts.{Part, empty_part}
+use Rattle.udt_rcv_buffer.specs.PlacedParts.{IsUnused}
+use Rattle.udt_rcv_buffer.proofs.MarkLemmas.{unused_at}
+use Rattle.udt_rcv_buffer.proofs.PlacedLemmas.{placed_from-unused}
+use Rattle.udt_rcv_buffer.proofs.BufferLemmas.{none_settled, none_marked}
+use Rattle.udt_rcv_buffer.proofs.buffer.RcvBuffer.new.Goals as goal
+use Rattle.udt_rcv_buffer.proofs.buffer.RcvBuffer.new.Goals.{In_ok-ring}
+
+-- nothing is known of any offset
+unused : (c : In_ok-ring) → All IsUnused c.in_ok-ring.ring.list
+unused c = rw c.in_ok-ring.ensures.list (All-replicate IsUnused c.args.blocks (empty_part MISSING) refl)
+
+-- there are as many parts as asked for
+count : (c : In_ok-ring) → length c.in_ok-ring.ring.list ≡ c.args.blocks
+count c = ap (λ (parts : List (Part Head)). length parts) c.in_ok-ring.ensures.list ∙ length-replicate c.args.blocks (empty_part MISSING)
+
+pub invariant_of-result : goal.invariant_of-result
+invariant_of-result c =
+    let parts = c.in_ok-ring.ring.list in
+    record {
+      few = omega (arith, count c, c.ranges.blocks);
+      marked = none_marked _ parts (unused c) refl refl refl;
+      run = λ part found. unused_at parts 0 0 part (unused c) (omega arith) found;
+      settled = none_settled parts (unused c);
+      limit = omega (arith, c.requires);
+    }
+
+pub returns : goal.returns
+returns c = rw (c.in_ok-ring.ensures.room, count c, placed_from-unused c.in_ok-ring.ring.list c.args.start (unused c)) refl

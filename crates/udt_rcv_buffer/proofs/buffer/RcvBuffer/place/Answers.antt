@@ -1,0 +1,82 @@
+use Rattle.std.proofs.Common.{◌≡◌, ℕ, List, ◌+◌, ◌-◌, ◌≤◌, true, false, Some, refl, ap, ◌∙◌, sym, arith}
+use Rattle.std.proofs.lemmas.List.{length-set}
+use Rattle.std.proofs.lemmas.Option.{slice_get_within}
+use Rattle.udt_model.specs.ReceiveBlocks.{is_taken, IsNew, IsBelow, IsAbove, IsDouble, placing_of}
+use Rattle.udt_rcv_buffer.specs.declared.head.Head.{Head}
+use Rattle.udt_ring.specs.Parts.{Part, Parts}
+use Rattle.std.specs.Prelude.{slice_get}
+use Rattle.udt_rcv_buffer.specs.PlacedParts.{placed_from}
+use Rattle.udt_rcv_buffer.specs.Buffers.{received_of}
+use Rattle.udt_rcv_buffer.proofs.PlacedLemmas.{is_taken-part, put_block-part}
+use Rattle.udt_rcv_buffer.proofs.ReceivedLemmas.{placing-below, placing-above, placing-within, after_place-is}
+use Rattle.udt_rcv_buffer.proofs.BufferLemmas.{placed_marked}
+use Rattle.udt_rcv_buffer.proofs.buffer.RcvBuffer.place.Goals as goal
+use Rattle.udt_rcv_buffer.proofs.buffer.RcvBuffer.place.Goals.{Then-offset-self, Then-offset-self-2, Then-head, Else-head}
+
+-- ---- outside
+
+below : (c : Then-offset-self) → placing_of c.args.self.now c.args.offset ≡ IsBelow
+below c = rw (← c.self.view_is) (placing-below (received_of c.self.inside) c.args.offset c.if-offset-self.true)
+
+pub returns-then-offset-self-clause-value : goal.returns-then-offset-self-clause-value
+returns-then-offset-self-clause-value c = rw (below c) refl
+
+pub returns-then-offset-self-clause-next : goal.returns-then-offset-self-clause-next
+returns-then-offset-self-clause-next c = sym (after_place-is c.args.self.now c.args.offset c.args.flags c.args.bytes.now IsBelow (below c))
+
+above : (c : Then-offset-self-2) → placing_of c.args.self.now c.args.offset ≡ IsAbove
+above c = rw (← c.self.view_is) (placing-above (received_of c.self.inside) c.args.offset c.if-offset-self.false (omega (arith, c.if-offset-self.false, c.if-offset-self-2.true, c.count.ensures.value)))
+
+pub returns-then-offset-self-2-clause-value : goal.returns-then-offset-self-2-clause-value
+returns-then-offset-self-2-clause-value c = rw (above c) refl
+
+pub returns-then-offset-self-2-clause-next : goal.returns-then-offset-self-2-clause-next
+returns-then-offset-self-2-clause-next c = sym (after_place-is c.args.self.now c.args.offset c.args.flags c.args.bytes.now IsAbove (above c))
+
+-- ---- where there is one already
+
+-- the offset is that of the part
+taken : (base offset : ℕ) (parts : List (Part Head)) (part : Part Head) → base ≤ offset → slice_get parts (offset - base) ≡ Some part → is_taken offset (placed_from base parts) ≡ part.head.used
+taken base offset parts part from found =
+    let again : base + (offset - base) ≡ offset = omega (arith, from) in
+    rw again at (is_taken-part parts base (offset - base) part found)
+
+double : (c : Then-head) → placing_of c.args.self.now c.args.offset ≡ IsDouble
+double c =
+    let b = c.self.inside in
+    let is = taken b.base c.args.offset b.ring.list _ c.if-offset-self.false c.part.ensures.value ∙ c.if-head.true in
+    rw (← c.self.view_is) (placing-within (received_of b) c.args.offset true c.if-offset-self.false (omega (arith, c.if-offset-self.false, c.if-offset-self-2.false, c.count.ensures.value)) is)
+
+pub returns-then-head-clause-value : goal.returns-then-head-clause-value
+returns-then-head-clause-value c = rw (double c) refl
+
+pub returns-then-head-clause-next : goal.returns-then-head-clause-next
+returns-then-head-clause-next c = sym (after_place-is c.args.self.now c.args.offset c.args.flags c.args.bytes.now IsDouble (double c))
+
+-- ---- new
+
+new : (c : Else-head) → placing_of c.args.self.now c.args.offset ≡ IsNew
+new c =
+    let b = c.self.inside in
+    let is = taken b.base c.args.offset b.ring.list _ c.if-offset-self.false c.part.ensures.value ∙ c.if-head.false in
+    rw (← c.self.view_is) (placing-within (received_of b) c.args.offset false c.if-offset-self.false (omega (arith, c.if-offset-self.false, c.if-offset-self-2.false, c.count.ensures.value)) is)
+
+pub extend-requires : goal.extend-requires
+extend-requires c =
+    let list = ap (λ (ps : Parts Head). ps.list) c.put.ensures in
+    rw list (placed_marked c.self.inside.marks _ c.self.inside.ring.list (c.args.offset - c.self.inside.base) _ _ c.self.invariant.marked c.part.ensures.value c.if-head.false refl refl c.max-self-inside.ensures)
+
+pub returns-clause-value : goal.returns-clause-value
+returns-clause-value c = rw (new ((goal.at.returns-clause-value c).Else-head)) refl
+
+pub returns-clause-next : goal.returns-clause-next
+returns-clause-next c =
+    let b = c.self.inside in
+    let list = ap (λ (ps : Parts Head). ps.list) c.put.ensures in
+    let room = ap (λ (ps : Parts Head). ps.room) c.put.ensures in
+    let place = c.args.offset - b.base in
+    let part : Part Head = record { head = record { used = true; consumed = false; flags = c.args.flags }; bytes = c.args.bytes.now } in
+    let again : b.base + place ≡ c.args.offset = omega (arith, c.if-offset-self.false) in
+    let put = rw again at (put_block-part b.ring.list b.base place part (slice_get_within b.ring.list place _ c.part.ensures.value) refl) in
+    let len = length-set b.ring.list place part in
+    rw (after_place-is c.args.self.now c.args.offset c.args.flags c.args.bytes.now IsNew (new ((goal.at.returns-clause-next c).Else-head)), list, room, len, c.extend.ensures.kept.given, ← put, ← c.self.view_is) refl

@@ -1,0 +1,22 @@
+use Rattle.std.proofs.Common.{◌+◌, refl, arith}
+use Rattle.std.proofs.lemmas.Option.{slice_get_within}
+use Rattle.udt_ring.proofs.JoinedLemmas.{joined-take_le, joined_more_len}
+use Rattle.udt_rcv_buffer.proofs.MarkLemmas.{grown, is_true}
+use Rattle.udt_rcv_buffer.proofs.marks.Marks.extend.Goals as goal
+
+pub overflow_add-self-in-loop-self : goal.overflow_add-self-in-loop-self
+overflow_add-self-in-loop-self c =
+    let parts = c.args.ring.now.list in
+    let more = joined_more_len parts c.loop-self.self.run _ c.part.ensures.value in
+    omega (arith, c.part.ensures.fits, joined-take_le (c.loop-self.self.run + 1) parts, more, c.loop-self.invariant.marked.bytes)
+
+pub loop-self-preserved : goal.loop-self-preserved
+loop-self-preserved c =
+    let i = c.loop-self.invariant in
+    record {
+      marked = grown c.loop-self.self _ c.args.ring.now.list _ i.marked c.part.ensures.value (is_true c.part.result.0.used c.if-not-head.false) refl refl refl;
+      kept = record { given = i.kept.given; top = i.kept.top };
+    }
+
+pub returns-after-loop-self-clause-run : goal.returns-after-loop-self-clause-run
+returns-after-loop-self-clause-run c = λ part found. absurd (omega (arith, slice_get_within c.args.ring.now.list c.loop-self.self.run part found, c.loop-self-test.false, c.count.ensures.value))

@@ -1,0 +1,12 @@
+use Rattle.std.proofs.Common.{◌-◌, length}
+use Rattle.udt_rcv_buffer.specs.Marked.{IsMarked, ChangesRun}
+use Rattle.udt_rcv_buffer.proofs.marks.Marks.extend.Given as goal
+
+abbrev pub invariant-loop-self : goal.invariant-loop-self
+invariant-loop-self l = record {
+  marked : IsMarked l.self l.ring.list;
+  kept : ChangesRun l.fn.self l.self;
+}
+
+abbrev pub decreases-loop-self : goal.decreases-loop-self
+decreases-loop-self l = length l.ring.list - l.self.run

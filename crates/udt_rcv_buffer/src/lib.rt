@@ -1,0 +1,28 @@
+//! The blocks that a receiver has until their bytes are read, in one piece of memory.
+#![tactic(auto)]
+
+mod answers;
+mod buffer;
+mod copies;
+mod head;
+mod laws;
+mod marks;
+mod messages;
+#[cfg(test)]
+mod tests;
+
+pub use answers::{Got, Placed};
+pub use buffer::RcvBuffer;
+pub use laws::shown_is_whole;
+use std::alloc::AllocError;
+pub use udt_model::Flags;
+
+/// Memory ran out.
+#[derive(Clone, Copy, Debug, PartialEq, Eq)]
+pub struct OutOfMemory;
+
+impl From<AllocError> for OutOfMemory {
+    fn from(_error: AllocError) -> Self {
+        OutOfMemory
+    }
+}

@@ -1,0 +1,4 @@
+pub mod TurnLemmas
+pub mod JoinedLemmas
+pub mod PartLemmas
+pub mod RingLemmas
