@@ -1,7 +1,9 @@
-//! A program that counts events a second: `udt_bench turn` takes turns from several threads, beside a lock of the standard library.
+//! A program that measures: `udt_bench turn` counts the turns that several threads take in a second, beside a lock of the standard library, `udt_bench loss` times the calls of the loss lists, and `udt_bench buffers` what a block costs in the buffers of a socket.
 #![tactic(auto)]
 
+mod buffers;
 mod locks;
+mod loss;
 mod tally;
 mod turns;
 
@@ -21,8 +23,10 @@ fn main(rt: HostRuntime) -> io::Result<()> {
     let mut words = env::args(&rt)?.skip(1);
     match words.next() {
         Some(word) if word.as_str() == "turn" => bench_turn(&rt, rt.alloc()),
+        Some(word) if word.as_str() == "loss" => loss::bench(&rt, rt.alloc()),
+        Some(word) if word.as_str() == "buffers" => buffers::bench_buffers(&rt, rt.alloc()),
         _ => {
-            println!(rt; "usage: udt_bench turn")?;
+            println!(rt; "usage: udt_bench turn|loss|buffers")?;
             Ok(())
         }
     }
