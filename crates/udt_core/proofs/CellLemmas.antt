@@ -5,8 +5,8 @@ use Rattle.std.specs.Prelude.{All, slice_get}
 use Rattle.std.proofs.lemmas.Bool.{eq-eqb, ne_eqb, lt-ltb, le-ltb, le-leb, lt-leb, leb-true, and_parts, cases_Bool}
 use Rattle.std.proofs.lemmas.List.Elements.{All-head, All-tail}
 use Rattle.udt_model.specs.State.{PlacedBlock}
-use Rattle.udt_model.specs.Receiving.{is_placed, with_block, contiguous, Front, front_after}
-use Rattle.udt_core.specs.declared.receiving.Cell.{Cell}
+use Rattle.udt_model.specs.Receiving.{is_placed, with_block, contiguous, first_gap, Front, front_after}
+use Rattle.udt_core.specs.declared.cell.Cell.{Cell}
 use Rattle.udt_core.specs.Cells.{block_in, placed_from}
 
 -- no cell is used, so no block is placed
@@ -107,6 +107,14 @@ pub placed_from-append : (cells : List Cell) (base : ℕ) (last : Cell) → last
 unfolding placed_from
 placed_from-append [] base last unused = rw unused refl
 placed_from-append (cell ∷ cells) base last unused = rw (placed_from-append cells (base + 1) last unused) refl
+
+-- no block stands at an offset below them all
+pub gap-above : (blocks : List PlacedBlock) (offset : ℕ) → AreFrom (offset + 1) blocks → first_gap offset blocks ≡ offset
+unfolding AreFrom first_gap
+gap-above [] offset from = refl
+gap-above (block ∷ blocks) offset from =
+    let here : offset + 1 ≤ block.offset = from.0 in
+    rw (ne_eqb block.offset offset (λ e. absurd (omega (arith, e)))) refl
 
 -- no byte follows an offset at which no block is placed
 contiguous-above : (blocks : List PlacedBlock) (offset : ℕ) → AreFrom (offset + 1) blocks → contiguous offset blocks ≡ []

@@ -1,6 +1,10 @@
 pub mod CutLemmas
+pub mod LostLemmas
 pub mod PackLemmas
 pub mod CellLemmas
+pub mod RunLemmas
 pub mod PlaceLemmas
 pub mod SettleLemmas
 pub mod ReadLemmas
+pub mod TickLemmas
+pub mod ArriveLemmas

@@ -7,7 +7,7 @@ use Rattle.udt_model.specs.declared.packets.Flags.{Flags}
 use Rattle.udt_model.specs.Numbers.{near}
 use Rattle.udt_model.specs.State.{Receiving}
 use Rattle.udt_model.specs.Receiving.{AtOffset, IsDouble, placing, after_arrival, with_placed, with_block}
-use Rattle.udt_core.specs.declared.receiving.Cell.{Cell}
+use Rattle.udt_core.specs.declared.cell.Cell.{Cell}
 use Rattle.udt_core.specs.declared.receiving.Receiver.TheInside.{Inside}
 use Rattle.udt_core.specs.Cells.{FillsCell, placed_from}
 use Rattle.udt_core.specs.ReceiveHalf.{receiving_of}

@@ -1,12 +1,12 @@
 -- How the bytes at the front are read.
 use Rattle.std.proofs.Common.{◌≡◌, ℕ, zero, suc, ◌+◌, ◌<◌, ◌≤◌, true, false, List, [], ◌∷◌, ◌++◌, length, get_or, take, drop, eqb, Some, Ok, Err, refl, ap, ◌∙◌, sym, arith, inl, inr, ◌⊎◌}
-use Rattle.std.specs.Prelude.{slice_get}
-use Rattle.std.proofs.lemmas.Bool.{ne_eqb}
+use Rattle.std.specs.Prelude.{not, slice_get}
+use Rattle.std.proofs.lemmas.Bool.{ne_eqb, cases_Bool}
 use Rattle.std.proofs.lemmas.List.{append-nil, take_at, take_all, drop_at, drop-drop, take-append-drop, drop-append-le, take-append-le, length-append, length-drop, length-take}
 use Rattle.udt_model.specs.declared.answers.Refusal.TheVariants as refusal
 use Rattle.udt_model.specs.State.{Receiving}
 use Rattle.udt_model.specs.Receiving.{contiguous, waiting, receive_answer, after_receive, front_after, at_front}
-use Rattle.udt_core.specs.declared.receiving.Cell.{Cell}
+use Rattle.udt_core.specs.declared.cell.Cell.{Cell}
 use Rattle.udt_core.specs.declared.receiving.Receiver.TheInside.{Inside}
 use Rattle.udt_core.specs.Cells.{IsGivenOf, placed_from}
 use Rattle.udt_core.specs.ReceiveHalf.{receiving_of, front_of}
@@ -106,3 +106,15 @@ unfolding after_receive receive_answer
 after_none r room none is_given =
     let same : r.given + 0 ≡ r.given = omega arith in
     rw (none, same, front_stays r.cells.items r.base r.given is_given) refl
+
+-- a byte waits exactly where the first cell has a block
+pub has_bytes-first : (r : Inside) (first : Cell) → 0 < length r.cells.items → first ≡ get_or r.cells.items 0 first → IsGivenOf r.given r.cells.items
+    → first.used ≡ not (eqb (length (waiting (receiving_of r))) 0)
+has_bytes-first r first some read is_given =
+    elim (cases_Bool first.used) [
+      | inl used ↦
+          let part = (is_given first (found_first r.cells.items first some read)).block used in
+          let waits = waits_some r first some read used part in
+          rw (used, ne_eqb (length (waiting (receiving_of r))) 0 (λ e. absurd (omega (arith, e, waits)))) refl
+      | inr unused ↦ rw (unused, waits_not r first some read unused) refl
+    ]

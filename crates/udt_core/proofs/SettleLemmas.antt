@@ -5,7 +5,7 @@ use Rattle.std.proofs.lemmas.Bool.{cases_Bool, false≢true}
 use Rattle.std.proofs.lemmas.List.{drop_at}
 use Rattle.std.proofs.lemmas.List.Elements.{All-head, All-tail, All-push}
 use Rattle.udt_model.specs.Receiving.{contiguous, front_after}
-use Rattle.udt_core.specs.declared.receiving.Cell.{Cell}
+use Rattle.udt_core.specs.declared.cell.Cell.{Cell}
 use Rattle.udt_core.specs.Cells.{IsCell, TurnsCell, IsRead, IsGiven, IsGivenOf, AreBelow, placed_from}
 use Rattle.udt_core.proofs.CellLemmas.{placed_from-append, contiguous-used, front-unused, front-part, front-whole}
 

@@ -1,9 +1,9 @@
 -- The cells of a receiving half, as they lie in memory.
-use Rattle.std.specs.Prelude.{◌≡◌, ℕ, ◌+◌, ◌<◌, ◌≤◌, true, false, List, [], ◌∷◌, ◌++◌, length, slice_get, slice_set, Some, vec_capacity, if◌then◌else◌}
+use Rattle.std.specs.Prelude.{◌≡◌, ℕ, zero, suc, ◌+◌, ◌<◌, ◌≤◌, true, false, List, [], ◌∷◌, ◌++◌, length, slice_get, slice_set, Some, vec_capacity, if◌then◌else◌}
 use Rattle.udt_model.specs.declared.packets.Flags.{Flags}
 use Rattle.udt_model.specs.declared.limits.TheConstants.{PACKET_LIMIT}
 use Rattle.udt_model.specs.State.{PlacedBlock}
-use Rattle.udt_core.specs.declared.receiving.Cell.{Cell}
+use Rattle.udt_core.specs.declared.cell.Cell.{Cell}
 
 -- the cell has room for a block, and a block in it has at least one byte and no more than the payload
 pub record IsCell (payload : ℕ) (cell : Cell) : Type 0 where
@@ -62,3 +62,9 @@ IsGivenOf given cells = (cell : Cell) → slice_get cells 0 ≡ Some cell → Is
 -- each block lies within the limit of packets
 abbrev pub AreBelow : ℕ → List Cell → Type 0
 AreBelow base cells = (place : ℕ) (cell : Cell) → cell.used ≡ true → slice_get cells place ≡ Some cell → base + place < PACKET_LIMIT
+
+-- a block is in each of the first cells, of which there are so many
+abbrev pub AreUsed : ℕ → List Cell → Type 0
+AreUsed zero cells = Unit {0}
+AreUsed (suc more) [] = ⊥
+AreUsed (suc more) (cell ∷ cells) = (cell.used ≡ true) × AreUsed more cells

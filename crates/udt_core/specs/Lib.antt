@@ -2,10 +2,12 @@ pub mod Stock
 pub mod Pools
 pub mod Emitted
 pub mod SendBlocks
+pub mod LostOffsets
 pub mod SendHalf
-pub mod Packings
+pub mod Emissions
 pub mod Cells
 pub mod ReceiveHalf
 pub mod Receipts
 pub mod Opening
 pub mod Sockets
+pub mod Changes

@@ -1,7 +1,11 @@
 -- What the receiving half answers.
-use Rattle.std.specs.Prelude.{ℕ, List, take, Result, Ok, Err}
+use Rattle.std.specs.Prelude.{ℕ, List, take, Option, Some, None, Result, Ok, Err}
 use Rattle.udt_model.specs.declared.answers.Refusal.{Refusal}
-use Rattle.udt_model.specs.Receiving.{Placing, AtOffset, IsDouble, IsBelow, IsAbove}
+use Rattle.udt_model.specs.declared.packets.AckBody.{AckBody}
+use Rattle.udt_model.specs.declared.packets.AckBody.TheVariants.{Full}
+use Rattle.udt_model.specs.Numbers.{wire_number}
+use Rattle.udt_model.specs.State.{Receiving}
+use Rattle.udt_model.specs.Receiving.{Placing, AtOffset, IsDouble, IsBelow, IsAbove, Telling, IsEarly, IsKnown, Tells, room_from}
 use Rattle.udt_core.specs.declared.receiving.Placed.{Placed}
 use Rattle.udt_core.specs.declared.receiving.Placed.TheVariants as placed
 
@@ -15,3 +19,9 @@ placed_as IsAbove = placed.Above
 abbrev pub received_in : Result ℕ Refusal → List ℕ → Result (List ℕ) Refusal
 received_in (Ok count) into = Ok (take count into)
 received_in (Err why) into = Err why
+
+-- the number and the body of the acknowledgement that is told, which tells of no rates
+abbrev pub told_as : Receiving → ℕ → ℕ → Telling → Option (ℕ × AckBody)
+told_as r rtt var IsEarly = None
+told_as r rtt var IsKnown = None
+told_as r rtt var (Tells ack) = Some (ack.number, Full (wire_number r.isn ack.offset) rtt var (room_from r ack.offset) 0 0)

@@ -2,7 +2,7 @@
 use Rattle.std.specs.Prelude.{ℕ, ◌≤◌, length, vec_capacity}
 use Rattle.udt_model.specs.declared.limits.TheConstants.{LAST_MESSAGE}
 use Rattle.udt_model.specs.State.{KeptBlock}
-use Rattle.udt_core.specs.declared.sending.SendBlock.{SendBlock}
+use Rattle.udt_core.specs.declared.blocks.SendBlock.{SendBlock}
 
 abbrev pub kept_block_of : SendBlock → KeptBlock
 kept_block_of block = record { flags = block.flags; bytes = block.bytes.items }

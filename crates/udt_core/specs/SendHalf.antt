@@ -5,6 +5,7 @@ use Rattle.udt_model.specs.declared.limits.TheConstants.{LAST_MESSAGE, MOST_PAYL
 use Rattle.udt_model.specs.State.{Sending}
 use Rattle.udt_core.specs.declared.sending.Sender.TheInside.{Inside}
 use Rattle.udt_core.specs.SendBlocks.{kept_block_of, IsSendBlock}
+use Rattle.udt_core.specs.LostOffsets.{RiseWithin}
 
 abbrev pub sending_of : Inside → Sending
 sending_of s = record {
@@ -14,6 +15,7 @@ sending_of s = record {
   acked = s.acked;
   kept = map kept_block_of s.kept.items;
   next = s.next;
+  lost = s.lost.items;
   message = s.message;
   flow = s.flow;
   due = s.due;
@@ -31,5 +33,8 @@ pub record IsSender (s : Inside) : Type 0 where
   pub sent : s.acked ≤ s.next
   pub unsent : s.next ≤ s.acked + deque_len s.kept
   pub within : s.acked + deque_len s.kept ≤ PACKET_LIMIT
+  -- what is to be sent again was sent, and isn't acknowledged
+  pub lost : RiseWithin s.acked s.next s.lost.items
+  pub lost_places : s.blocks ≤ deque_capacity s.lost
   pub number : s.message ≤ LAST_MESSAGE
   pub due : s.due < 2 ^ 63

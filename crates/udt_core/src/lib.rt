@@ -4,6 +4,10 @@
 //! call, each datagram that came for it and each moment, and sends what it emits.
 #![tactic(auto)]
 
+mod blocks;
+mod cell;
+mod counts;
+mod lost;
 mod memory;
 mod outs;
 mod pool;
@@ -14,7 +18,7 @@ mod socket;
 pub use memory::OutOfMemory;
 pub use outs::Outs;
 pub use socket::{OpenNo, Socket};
-pub use udt_model::{Cause, Heard, Packed, Peer, Refusal};
+pub use udt_model::{Cause, Heard, Packed, Peer, Phase, Refusal};
 
 #[cfg(test)]
 mod tests;

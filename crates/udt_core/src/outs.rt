@@ -2,8 +2,8 @@
 
 ghost use Rattle.std.specs.Prelude.{◌≡◌, ◌+◌, ◌<◌, ◌≤◌, List, [], ◌∷◌, ◌++◌, length, slice_get, Some, IfOk};
 ghost use Rattle.udt_model.specs.State.{Datagram};
-ghost use Rattle.udt_model.specs.Wire.{spelling, IsInRange};
-ghost use Rattle.udt_packet.specs.Packets.{packet_of};
+ghost use Rattle.udt_model.specs.Wire.{spelling};
+ghost use Rattle.udt_packet.specs.Packets.{packet_of, IsWritable};
 
 use crate::memory::OutOfMemory;
 use crate::pool::Pool;
@@ -84,7 +84,7 @@ impl Outs {
     pub(crate) fn emit(&mut self, to: Addr, packet: &Packet)
         requires room { length self.old < MOST_OUTS }
         requires fits { length (spelling (packet_of packet.now)) ≤ MOST_BYTES }
-        requires in_range { IsInRange (packet_of packet.now) }
+        requires in_range { IsWritable packet.now }
         ensures { self.new ≡ self.old ++ record { addr = to; bytes = spelling (packet_of packet.now) } ∷ [] }
     {
         let mut bytes = self.pool.take();

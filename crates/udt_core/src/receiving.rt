@@ -1,17 +1,19 @@
-// The receiving half: blocks from their arrival until they are read.
+// The receiving half: blocks from their arrival until they are read, and what is acknowledged.
 
-ghost use Rattle.std.specs.Prelude.{◌≡◌, ℕ, ◌+◌, ◌-◌, ◌<◌, ◌≤◌, List, [], ◌++◌, length, min, take, drop, All, slice_set, slice_index_or, slice_get, OnErr, IfOk, IfSome, true, false, vec_capacity};
-ghost use Rattle.std.specs.VecDeque.{deque_len};
-ghost use Rattle.udt_model.specs.declared.limits.TheConstants.{MOST_PAYLOAD, MOST_BLOCKS, PACKET_LIMIT};
-ghost use Rattle.udt_model.specs.Receiving.{placing, after_arrival, receive_answer, after_receive, contiguous, front_after};
-ghost use Rattle.udt_core.specs.Cells.{IsCell, FillsCell, TurnsCell, IsRead, IsGivenOf, AreBelow, placed_from};
+ghost use Rattle.std.specs.Prelude.{◌≡◌, ◌<◌, ◌≤◌, [], ◌++◌, length, take, drop, OnErr, IfOk, IfSome, Bool, not, ◌==◌, Option, None};
+ghost use Rattle.udt_model.specs.declared.limits.TheConstants.{MOST_PAYLOAD, MOST_BLOCKS, PACKET_LIMIT, LAST_ACK_NUMBER, LAST_MOMENT};
+ghost use Rattle.udt_model.specs.Receiving.{placing, after_arrival, waiting, receive_answer, after_receive, is_just_told as just_told, number_after as next_number, telling, after_tell, receiving_closed};
+ghost use Rattle.udt_core.specs.ReceiveHalf.{full_ack_of};
 
+use crate::cell::{Cell, copy_from, empty_all, empty_cells, fill_at, run_from, settle};
 use crate::memory::OutOfMemory;
 use std::alloc::Global;
 use std::collections::VecDeque;
 use std::marker::Model;
-use udt_model::{Flags, PACKET_LIMIT, Refusal};
-use udt_packet::near;
+use udt_model::{
+    ACK_INTERVAL, AckBody, FEWEST_BLOCKS, Flags, LAST_ACK_NUMBER, PACKET_LIMIT, Refusal,
+};
+use udt_packet::{near, seq_of};
 
 /// What became of a block.
 #[derive(Clone, Copy, Debug, PartialEq, Eq)]
@@ -22,15 +24,17 @@ pub enum Placed {
     Double,
 }
 
-/// The place of one offset: a block, or room for one.
-#[derive(Drop)]
-pub struct Cell {
-    pub used: bool,
-    pub flags: Flags,
-    pub bytes: Vec<u8>,
+/// The last full acknowledgement that was emitted: its number, the first offset that had not
+/// arrived, and its moment in microseconds.
+#[derive(Clone, Copy, Debug, PartialEq, Eq)]
+pub struct LastAck {
+    pub number: u32,
+    pub offset: u64,
+    pub moment: u64,
 }
 
-/// The receiving half of a socket. The first cell is that of the base, and the others follow.
+/// The receiving half of a socket. The first cell is that of the base, and the others follow. A run
+/// of the first ones is known to have blocks.
 #[derive(Drop)]
 pub struct Receiver {
     isn: u32,
@@ -40,6 +44,10 @@ pub struct Receiver {
     top: u64,
     given: usize,
     cells: VecDeque<Cell>,
+    run: usize,
+    confirmed: u64,
+    last_ack: Option<LastAck>,
+    ack_due: u64,
 }
 
 impl Model for Receiver {
@@ -54,114 +62,18 @@ impl Model for Receiver {
     ghost invariant = { IsReceiver };
 }
 
-const NO_FLAGS: Flags = Flags {
-    first: false,
-    last: false,
-    order: false,
-    message: 0,
-};
-
-// So many cells with room for a block.
-fn empty_cells(alloc: Global, blocks: u32, payload: u32) -> Result<VecDeque<Cell>, OutOfMemory>
-    ensures len { IfOk result (λ cells. deque_len cells ≡ blocks) }
-    ensures sound { IfOk result (λ cells. All (IsCell payload) cells.items) }
-    ensures unused { IfOk result (λ cells. All (λ cell. cell.used ≡ false) cells.items) }
-{
-    let mut cells = VecDeque::with_capacity(alloc, blocks as usize)?;
-    for _ in 0..blocks {
-        let bytes = Vec::with_capacity(alloc, payload as usize)?;
-        cells.push_back_reserved(Cell {
-            used: false,
-            flags: NO_FLAGS,
-            bytes,
-        });
-    }
-    Ok(cells)
-}
-
-// Puts a block into an unused cell.
-fn fill(cell: &mut Cell, flags: Flags, bytes: &[u8])
-    requires room { length bytes.now ≤ vec_capacity cell.old.bytes }
-    ensures used { cell.new.used ≡ true }
-    ensures flags { cell.new.flags ≡ flags }
-    ensures bytes { cell.new.bytes.items ≡ bytes.now }
-    ensures capacity { vec_capacity cell.old.bytes ≤ vec_capacity cell.new.bytes }
-{
-    cell.bytes.clear();
-    let _ = cell.bytes.extend_from_slice(bytes);
-    cell.flags = flags;
-    cell.used = true;
-}
-
-// Puts a block into the cell at a place.
-fn fill_at(cells: &mut VecDeque<Cell>, place: usize, flags: Flags, bytes: &[u8])
-    requires place { place < deque_len cells.old }
-    requires room { IfSome (slice_get cells.old.items place) (λ cell. length bytes.now ≤ vec_capacity cell.bytes) }
-    ensures filled { FillsCell cells.old.items cells.new.items place flags bytes.now }
-    ensures len { deque_len cells.new ≡ deque_len cells.old }
-{
-    fill(&mut cells[place], flags, bytes);
-}
-
-// Copies what was not read of a cell's bytes, as far as there is room, and says how many.
-fn copy_from(cell: &Cell, given: usize, into: &mut [u8], filled: usize) -> usize
-    requires given { given < length cell.now.bytes.items }
-    requires room { filled < length into.old }
-    ensures count { result ≡ min (length cell.now.bytes.items - given) (length into.old - filled) }
-    ensures into { into.new ≡ take filled into.old
-        ++ take result (drop given cell.now.bytes.items) ++ drop (filled + result) into.old }
-{
-    let unread = &cell.bytes[given..];
-    let count = unread.len().min(into.len() - filled);
-    into[filled..filled + count].copy_from_slice(&unread[..count]);
-    count
-}
-
-// Empties the first cell, which is the last one then.
-fn turn(cells: &mut VecDeque<Cell>)
-    requires { 0 < deque_len cells.old }
-    ensures turned { TurnsCell cells.old.items cells.new.items }
-    ensures len { deque_len cells.new ≡ deque_len cells.old }
-{
-    if let Some(mut cell) = cells.pop_front() {
-        cell.used = false;
-        cells.push_back_reserved(cell);
-    }
-}
-
-// Consumes the first block, where all its bytes are read.
-fn settle(cells: &mut VecDeque<Cell>, base: &mut u64, given: &mut usize)
-    requires some { 0 < deque_len cells.old }
-    requires first { IsRead cells.old.items given.old }
-    requires base { base.old < PACKET_LIMIT }
-    ensures front { (payload : ℕ) → All (IsCell payload) cells.old.items
-        → front_after base.old given.old (placed_from base.old cells.old.items)
-        ≡ record { base = base.new; given = given.new; placed = placed_from base.new cells.new.items } }
-    ensures waiting { drop given.old (contiguous base.old (placed_from base.old cells.old.items))
-        ≡ drop given.new (contiguous base.new (placed_from base.new cells.new.items)) }
-    ensures len { deque_len cells.new ≡ deque_len cells.old }
-    ensures bound { base.new ≤ PACKET_LIMIT }
-    ensures sound { (payload : ℕ) → All (IsCell payload) cells.old.items → All (IsCell payload) cells.new.items }
-    ensures below { AreBelow base.old cells.old.items → AreBelow base.new cells.new.items }
-    ensures given { (payload : ℕ) → All (IsCell payload) cells.old.items → IsGivenOf given.new cells.new.items }
-{
-    if *given == cells[0].bytes.len() {
-        turn(cells);
-        *base += 1;
-        *given = 0;
-    }
-}
-
 impl Receiver {
-    ghost use Rattle.udt_core.specs.Receipts.{placed_as, received_in};
+    ghost use Rattle.udt_core.specs.Receipts.{placed_as, received_in, told_as};
 
-    /// A half that begins at this offset and takes all its memory.
+    /// A half that begins at this offset, takes all its memory, and may acknowledge from this moment
+    /// on, in microseconds.
     pub fn new(
         alloc: Global,
         isn: u32,
         payload: u32,
         blocks: u32,
         start: u64,
+        ack_due: u64,
     ) -> Result<Receiver, OutOfMemory>
         requires payload { payload ≤ MOST_PAYLOAD }
         requires some { 0 < blocks }
@@ -175,6 +87,9 @@ impl Receiver {
           top = start;
           given = 0;
           placed = [];
+          confirmed = start;
+          last_ack = None;
+          ack_due = ack_due;
         }) }
     {
         let cells = empty_cells(alloc, blocks, payload)?;
@@ -186,6 +101,10 @@ impl Receiver {
             top: start,
             given: 0,
             cells,
+            run: 0,
+            confirmed: start,
+            last_ack: None,
+            ack_due,
         })
     }
 
@@ -234,6 +153,7 @@ impl Receiver {
         ensures within { IfOk result (λ count. count ≤ length into.old) }
         ensures rest { IfOk result (λ count. drop count into.new ≡ drop count into.old) }
         ensures err { OnErr result (into.new ≡ into.old) }
+        ensures kept { OnErr result (self.new ≡ self.old) }
     {
         let waits = self.cells[0].used;
         if into.is_empty() {
@@ -247,8 +167,88 @@ impl Receiver {
             let count = copy_from(&self.cells[0], self.given, into, filled);
             filled += count;
             self.given += count;
-            settle(&mut self.cells, &mut self.base, &mut self.given);
+            settle(
+                &mut self.cells,
+                &mut self.base,
+                &mut self.given,
+                &mut self.run,
+            );
         }
         Ok(filled)
+    }
+
+    /// Whether a byte waits to be read.
+    pub fn has_bytes(&self) -> bool
+        ensures { result ≡ not (length (waiting self.now) == 0) }
+    {
+        self.cells[0].used
+    }
+
+    /// The acknowledgement that is due at this moment, with its number, in microseconds and with
+    /// this round trip and its variance. None is due before its time, or where it would tell nothing
+    /// new.
+    #[tactic(auto, unfolding(udt_model::specs::Receiving::telling, udt_model::specs::Receiving::after_tell))]
+    pub fn tick_ack(&mut self, now: u64, rtt: u32, var: u32) -> Option<(u32, AckBody)>
+        requires moment { now ≤ LAST_MOMENT }
+        ensures reply { result ≡ told_as self.old rtt var (telling self.old now rtt) }
+        ensures after { self.new ≡ after_tell self.old now rtt }
+    {
+        if now < self.ack_due {
+            return None;
+        }
+        self.ack_due = now + ACK_INTERVAL;
+        self.run = run_from(&self.cells, self.run);
+        let offset = self.base + self.run as u64;
+        if offset == self.confirmed || is_just_told(offset, now, rtt, &self.last_ack) {
+            return None;
+        }
+        let number = number_after(&self.last_ack);
+        self.last_ack = Some(LastAck {
+            number,
+            offset,
+            moment: now,
+        });
+        let body = AckBody::Full {
+            ack: seq_of(self.isn, offset),
+            rtt,
+            var,
+            buffer: FEWEST_BLOCKS.max(self.blocks - self.run as u32),
+            rate: 0,
+            capacity: 0,
+        };
+        Some((number, body))
+    }
+
+    /// Drops all blocks that weren't read.
+    #[tactic(auto, unfolding(udt_model::specs::Receiving::receiving_closed))]
+    pub fn close(&mut self)
+        ensures { self.new ≡ receiving_closed self.old }
+    {
+        empty_all(&mut self.cells);
+        self.given = 0;
+        self.run = 0;
+    }
+}
+
+// The last acknowledgement told of this offset, less than two round trips ago.
+fn is_just_told(offset: u64, now: u64, rtt: u32, last: &Option<LastAck>) -> bool
+    ensures { result ≡ just_told offset now rtt (full_ack_of last.now) }
+{
+    match last {
+        None => false,
+        Some(ack) => ack.offset == offset && now.saturating_sub(ack.moment) < 2 * rtt as u64,
+    }
+}
+
+// The number of the acknowledgement after the last one.
+fn number_after(last: &Option<LastAck>) -> u32
+    requires number { IfSome last.now (λ ack. ack.number ≤ LAST_ACK_NUMBER) }
+    ensures value { result ≡ next_number (full_ack_of last.now) }
+    ensures within { result ≤ LAST_ACK_NUMBER }
+{
+    match last {
+        None => 1,
+        Some(ack) if ack.number == LAST_ACK_NUMBER => 1,
+        Some(ack) => ack.number + 1,
     }
 }

@@ -1,19 +1,24 @@
 // The sending half: blocks from the call that gives them until they are acknowledged.
 
-ghost use Rattle.std.specs.Prelude.{◌≡◌, ℕ, ◌+◌, ◌-◌, ◌*◌, ◌^◌, ◌<◌, ◌≤◌, min, [], ◌∷◌, ◌++◌, map, length, All, IfOk, true};
-ghost use Rattle.std.specs.VecDeque.{deque_len, deque_capacity};
+ghost use Rattle.std.specs.Prelude.{◌≡◌, ℕ, ◌+◌, ◌-◌, ◌*◌, ◌^◌, ◌<◌, ◌≤◌, min, [], ◌∷◌, length, IfOk, OnErr, Some, nat_lt, if◌then◌else◌};
 ghost use Rattle.udt_model.specs.declared.limits.TheConstants.{LAST_MESSAGE, LAST_MOMENT, MOST_PAYLOAD, PACKET_LIMIT};
-ghost use Rattle.udt_model.specs.Sending.{send_answer, after_send, packing, after_pack, blocks_for, cut, message_after as next_message, due_after as due_behind};
-ghost use Rattle.udt_core.specs.SendBlocks.{kept_block_of, IsSendBlock};
+ghost use Rattle.udt_model.specs.State.{KeptBlock};
+ghost use Rattle.udt_model.specs.Sending.{send_answer, after_send, message_after as next_message, end_of, free_of};
+ghost use Rattle.udt_model.specs.Sending.{packing, after_pack, after_packing, kept_at, due_after as due_behind};
+ghost use Rattle.udt_model.specs.Sending.{acking, acked_number, after_ack, flow_after as flow_behind, after_timeout, sending_closed};
 
+use crate::blocks::{SendBlock, keep_message, release};
+use crate::lost::{forget_below, lose_all};
 use crate::memory::OutOfMemory;
 use crate::outs::Outs;
 use crate::pool::Pool;
 use std::alloc::Global;
 use std::collections::VecDeque;
 use std::marker::Model;
-use udt_model::{Flags, LAST_MESSAGE, PACKET_LIMIT, Packed, Peer, Refusal};
-use udt_packet::{Packet, seq_of, size};
+use udt_model::{
+    AckBody, Addr, FEWEST_BLOCKS, LAST_MESSAGE, MOST_BLOCKS, PACKET_LIMIT, Peer, Refusal,
+};
+use udt_packet::{Packet, near, seq_of, size};
 
 /// The control's window, in packets. No control is asked yet.
 const WINDOW: u64 = 16;
@@ -21,11 +26,14 @@ const WINDOW: u64 = 16;
 /// The control's period between two packets, in nanoseconds. No control is asked yet.
 const PERIOD: u64 = 0;
 
-/// A block that was accepted and not yet released.
-#[derive(Drop)]
-pub struct SendBlock {
-    pub flags: Flags,
-    pub bytes: Vec<u8>,
+/// What packing did: it sent a block for the first time, or again, with the bytes of its datagram;
+/// or it sent nothing before a moment in microseconds, or as long as nothing happens.
+#[derive(Clone, Copy, Debug, PartialEq, Eq)]
+pub enum Emission {
+    Fresh(usize),
+    Again(usize),
+    Until(u64),
+    Idle,
 }
 
 /// The sending half of a socket.
@@ -37,6 +45,7 @@ pub struct Sender {
     acked: u64,
     kept: VecDeque<SendBlock>,
     next: u64,
+    lost: VecDeque<u64>,
     message: u32,
     flow: u32,
     due: u64,
@@ -67,67 +76,8 @@ fn message_after(message: u32) -> u32
     }
 }
 
-// Keeps a block in a buffer of the pool.
-fn keep_block(kept: &mut VecDeque<SendBlock>, pool: &mut Pool, flags: Flags, bytes: &[u8])
-    requires free { 0 < pool.old.free }
-    requires place { deque_len kept.old < deque_capacity kept.old }
-    requires short { length bytes.now ≤ pool.old.room }
-    ensures kept { map kept_block_of kept.new.items
-        ≡ map kept_block_of kept.old.items ++ record { flags = flags; bytes = bytes.now } ∷ [] }
-    ensures sound { (payload : ℕ) → length bytes.now ≤ payload → flags.message ≤ LAST_MESSAGE
-        → All (IsSendBlock payload pool.old.room) kept.old.items
-        → All (IsSendBlock payload pool.old.room) kept.new.items }
-    ensures len { deque_len kept.new ≡ deque_len kept.old + 1 }
-    ensures capacity { deque_capacity kept.new ≡ deque_capacity kept.old }
-    ensures pool { pool.new ≡ record pool.old { free = pool.old.free - 1 } }
-{
-    let mut buffer = pool.take();
-    let _ = buffer.extend_from_slice(bytes);
-    kept.push_back_reserved(SendBlock {
-        flags,
-        bytes: buffer,
-    });
-}
-
-// Cuts the bytes of a message into blocks, and keeps them.
-fn keep_message(
-    kept: &mut VecDeque<SendBlock>,
-    pool: &mut Pool,
-    payload: usize,
-    message: u32,
-    bytes: &[u8],
-)
-    requires payload { 0 < payload }
-    requires room { payload ≤ pool.old.room }
-    requires free { blocks_for (length bytes.now) payload ≤ pool.old.free }
-    requires places { deque_len kept.old + pool.old.free ≤ deque_capacity kept.old }
-    requires number { message ≤ LAST_MESSAGE }
-    requires sound { All (IsSendBlock payload pool.old.room) kept.old.items }
-    ensures kept { map kept_block_of kept.new.items
-        ≡ map kept_block_of kept.old.items ++ cut (blocks_for (length bytes.now) payload) payload message true bytes.now }
-    ensures sound { All (IsSendBlock payload pool.old.room) kept.new.items }
-    ensures len { deque_len kept.new ≡ deque_len kept.old + blocks_for (length bytes.now) payload }
-    ensures capacity { deque_capacity kept.old ≤ deque_capacity kept.new }
-    ensures pool { pool.new ≡ record pool.old { free = pool.old.free - blocks_for (length bytes.now) payload } }
-{
-    let mut rest = bytes;
-    let mut first = true;
-    while rest.len() > 0 {
-        let (piece, others) = rest.split_at(payload.min(rest.len()));
-        let flags = Flags {
-            first,
-            last: others.is_empty(),
-            order: false,
-            message,
-        };
-        keep_block(kept, pool, flags, piece);
-        first = false;
-        rest = others;
-    }
-}
-
 impl Sender {
-    ghost use Rattle.udt_core.specs.Packings.{packed_answer, packed_datagrams};
+    ghost use Rattle.udt_core.specs.Emissions.{block_bytes, datagram_to, emission_of, packed_datagrams, first_lost, next_block, is_taken};
 
     /// A half that begins at this offset and takes all its memory.
     pub fn new(
@@ -148,12 +98,14 @@ impl Sender {
           acked = start;
           kept = [];
           next = start;
+          lost = [];
           message = 1;
           flow = flow;
           due = 0;
         }) }
     {
         let kept = VecDeque::with_capacity(alloc, blocks as usize)?;
+        let lost = VecDeque::with_capacity(alloc, blocks as usize)?;
         let pool = Pool::new(alloc, blocks as usize, payload as usize)?;
         Ok(Sender {
             isn,
@@ -162,6 +114,7 @@ impl Sender {
             acked: start,
             kept,
             next: start,
+            lost,
             message: 1,
             flow,
             due: 0,
@@ -174,6 +127,7 @@ impl Sender {
     pub fn send(&mut self, bytes: &[u8]) -> Result<usize, Refusal>
         ensures reply { result ≡ send_answer self.old (length bytes.now) }
         ensures after { self.new ≡ after_send self.old bytes.now }
+        ensures kept { OnErr result (self.new ≡ self.old) }
     {
         if bytes.is_empty() {
             return Ok(0);
@@ -199,36 +153,150 @@ impl Sender {
         Ok(count)
     }
 
-    /// Emits the next block that was never sent, where the time has come and both windows allow it.
+    /// The offset of the first block that is kept: all before it is acknowledged.
+    pub fn acked(&self) -> u64
+        ensures { result ≡ self.now.acked }
+    {
+        self.acked
+    }
+
+    /// The first offset that was never sent.
+    pub fn next(&self) -> u64
+        ensures { result ≡ self.now.next }
+    {
+        self.next
+    }
+
+    /// How many more blocks may be kept now.
+    pub fn free(&self) -> u64
+        ensures { result ≡ free_of self.now }
+    {
+        self.pool.free() as u64
+    }
+
+    // Emits the block of this offset, and says how many bytes its datagram has.
+    fn emit(&self, offset: u64, stamp: u32, to: Addr, dest: u32, outs: &mut Outs) -> usize
+        requires sent { self.now.acked ≤ offset }
+        requires kept { offset < end_of self.now }
+        requires empty { outs.old ≡ [] }
+        ensures value { (block : KeptBlock) → kept_at self.now offset ≡ Some block
+            → result ≡ length (block_bytes self.now offset stamp dest block) }
+        ensures outs { (block : KeptBlock) → kept_at self.now offset ≡ Some block
+            → outs.new ≡ datagram_to to (block_bytes self.now offset stamp dest block) ∷ [] }
+    {
+        let block = &self.kept[(offset - self.acked) as usize];
+        let packet = Packet::Block {
+            seq: seq_of(self.isn, offset),
+            flags: block.flags,
+            stamp,
+            dest,
+            bytes: &block.bytes,
+        };
+        let bytes = size(&packet);
+        outs.emit(to, &packet);
+        bytes
+    }
+
+    /// Once the time has come, emits the least lost block again, or where none is lost the next
+    /// block that was never sent, where both windows allow it.
     #[tactic(auto, unfolding(udt_model::specs::Sending::packing, udt_model::specs::Sending::after_pack))]
-    pub fn pack(&mut self, now: u64, stamp: u32, peer: &Peer, outs: &mut Outs) -> Packed
+    pub fn pack(&mut self, now: u64, stamp: u32, peer: &Peer, outs: &mut Outs) -> Emission
         requires moment { now ≤ LAST_MOMENT }
         requires empty { outs.old ≡ [] }
-        ensures reply { result ≡ packed_answer self.old stamp peer.now.id (packing self.old now) }
+        ensures reply { result ≡ emission_of self.old stamp peer.now.id (packing self.old now) }
         ensures after { self.new ≡ after_pack self.old now }
         ensures outs { outs.new ≡ packed_datagrams self.old stamp peer.now (packing self.old now) }
     {
         if 1000 * now < self.due {
-            return Packed::NotYet(self.due.div_ceil(1000));
+            return Emission::Until(self.due.div_ceil(1000));
         }
+        if self.lost.len() > 0 {
+            self.pack_again(now, stamp, peer, outs)
+        } else {
+            self.pack_next(now, stamp, peer, outs)
+        }
+    }
+
+    // Emits the least lost block again.
+    fn pack_again(&mut self, now: u64, stamp: u32, peer: &Peer, outs: &mut Outs) -> Emission
+        requires lost { 0 < length self.old.lost }
+        requires moment { now ≤ LAST_MOMENT }
+        requires empty { outs.old ≡ [] }
+        ensures reply { result ≡ emission_of self.old stamp peer.now.id (first_lost self.old) }
+        ensures after { self.new ≡ after_packing self.old now (first_lost self.old) }
+        ensures outs { outs.new ≡ packed_datagrams self.old stamp peer.now (first_lost self.old) }
+    {
+        let offset = self.lost[0];
+        let bytes = self.emit(offset, stamp, peer.addr, peer.id, outs);
+        let _ = self.lost.pop_front();
+        self.due = due_after(seq_of(self.isn, offset), now);
+        Emission::Again(bytes)
+    }
+
+    // Emits the next block that was never sent, where both windows allow it.
+    fn pack_next(&mut self, now: u64, stamp: u32, peer: &Peer, outs: &mut Outs) -> Emission
+        requires moment { now ≤ LAST_MOMENT }
+        requires empty { outs.old ≡ [] }
+        ensures reply { result ≡ emission_of self.old stamp peer.now.id (next_block self.old) }
+        ensures after { self.new ≡ after_packing self.old now (next_block self.old) }
+        ensures outs { outs.new ≡ packed_datagrams self.old stamp peer.now (next_block self.old) }
+    {
         let under_way = self.next - self.acked;
-        if under_way >= self.kept.len() as u64 || under_way >= WINDOW.min(self.flow as u64) {
-            return Packed::Nothing;
+        if under_way >= self.kept.len() as u64 {
+            return Emission::Idle;
         }
-        let block = &self.kept[under_way as usize];
-        let seq = seq_of(self.isn, self.next);
-        let packet = Packet::Block {
-            seq,
-            flags: block.flags,
-            stamp,
-            dest: peer.id,
-            bytes: &block.bytes,
-        };
-        let bytes = size(&packet);
-        outs.emit(peer.addr, &packet);
+        if under_way >= WINDOW.min(self.flow as u64) {
+            return Emission::Idle;
+        }
+        let bytes = self.emit(self.next, stamp, peer.addr, peer.id, outs);
+        self.due = due_after(seq_of(self.isn, self.next), now);
         self.next += 1;
-        self.due = due_after(seq, now);
-        Packed::Block(bytes)
+        Emission::Fresh(bytes)
+    }
+
+    /// Takes in an acknowledgement, and says whether it told something: one of blocks that are no
+    /// longer kept, or that were never sent, is stale. What is acknowledged is no longer kept.
+    #[tactic(auto, unfolding(udt_model::specs::Sending::acking, udt_model::specs::Sending::after_ack))]
+    pub fn on_ack(&mut self, body: &AckBody) -> bool
+        ensures value { result ≡ is_taken (acking self.old (acked_number body.now)) }
+        ensures after { self.new ≡ after_ack self.old body.now }
+    {
+        let Some(offset) = near(self.isn, self.acked, number_of(body)) else {
+            return false;
+        };
+        if offset < self.acked || offset > self.next {
+            return false;
+        }
+        let newly = offset - self.acked;
+        release(&mut self.kept, &mut self.pool, newly as usize);
+        forget_below(&mut self.lost, offset);
+        self.acked = offset;
+        self.flow = flow_after(self.flow, newly, body);
+        true
+    }
+
+    /// Counts all blocks that were sent and not acknowledged as lost, and says whether there are
+    /// any.
+    pub fn on_timeout(&mut self) -> bool
+        ensures value { result ≡ nat_lt self.old.acked self.old.next }
+        ensures after { self.new ≡ (if result then after_timeout self.old else self.old) }
+    {
+        if self.acked == self.next {
+            return false;
+        }
+        lose_all(&mut self.lost, self.acked, self.next);
+        true
+    }
+
+    /// Lets go of all blocks.
+    #[tactic(auto, unfolding(udt_model::specs::Sending::sending_closed))]
+    pub fn close(&mut self)
+        ensures { self.new ≡ sending_closed self.old }
+    {
+        let all = self.kept.len();
+        release(&mut self.kept, &mut self.pool, all);
+        self.lost.clear();
+        self.next = self.acked;
     }
 }
 
@@ -245,11 +313,37 @@ fn fitting(free: usize, room: u64, payload: usize) -> usize
 // The moment before which nothing is sent after this block, in nanoseconds.
 fn due_after(seq: u32, now: u64) -> u64
     requires { now ≤ LAST_MOMENT }
-    ensures { result ≡ due_behind seq now }
+    ensures value { result ≡ due_behind seq now }
+    ensures bound { result < 2 ^ 63 }
 {
     if seq % 16 == 0 {
         1000 * now
     } else {
         1000 * now + PERIOD
+    }
+}
+
+// The wire number before which all has arrived.
+fn number_of(body: &AckBody) -> u32
+    ensures { result ≡ acked_number body.now }
+{
+    match body {
+        AckBody::Light { ack } => *ack,
+        AckBody::Buffer { ack, .. } => *ack,
+        AckBody::Full { ack, .. } => *ack,
+    }
+}
+
+// How many packets the peer has room for, once so many more have arrived.
+fn flow_after(flow: u32, newly: u64, body: &AckBody) -> u32
+    ensures { result ≡ flow_behind flow newly body.now }
+{
+    match body {
+        AckBody::Light { .. } => {
+            let left = (flow as u64).saturating_sub(newly) as u32;
+            FEWEST_BLOCKS.max(left)
+        }
+        AckBody::Buffer { buffer, .. } => FEWEST_BLOCKS.max(MOST_BLOCKS.min(*buffer)),
+        AckBody::Full { buffer, .. } => FEWEST_BLOCKS.max(MOST_BLOCKS.min(*buffer)),
     }
 }

@@ -1,25 +1,28 @@
 // The socket: two halves and what they share.
 
-ghost use Rattle.std.specs.Prelude.{◌≡◌, ◌≢◌, ◌+◌, ◌<◌, ◌≤◌, ◌^◌, length, take, drop, Ok, IfOk, OnErr, IsErrOf, IsTrue, ◌↔◌};
+ghost use Rattle.std.specs.Prelude.{◌≡◌, ◌≢◌, ◌+◌, ◌<◌, ◌≤◌, ◌^◌, [], length, drop, Ok, IfOk, OnErr, IsErrOf, IsTrue, ◌↔◌};
 ghost use Rattle.udt_model.specs.declared.packets.Kind.TheVariants.{Stream};
 ghost use Rattle.udt_model.specs.declared.limits.TheConstants.{LAST_START};
-ghost use Rattle.udt_model.specs.Addresses.{same_addr};
-ghost use Rattle.udt_model.specs.State.{Datagram};
-ghost use Rattle.udt_model.specs.Step.{Send, Recv, Pack, Arrive, Sent, Received, DidPack, DidHear, step, opening, at_moment, risen as one_more, on_block as block_arrives};
+ghost use Rattle.udt_model.specs.Step.{Send, Recv, Pack, Close, Sent, Received, DidPack, step, opening, at_moment, stamp_of, packed_as, closed_from as after_closing, ready_bits};
+ghost use Rattle.udt_model.specs.Sending.{packing};
+ghost use Rattle.udt_model.specs.Wire.{bit as one_if};
 ghost use Rattle.udt_core.specs.Opening.{IsInRange};
 ghost use Rattle.udt_core.specs.Receipts.{received_in};
 
+use crate::counts::{Counts, NO_COUNTS, risen};
 use crate::memory::OutOfMemory;
 use crate::outs::Outs;
-use crate::receiving::{Placed, Receiver};
-use crate::sending::Sender;
+use crate::receiving::Receiver;
+use crate::sending::{Emission, Sender};
 use std::alloc::Global;
 use std::marker::Model;
 use udt_model::{
-    Addr, Config, FEWEST_BLOCKS, Flags, Heard, Kind, LAST_MOMENT, LAST_START, MOST_BLOCKS,
-    MOST_PAYLOAD, Packed, Peer, Refusal,
+    ACK_INTERVAL, Config, FEWEST_BLOCKS, Kind, LAST_MOMENT, LAST_START, MOST_BLOCKS, MOST_PAYLOAD,
+    Packed, Peer, Phase, Refusal,
 };
-use udt_packet::{Packet, read};
+
+mod arrivals;
+mod ticks;
 
 /// Why a socket wasn't opened.
 #[derive(Clone, Copy, Debug, PartialEq, Eq)]
@@ -28,37 +31,13 @@ pub enum OpenNo {
     OutOfMemory,
 }
 
-/// What was counted. Each count stays at 2^64 - 1 once it stands there.
-#[derive(Clone, Copy, Debug, PartialEq, Eq)]
-pub struct Counts {
-    pub sent: u64,
-    pub placed: u64,
-    pub double: u64,
-    pub below: u64,
-    pub above: u64,
-    pub stale: u64,
-    pub foreign: u64,
-    pub malformed: u64,
-}
-
-const NO_COUNTS: Counts = Counts {
-    sent: 0,
-    placed: 0,
-    double: 0,
-    below: 0,
-    above: 0,
-    stale: 0,
-    foreign: 0,
-    malformed: 0,
-};
-
 /// One end of a connection, as a machine of events. Contracts see it as the state of the protocol's
 /// definitions, and each event as its step.
 ///
-/// The application calls `send` and `recv`. What owns the port gives each datagram that came for
-/// this socket to `arrive`, and calls `pack` to have the next datagram. Each event carries its
-/// moment in microseconds: one before the last counts as the last, and one at or past 2^53 as
-/// 2^53 - 1.
+/// The application calls `send`, `recv` and `close`. What owns the port gives each datagram that
+/// came for this socket to `arrive`, and calls `tick` for what time brings and `pack` to have the
+/// next datagram. Each event carries its moment in microseconds: one before the last counts as the
+/// last, and one at or past 2^53 as 2^53 - 1. `count` and `bits` are no events.
 #[derive(Drop)]
 pub struct Socket {
     own: u32,
@@ -67,6 +46,10 @@ pub struct Socket {
     opened: u64,
     last: u64,
     count: u64,
+    phase: Phase,
+    heard: u64,
+    exp_from: u64,
+    exp_n: u64,
     sending: Sender,
     receiving: Receiver,
     counts: Counts,
@@ -141,8 +124,9 @@ impl Socket {
         let payload = config.payload.min(peer.payload);
         let flow = FEWEST_BLOCKS.max(peer.flow.min(MOST_BLOCKS));
         let sending = Sender::new(alloc, peer.isn, payload, config.snd_blocks, flow, start)?;
-        let receiving = Receiver::new(alloc, peer.isn, payload, config.rcv_blocks, start)?;
         let now = now.min(LAST_MOMENT);
+        let ack_due = now + ACK_INTERVAL;
+        let receiving = Receiver::new(alloc, peer.isn, payload, config.rcv_blocks, start, ack_due)?;
         Ok(Socket {
             own,
             kind: config.kind,
@@ -150,24 +134,36 @@ impl Socket {
             opened: now,
             last: now,
             count: 0,
+            phase: Phase::Connected,
+            heard: now,
+            exp_from: now,
+            exp_n: 1,
             sending,
             receiving,
             counts: NO_COUNTS,
         })
     }
 
-    /// Takes as many of the bytes as fit into the free blocks. Spent comes where the direction has
-    /// carried all the packets that it may, AgainSend where no block is free.
+    /// Takes as many of the bytes as fit into the free blocks. ConnLost comes once the connection was
+    /// lost and NotConnected once the socket is closed, Spent where the direction has carried all the
+    /// packets that it may, AgainSend where no block is free.
     #[tactic(auto, unfolding(udt_model::specs::Step::step))]
     pub fn send(&mut self, now: u64, bytes: &[u8]) -> Result<usize, Refusal>
         ensures reply { Sent result ≡ (step self.old (record { now = now; act = Send bytes.now })).reply }
         ensures after { self.new ≡ (step self.old (record { now = now; act = Send bytes.now })).after }
+        ensures refused { OnErr result (self.new ≡ at_moment self.old now) }
     {
         self.at(now);
-        self.sending.send(bytes)
+        match self.phase {
+            Phase::Connected => self.sending.send(bytes),
+            Phase::Broken(why) => Err(Refusal::ConnLost(why)),
+            Phase::Closing | Phase::Closed => Err(Refusal::NotConnected),
+        }
     }
 
-    /// Gives the first bytes that wait, as far as there is room. AgainRecv comes where none waits.
+    /// Gives the first bytes that wait, as far as there is room. Where none waits, AgainRecv comes
+    /// while the socket is connected, and ConnLost once the connection was lost. NotConnected comes
+    /// once the socket is closed.
     #[tactic(auto, unfolding(udt_model::specs::Step::step))]
     pub fn recv(&mut self, now: u64, into: &mut [u8]) -> Result<usize, Refusal>
         ensures reply { Received (received_in result into.new)
@@ -176,13 +172,34 @@ impl Socket {
         ensures within { IfOk result (λ count. count ≤ length into.old) }
         ensures rest { IfOk result (λ count. drop count into.new ≡ drop count into.old) }
         ensures err { OnErr result (into.new ≡ into.old) }
+        ensures refused { OnErr result (self.new ≡ at_moment self.old now) }
     {
         self.at(now);
-        self.receiving.recv(into)
+        match self.phase {
+            Phase::Connected => self.receiving.recv(into),
+            Phase::Broken(why) => match self.receiving.recv(into) {
+                Ok(count) => Ok(count),
+                Err(_) => Err(Refusal::ConnLost(why)),
+            },
+            Phase::Closing | Phase::Closed => Err(Refusal::NotConnected),
+        }
     }
 
-    /// Emits the next block, where the time has come and both windows allow it.
-    #[tactic(auto, unfolding(udt_model::specs::Step::step, udt_model::specs::Sending::after_pack))]
+    /// Drops what was not sent and what was not read. A connected socket is closed once a tick has
+    /// told its peer.
+    #[tactic(auto, unfolding(udt_model::specs::Step::step))]
+    pub fn close(&mut self, now: u64)
+        ensures { self.new ≡ (step self.old (record { now = now; act = Close })).after }
+    {
+        self.at(now);
+        self.phase = closed_from(self.phase);
+        self.sending.close();
+        self.receiving.close();
+    }
+
+    /// Emits the least lost block or else the next one, where the time has come and the socket is
+    /// connected. Both windows must allow a block that was never sent.
+    #[tactic(auto, unfolding(udt_model::specs::Step::step))]
     pub fn pack(&mut self, now: u64, outs: &mut Outs) -> Packed
         ensures reply { DidPack result ≡ (step self.old (record { now = now; act = Pack })).reply }
         ensures after { self.new ≡ (step self.old (record { now = now; act = Pack })).after }
@@ -190,72 +207,55 @@ impl Socket {
     {
         outs.clear();
         self.at(now);
-        let stamp = ((self.last - self.opened) % (1 << 32)) as u32;
-        let packed = self.sending.pack(self.last, stamp, &self.peer, outs);
-        if let Packed::Block(_) = packed {
-            self.counts.sent = risen(self.counts.sent);
-        }
-        packed
-    }
-
-    /// Takes in a datagram that came from this address.
-    #[tactic(auto, unfolding(udt_model::specs::Step::step))]
-    pub fn arrive(&mut self, now: u64, from: Addr, bytes: &[u8], outs: &mut Outs) -> Heard
-        ensures reply { DidHear result ≡ (step self.old (record { now = now; act = Arrive from bytes.now })).reply }
-        ensures after { self.new ≡ (step self.old (record { now = now; act = Arrive from bytes.now })).after }
-        ensures outs { outs.new ≡ (step self.old (record { now = now; act = Arrive from bytes.now })).outs }
-    {
-        outs.clear();
-        self.at(now);
-        match read(bytes) {
-            Err(why) => {
-                self.counts.malformed = risen(self.counts.malformed);
-                Heard::Malformed(why)
-            }
-            Ok(
-                Packet::Block {
-                    seq,
-                    flags,
-                    dest,
-                    bytes,
-                    ..
-                },
-            ) => {
-                if !is_same(from, self.peer.addr) || dest != self.own {
-                    self.counts.foreign = risen(self.counts.foreign);
-                    return Heard::Foreign;
-                }
-                self.on_block(seq, flags, bytes)
-            }
+        match self.phase {
+            Phase::Connected => self.pack_next(outs),
+            Phase::Broken(_) | Phase::Closing | Phase::Closed => Packed::Nothing,
         }
     }
 
-    // A block that came from the peer to this socket.
-    fn on_block(&mut self, seq: u32, flags: Flags, bytes: &[u8]) -> Heard
-        ensures reply { DidHear result ≡ (block_arrives self.old seq flags bytes.now).reply }
-        ensures after { self.new ≡ (block_arrives self.old seq flags bytes.now).after }
+    // Emits the block that is sent next by a connected socket.
+    #[tactic(auto, unfolding(udt_model::specs::Sending::after_pack))]
+    fn pack_next(&mut self, outs: &mut Outs) -> Packed
+        requires empty { outs.old ≡ [] }
+        ensures reply { DidPack result ≡ (packed_as self.old (packing self.old.sending self.old.last)).reply }
+        ensures after { self.new ≡ (packed_as self.old (packing self.old.sending self.old.last)).after }
+        ensures outs { outs.new ≡ (packed_as self.old (packing self.old.sending self.old.last)).outs }
     {
-        if bytes.is_empty() || bytes.len() > self.receiving.payload() as usize {
-            self.counts.stale = risen(self.counts.stale);
-            return Heard::BadLength;
+        let stamp = self.stamp();
+        match self.sending.pack(self.last, stamp, &self.peer, outs) {
+            Emission::Fresh(bytes) => {
+                self.counts.sent = risen(self.counts.sent);
+                Packed::Block(bytes)
+            }
+            Emission::Again(bytes) => {
+                self.counts.resent = risen(self.counts.resent);
+                Packed::Block(bytes)
+            }
+            Emission::Until(moment) => Packed::NotYet(moment),
+            Emission::Idle => Packed::Nothing,
         }
-        match self.receiving.on_block(seq, flags, bytes) {
-            Placed::New => {
-                self.counts.placed = risen(self.counts.placed);
-                Heard::Placed
+    }
+
+    /// How many events there were.
+    pub fn count(&self) -> u64
+        ensures { result ≡ self.now.count }
+    {
+        self.count
+    }
+
+    /// What the socket is ready for, as bits: 1 that bytes can be read, 2 that some can be written, 4
+    /// that it is cut off or closed, 16 that it is connected, 32 that it is closed.
+    #[tactic(auto, unfolding(udt_model::specs::Step::ready_bits))]
+    pub fn bits(&self) -> u8
+        ensures { result ≡ ready_bits self.now }
+    {
+        match self.phase {
+            Phase::Connected => {
+                16 + bit(self.receiving.has_bytes()) + 2 * bit(self.sending.free() > 0)
             }
-            Placed::Double => {
-                self.counts.double = risen(self.counts.double);
-                Heard::Double
-            }
-            Placed::Below => {
-                self.counts.below = risen(self.counts.below);
-                Heard::Below
-            }
-            Placed::Above => {
-                self.counts.above = risen(self.counts.above);
-                Heard::Above
-            }
+            Phase::Broken(_) => 4 + bit(self.receiving.has_bytes()),
+            Phase::Closing => 0,
+            Phase::Closed => 36,
         }
     }
 
@@ -266,20 +266,30 @@ impl Socket {
         self.last = now.min(LAST_MOMENT).max(self.last);
         self.count = risen(self.count);
     }
+
+    // Microseconds since the socket was opened, modulo 2^32.
+    fn stamp(&self) -> u32
+        ensures { result ≡ stamp_of self.now }
+    {
+        ((self.last - self.opened) % (1 << 32)) as u32
+    }
 }
 
-// The addresses are the same.
-fn is_same(one: Addr, other: Addr) -> bool
-    ensures { result ≡ same_addr one other }
+// What closing makes of a phase.
+fn closed_from(phase: Phase) -> Phase
+    ensures { result ≡ after_closing phase }
 {
-    one == other
+    match phase {
+        Phase::Connected | Phase::Closing => Phase::Closing,
+        Phase::Broken(_) | Phase::Closed => Phase::Closed,
+    }
 }
 
-// One more, where there is one.
-fn risen(count: u64) -> u64
-    ensures { result ≡ one_more count }
+// A bit as a number.
+fn bit(set: bool) -> u8
+    ensures { result ≡ one_if set }
 {
-    count.saturating_add(1)
+    if set { 1 } else { 0 }
 }
 
 // The values lie in their ranges.

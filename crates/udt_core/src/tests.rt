@@ -1,6 +1,7 @@
 // Stories of sockets. What is expected was computed by hand from the protocol's definitions.
 
 use super::*;
+use std::process::Abort;
 use std::test::*;
 use udt_model::{Addr, Config, Ip, Kind, Malformed};
 
@@ -33,6 +34,58 @@ const THERE: Peer = Peer {
     flow: 8,
 };
 
+// What happens to a socket, and what it answers, or what it is ready for.
+#[derive(Drop)]
+enum Deed<'a> {
+    Sends(&'a [u8], Result<usize, Refusal>),
+    Reads(usize, Result<&'a [u8], Refusal>),
+    Packs(Packed),
+    Hears(&'a [u8], Heard),
+    Ticks,
+    Closes,
+    Is(u8),
+}
+
+// Does each deed at its moment. Behind it stands the datagram that it emits.
+fn play(
+    rt: &impl Abort,
+    socket: &mut Socket,
+    peer: Addr,
+    outs: &mut Outs,
+    story: &[(u64, Deed, Option<&[u8]>)],
+) {
+    for (now, deed, emitted) in story {
+        outs.clear();
+        match deed {
+            Deed::Sends(bytes, taken) => {
+                assert_eq!(rt; socket.send(*now, bytes), *taken, "of {bytes:?}")
+            }
+            Deed::Reads(room, received) => {
+                let mut into = [0xaa; 8];
+                assert!(rt; *room <= 8);
+                match socket.recv(*now, &mut into[..*room]) {
+                    Ok(count) => assert_eq!(rt; Ok(&into[..count]), *received, "at {now}"),
+                    Err(why) => assert_eq!(rt; Err(why), *received, "at {now}"),
+                }
+            }
+            Deed::Packs(packed) => assert_eq!(rt; socket.pack(*now, outs), *packed, "at {now}"),
+            Deed::Hears(bytes, heard) => {
+                assert_eq!(rt; socket.arrive(*now, peer, bytes, outs), *heard, "{bytes:?}")
+            }
+            Deed::Ticks => socket.tick(*now, outs),
+            Deed::Closes => socket.close(*now),
+            Deed::Is(bits) => assert_eq!(rt; socket.bits(), *bits, "at {now}"),
+        }
+        match emitted {
+            Some(bytes) => {
+                assert!(rt; outs.len() == 1, "at {now}");
+                assert_eq!(rt; outs.get(0), (peer, *bytes), "at {now}");
+            }
+            None => assert_eq!(rt; outs.len(), 0, "at {now}"),
+        }
+    }
+}
+
 #[test]
 fn bytes_go_over_in_any_order_and_once(rt: HostRuntime) -> Result<(), Fail> {
     // where the directions begin, and the two datagrams of "hello"
@@ -48,59 +101,40 @@ fn bytes_go_over_in_any_order_and_once(rt: HostRuntime) -> Result<(), Fail> {
             b"\x00\x00\x00\x01\x40\x00\x00\x01\x00\x00\x03\xe8\x00\x00\x00\x02o",
         ),
     ];
+    let again = Refusal::AgainRecv;
     let mut outs = Outs::new(rt.alloc())?;
     for (start, hell, o) in stories {
         let mut here = Socket::paired_at(rt.alloc(), 1, STREAM, THERE, 500, start)?;
-        assert_eq!(rt; here.send(1_500, b"hello"), Ok(5));
-        for datagram in [hell, o] {
-            // a moment before the last one counts as the last one
-            let packed = here.pack(0, &mut outs);
-            assert_eq!(rt; packed, Packed::Block(datagram.len()), "from {start}");
-            assert!(rt; outs.len() == 1);
-            assert_eq!(rt; outs.get(0), (THERE.addr, datagram), "from {start}");
-        }
-        assert_eq!(rt; here.pack(1_500, &mut outs), Packed::Nothing);
-        assert_eq!(rt; outs.len(), 0);
+        // a moment before the last one counts as the last one
+        let sends = [
+            (1_500, Deed::Sends(b"hello", Ok(5)), None),
+            (0, Deed::Packs(Packed::Block(20)), Some(hell)),
+            (0, Deed::Packs(Packed::Block(17)), Some(o)),
+            (1_500, Deed::Packs(Packed::Nothing), None),
+        ];
+        play(&rt, &mut here, THERE.addr, &mut outs, &sends);
 
         let mut there = Socket::paired_at(rt.alloc(), 2, STREAM, HERE, 500, start)?;
-        // each datagram that arrives, what is heard of it, the room of a receive, and what that gives
-        let arrivals: [(&[u8], Heard, usize, Result<&[u8], Refusal>); 6] = [
-            (o, Heard::Placed, 8, Err(Refusal::AgainRecv)),
-            (o, Heard::Double, 0, Ok(b"")),
-            (hell, Heard::Placed, 3, Ok(b"hel")),
-            (hell, Heard::Double, 8, Ok(b"lo")),
-            (hell, Heard::Below, 8, Err(Refusal::AgainRecv)),
-            (o, Heard::Below, 8, Err(Refusal::AgainRecv)),
+        let hears = [
+            (2_000, Deed::Hears(o, Heard::Placed), None),
+            (2_000, Deed::Reads(8, Err(again)), None),
+            (2_000, Deed::Hears(o, Heard::Double), None),
+            (2_000, Deed::Reads(0, Ok(b"")), None),
+            (2_000, Deed::Hears(hell, Heard::Placed), None),
+            (2_000, Deed::Reads(3, Ok(b"hel")), None),
+            (2_000, Deed::Hears(hell, Heard::Double), None),
+            (2_000, Deed::Reads(8, Ok(b"lo")), None),
+            (2_000, Deed::Hears(hell, Heard::Below), None),
+            (2_000, Deed::Hears(o, Heard::Below), None),
+            (2_000, Deed::Reads(8, Err(again)), None),
         ];
-        for (datagram, heard, room, received) in arrivals {
-            assert_eq!(rt; there.arrive(2_000, HERE.addr, datagram, &mut outs), heard);
-            assert_eq!(rt; outs.len(), 0);
-            let mut into = [0xaa; 8];
-            assert!(rt; room <= 8);
-            match there.recv(2_000, &mut into[..room]) {
-                Ok(count) => assert_eq!(rt; Ok(&into[..count]), received, "from {start}"),
-                Err(why) => assert_eq!(rt; Err(why), received, "from {start}"),
-            }
-        }
+        play(&rt, &mut there, HERE.addr, &mut outs, &hears);
     }
     Ok(())
 }
 
 #[test]
 fn full_halves_take_no_more(rt: HostRuntime) -> Result<(), Fail> {
-    let mut outs = Outs::new(rt.alloc())?;
-    let mut here = Socket::paired(rt.alloc(), 1, STREAM, Peer { isn: 5, ..THERE }, 0)?;
-    // the bytes of each send, and how many are taken: three blocks, then the other five
-    let sends: [(&[u8], Result<usize, Refusal>); 5] = [
-        (b"", Ok(0)),
-        (b"abcdefghij", Ok(10)),
-        (b"klmnopqrstuvwxyzABCDEFGH", Ok(20)),
-        (b"E", Err(Refusal::AgainSend)),
-        (b"", Ok(0)),
-    ];
-    for (bytes, taken) in sends {
-        assert_eq!(rt; here.send(0, bytes), taken, "of {bytes:?}");
-    }
     // the number, the flags and the bytes of each block
     let blocks: [&[u8]; 8] = [
         b"\x00\x00\x00\x05\x80\x00\x00\x01\x00\x00\x00\x07\x00\x00\x00\x02abcd",
@@ -112,57 +146,166 @@ fn full_halves_take_no_more(rt: HostRuntime) -> Result<(), Fail> {
         b"\x00\x00\x00\x0b\x00\x00\x00\x02\x00\x00\x00\x07\x00\x00\x00\x02wxyz",
         b"\x00\x00\x00\x0c\x40\x00\x00\x02\x00\x00\x00\x07\x00\x00\x00\x02ABCD",
     ];
+    // one past the last block that there is room for, and one before the first
+    let past = b"\x00\x00\x00\x0d\x80\x00\x00\x03\x00\x00\x00\x07\x00\x00\x00\x02x";
+    let before = b"\x00\x00\x00\x04\x80\x00\x00\x03\x00\x00\x00\x07\x00\x00\x00\x02x";
+    // one byte more than the payload, and none; for another socket; and too short
+    let long = b"\x00\x00\x00\x05\x80\x00\x00\x01\x00\x00\x00\x07\x00\x00\x00\x02abcde";
+    let none = b"\x00\x00\x00\x05\x80\x00\x00\x01\x00\x00\x00\x07\x00\x00\x00\x02";
+    let other = b"\x00\x00\x00\x05\x80\x00\x00\x01\x00\x00\x00\x07\x00\x00\x00\x01abcd";
+    let short = b"\x00\x00\x00\x05\x80\x00\x00\x01\x00\x00\x00\x07\x00\x00\x00";
+
+    let mut outs = Outs::new(rt.alloc())?;
+    let mut here = Socket::paired(rt.alloc(), 1, STREAM, Peer { isn: 5, ..THERE }, 0)?;
+    // three blocks, then the other five
+    let sends = [
+        (0, Deed::Sends(b"", Ok(0)), None),
+        (0, Deed::Sends(b"abcdefghij", Ok(10)), None),
+        (0, Deed::Sends(b"klmnopqrstuvwxyzABCDEFGH", Ok(20)), None),
+        (0, Deed::Sends(b"E", Err(Refusal::AgainSend)), None),
+        (0, Deed::Sends(b"", Ok(0)), None),
+        (0, Deed::Is(16), None),
+    ];
+    play(&rt, &mut here, THERE.addr, &mut outs, &sends);
     for block in blocks {
-        assert_eq!(rt; here.pack(7, &mut outs), Packed::Block(block.len()));
-        assert!(rt; outs.len() == 1);
-        assert_eq!(rt; outs.get(0), (THERE.addr, block));
+        let packs = [(7, Deed::Packs(Packed::Block(block.len())), Some(block))];
+        play(&rt, &mut here, THERE.addr, &mut outs, &packs);
     }
-    assert_eq!(rt; here.pack(7, &mut outs), Packed::Nothing);
+    let idles = [(7, Deed::Packs(Packed::Nothing), None)];
+    play(&rt, &mut here, THERE.addr, &mut outs, &idles);
 
     let mut there = Socket::paired(rt.alloc(), 2, STREAM, Peer { isn: 5, ..HERE }, 0)?;
-    // where each datagram comes from, its bytes, and what is heard of it
-    let arrivals: [(Addr, &[u8], Heard); 9] = [
-        // the last block that there is room for, one past it, and one before the first
-        (HERE.addr, blocks[7], Heard::Placed),
+    let hears = [
+        (8, Deed::Hears(blocks[7], Heard::Placed), None),
+        (8, Deed::Hears(past, Heard::Above), None),
+        (8, Deed::Hears(before, Heard::Above), None),
+        (8, Deed::Hears(long, Heard::BadLength), None),
+        (8, Deed::Hears(none, Heard::BadLength), None),
+        (8, Deed::Hears(other, Heard::Foreign), None),
         (
-            HERE.addr,
-            b"\x00\x00\x00\x0d\x80\x00\x00\x03\x00\x00\x00\x07\x00\x00\x00\x02x",
-            Heard::Above,
+            8,
+            Deed::Hears(short, Heard::Malformed(Malformed::TooShort)),
+            None,
         ),
-        (
-            HERE.addr,
-            b"\x00\x00\x00\x04\x80\x00\x00\x03\x00\x00\x00\x07\x00\x00\x00\x02x",
-            Heard::Above,
-        ),
-        // one byte more than the payload, and none
-        (
-            HERE.addr,
-            b"\x00\x00\x00\x05\x80\x00\x00\x01\x00\x00\x00\x07\x00\x00\x00\x02abcde",
-            Heard::BadLength,
-        ),
-        (
-            HERE.addr,
-            b"\x00\x00\x00\x05\x80\x00\x00\x01\x00\x00\x00\x07\x00\x00\x00\x02",
-            Heard::BadLength,
-        ),
-        // from another address, and for another socket
-        (THERE.addr, blocks[0], Heard::Foreign),
-        (
-            HERE.addr,
-            b"\x00\x00\x00\x05\x80\x00\x00\x01\x00\x00\x00\x07\x00\x00\x00\x01abcd",
-            Heard::Foreign,
-        ),
-        (
-            HERE.addr,
-            b"\x00\x00\x00\x05\x80\x00\x00\x01\x00\x00\x00\x07\x00\x00\x00",
-            Heard::Malformed(Malformed::TooShort),
-        ),
-        (HERE.addr, blocks[0], Heard::Placed),
+        (8, Deed::Is(18), None),
+        (8, Deed::Hears(blocks[0], Heard::Placed), None),
+        (8, Deed::Is(19), None),
     ];
-    for (from, bytes, heard) in arrivals {
-        assert_eq!(rt; there.arrive(8, from, bytes, &mut outs), heard, "{bytes:?}");
-        assert_eq!(rt; outs.len(), 0);
+    play(&rt, &mut there, HERE.addr, &mut outs, &hears);
+    let strange = [(8, Deed::Hears(blocks[0], Heard::Foreign), None)];
+    play(&rt, &mut there, THERE.addr, &mut outs, &strange);
+    Ok(())
+}
+
+const HELL: &[u8] = b"\x00\x00\x00\x05\x80\x00\x00\x01\x00\x00\x03\xe8\x00\x00\x00\x02hell";
+
+const O: &[u8] = b"\x00\x00\x00\x06\x40\x00\x00\x01\x00\x00\x03\xe8\x00\x00\x00\x02o";
+
+const HELL_AGAIN: &[u8] = b"\x00\x00\x00\x05\x80\x00\x00\x01\x00\x07\xa1\x20\x00\x00\x00\x02hell";
+
+// acknowledgements of the first two blocks: two of four blocks are free
+const ACK: &[u8] =
+    b"\x80\x02\x00\x00\x00\x00\x00\x01\x00\x00\x27\x10\x00\x00\x00\x01\x00\x00\x00\x07\x00\x01\x86\xa0\x00\x00\xc3\x50\x00\x00\x00\x02\x00\x00\x00\x00\x00\x00\x00\x00";
+
+const ACK_AGAIN: &[u8] =
+    b"\x80\x02\x00\x00\x00\x00\x00\x02\x00\x03\x5b\x5f\x00\x00\x00\x01\x00\x00\x00\x07\x00\x01\x86\xa0\x00\x00\xc3\x50\x00\x00\x00\x02\x00\x00\x00\x00\x00\x00\x00\x00";
+
+// a light acknowledgement of a third block, which was never sent
+const ACK_ABOVE: &[u8] =
+    b"\x80\x02\x00\x00\x00\x00\x00\x03\x00\x00\x27\x10\x00\x00\x00\x01\x00\x00\x00\x08";
+
+const SHUTDOWN: &[u8] = b"\x80\x05\x00\x00\x00\x00\x00\x00\x00\x0a\xae\x60\x00\x00\x00\x02";
+
+#[test]
+fn what_is_not_acknowledged_goes_again_until_the_end(rt: HostRuntime) -> Result<(), Fail> {
+    let config = Config {
+        snd_blocks: 4,
+        rcv_blocks: 4,
+        ..STREAM
+    };
+    let mut outs = Outs::new(rt.alloc())?;
+    let mut here = Socket::paired(rt.alloc(), 1, config, Peer { isn: 5, ..THERE }, 0)?;
+    let sends = [
+        (1_000, Deed::Sends(b"hello", Ok(5)), None),
+        (1_000, Deed::Packs(Packed::Block(20)), Some(HELL)),
+        (1_000, Deed::Packs(Packed::Block(17)), Some(O)),
+        // silence makes all that was sent count as lost
+        (499_999, Deed::Ticks, None),
+        (499_999, Deed::Packs(Packed::Nothing), None),
+        (500_000, Deed::Ticks, None),
+        (500_000, Deed::Packs(Packed::Block(20)), Some(HELL_AGAIN)),
+        // an acknowledgement lets go of the other block before it is sent again
+        (600_000, Deed::Hears(ACK_ABOVE, Heard::Stale), None),
+        (600_000, Deed::Hears(ACK, Heard::Ack), None),
+        (600_000, Deed::Packs(Packed::Nothing), None),
+        // the peer is told once
+        (700_000, Deed::Closes, None),
+        (700_000, Deed::Is(0), None),
+        (700_000, Deed::Sends(b"x", Err(Refusal::NotConnected)), None),
+        (700_000, Deed::Ticks, Some(SHUTDOWN)),
+        (700_000, Deed::Ticks, None),
+        (700_000, Deed::Hears(ACK, Heard::Stale), None),
+        (700_000, Deed::Is(36), None),
+    ];
+    play(&rt, &mut here, THERE.addr, &mut outs, &sends);
+
+    let mut there = Socket::paired(rt.alloc(), 2, config, Peer { isn: 5, ..HERE }, 0)?;
+    let lost = Refusal::ConnLost(Cause::PeerShutdown);
+    let hears = [
+        (2_000, Deed::Hears(HELL, Heard::Placed), None),
+        (3_000, Deed::Hears(O, Heard::Placed), None),
+        (9_999, Deed::Ticks, None),
+        (10_000, Deed::Ticks, Some(ACK)),
+        // nothing new is told for two round trips
+        (20_000, Deed::Ticks, None),
+        (209_999, Deed::Ticks, None),
+        (219_998, Deed::Ticks, None),
+        (219_999, Deed::Ticks, Some(ACK_AGAIN)),
+        // what waits is given once the peer has ended
+        (300_000, Deed::Hears(SHUTDOWN, Heard::Shutdown), None),
+        (300_000, Deed::Is(5), None),
+        (300_000, Deed::Reads(8, Ok(b"hello")), None),
+        (300_000, Deed::Is(4), None),
+        (300_000, Deed::Reads(8, Err(lost)), None),
+        (9_000_000, Deed::Ticks, None),
+        (9_000_000, Deed::Packs(Packed::Nothing), None),
+        (9_000_000, Deed::Closes, None),
+        (9_000_000, Deed::Reads(8, Err(Refusal::NotConnected)), None),
+    ];
+    play(&rt, &mut there, HERE.addr, &mut outs, &hears);
+    Ok(())
+}
+
+#[test]
+fn silence_is_answered_sixteen_times(rt: HostRuntime) -> Result<(), Fail> {
+    let moments: [u32; 16] = [
+        500_000, 1_420_000, 2_800_000, 4_640_000, 6_940_000, 9_700_000, 12_920_000, 16_600_000,
+        20_740_000, 25_340_000, 30_400_000, 35_920_000, 41_900_000, 48_340_000, 55_240_000,
+        62_600_000,
+    ];
+    let mut outs = Outs::new(rt.alloc())?;
+    let mut quiet = Socket::paired(rt.alloc(), 1, STREAM, THERE, 0)?;
+    for moment in moments {
+        let stamp = moment.to_be_bytes();
+        let mut sign = *b"\x80\x01\x00\x00\x00\x00\x00\x00\x00\x00\x00\x00\x00\x00\x00\x02";
+        sign[8..12].copy_from_slice(&stamp);
+        let now = moment as u64;
+        let story: [(u64, Deed, Option<&[u8]>); 2] = [
+            (now, Deed::Ticks, Some(&sign)),
+            (now + 1, Deed::Ticks, None),
+        ];
+        play(&rt, &mut quiet, THERE.addr, &mut outs, &story);
     }
+    let lost = Refusal::ConnLost(Cause::Expired);
+    let end = [
+        (70_419_999, Deed::Ticks, None),
+        (70_419_999, Deed::Is(18), None),
+        (70_420_000, Deed::Ticks, None),
+        (70_420_000, Deed::Is(4), None),
+        (70_420_000, Deed::Sends(b"x", Err(lost)), None),
+        (70_420_000, Deed::Reads(8, Err(lost)), None),
+    ];
+    play(&rt, &mut quiet, THERE.addr, &mut outs, &end);
     Ok(())
 }
 

@@ -1,39 +1,77 @@
--- What a socket emits over a history: the blocks of what it accepted, each with the offset that it names.
-use Rattle.std.proofs.Common.{◌≡◌, ℕ, zero, suc, ◌-◌, ◌^◌, ◌<◌, ◌≤◌, true, List, [], ◌∷◌, ◌++◌, length, take, drop, Some, Ok, Err, refl, ap, ◌∙◌, sym, subst, inl, inr, arith}
-use Rattle.std.specs.Prelude.{Result, slice_get}
-use Rattle.std.specs.List.{Contains, concat}
-use Rattle.std.proofs.lemmas.Option.{slice_get_within}
-use Rattle.std.proofs.lemmas.List.{append_assoc, append-nil, drop_all}
-use Rattle.std.proofs.lemmas.List.Elements.{Contains-append_cases, Contains-push_cases}
+-- What a socket emits over a history: packets to its peer, of which data packets carry the blocks of what it accepted,
+-- each with the offset that it names.
+use Rattle.std.proofs.Common.{◌≡◌, ℕ, zero, suc, ◌-◌, ◌^◌, ◌<◌, ◌≤◌, true, List, [], ◌∷◌, ◌++◌, drop, Some, Ok, refl, ap, ◌∙◌, sym, subst, arith}
+use Rattle.std.specs.Prelude.{slice_get, ◌||◌}
+use Rattle.std.specs.List.{Contains}
+use Rattle.std.proofs.lemmas.List.{drop_all}
 use Rattle.udt_model.specs.declared.answers.Peer.{Peer}
-use Rattle.udt_model.specs.declared.answers.Refusal.{Refusal}
+use Rattle.udt_model.specs.declared.answers.Phase.{Phase}
+use Rattle.udt_model.specs.declared.answers.Phase.TheVariants as phase
 use Rattle.udt_model.specs.declared.packets.Config.{Config}
 use Rattle.udt_model.specs.declared.packets.Flags.{Flags}
 use Rattle.udt_model.specs.Numbers.{wire_number}
-use Rattle.udt_model.specs.Wire.{Block, read}
-use Rattle.udt_model.specs.State.{KeptBlock, Sending, State, Datagram}
-use Rattle.udt_model.specs.Sending.{send_answer, after_answer, after_send, cut, blocks_for, Packing, Waits, Sends, Idles, packing, after_pack, unsent}
-use Rattle.udt_model.specs.Step.{Act, Send, Recv, Pack, Arrive, Event, Sent, Outcome, at_moment, block_datagram, packed_as, on_act, step, stamp_of, opening}
-use Rattle.udt_model.specs.History.{Item, History, taken_by, accepted_by, accepted, after_items, state_of, AreLegal, IsLegal}
-use Rattle.udt_model.specs.Records.{Emission, named, named_by_act, named_by_packing, with_offsets, emitted_by, emitted, IsOpening, Way, PairedAt, opened_by, IsWay}
-use Rattle.udt_model.proofs.ReceivingLemmas.{concat-append}
-use Rattle.udt_model.proofs.SendingLemmas.{bytes_of, MessagesFit-at, cut-all, IsCut, cut-with_message, cut-next, packing-sends}
-use Rattle.udt_model.proofs.StepLemmas.{step-keeps, after_items-keeps, IsQuiet, on_read-quiet}
-use Rattle.udt_model.proofs.WireLemmas.{read-spelling}
-use Rattle.udt_laws.proofs.Opened.{opened_peer, opened_start}
+use Rattle.udt_model.specs.Wire.{Packet, Block, destination, read}
+use Rattle.udt_model.specs.State.{Sending, State}
+use Rattle.udt_model.specs.Step.{is_connected, is_broken, at_moment, opening}
+use Rattle.udt_model.specs.History.{Item, History, after_items, state_of, start_of, IsLegal}
+use Rattle.udt_model.specs.Records.{Emission, emitted, IsOpening, Way, PairedAt, opened_by, IsWay}
+use Rattle.udt_model.proofs.SendingLemmas.{bytes_of, IsCut, cut-next, cut-kept_at, packing-sends, packing-again, lost-within}
+use Rattle.udt_model.proofs.StepLemmas.{after_items-keeps}
+use Rattle.udt_model.proofs.EmissionLemmas.{Emitting, NewBlock, LostBlock, Acknowledgement, SignOfLife, TheEnd, IsEmittedAt, emitted-at}
 use Rattle.udt_laws.specs.Laws.{CarriesBlock, HasBlocks, EmittedBlocks}
+use Rattle.udt_laws.proofs.Opened.{opened_start}
+use Rattle.udt_laws.proofs.Cuts.{blocks_by, blocks_by-append, blocks_by-joined, CutIn, items-cut}
+use Rattle.udt_laws.proofs.Spelled.{AcksFit, items-fit, CanSpell, packet_of, packet-dest, IsSpelled, emission-spelled}
 
--- a datagram carries one of these blocks to the peer, under the number of the offset that it names
-pub record IsBlockOf (peer : Peer) (isn start : ℕ) (blocks : List (List ℕ)) (emission : Emission) : Type 0 where
+-- ---- a moment of a history
+
+-- what is known of the state in which a history that began so emits something: its halves stand to the blocks so far as
+-- they should, and its packets can be spelled
+pub record IsMoment (opening : State) (start : ℕ) (blocks : List (List ℕ)) (s : State) : Type 0 where
+  pub peer : s.peer ≡ opening.peer
+  pub sending_isn : s.sending.isn ≡ opening.sending.isn
+  pub receiving_isn : s.receiving.isn ≡ opening.receiving.isn
+  pub can : CanSpell s
+  pub cut : CutIn s.phase s.sending start blocks
+
+-- a half that begins is cut into no blocks, and its packets can be spelled
+pub record BeginsWell (s : State) (start : ℕ) : Type 0 where
+  pub connected : s.phase ≡ phase.Connected
+  pub id_fits : s.peer.id < 2 ^ 32
+  pub acks : AcksFit s.receiving
+  pub cut : IsCut s.sending start []
+
+kept-messages : (s : State) (start : ℕ) (blocks : List (List ℕ)) → CutIn s.phase s.sending start blocks → s.phase ≡ phase.Connected
+    → IsCut s.sending start blocks
+kept-messages s start blocks is_cut connected = rw connected at is_cut
+
+-- after each of its items a history is at such a moment
+pub moment-after : (s : State) (start : ℕ) (items : List Item) (now : ℕ) → BeginsWell s start
+    → IsMoment s start (blocks_by s items) (at_moment (after_items s items) now)
+moment-after s start items now well =
+    let same = after_items-keeps s items in
+    let is_cut = items-cut s start [] items (rw well.connected well.cut) in
+    record {
+      peer = same.peer;
+      sending_isn = same.sending.isn;
+      receiving_isn = same.receiving.isn;
+      can = record {
+        id = subst (λ (p : Peer). p.id < 2 ^ 32) (sym same.peer) well.id_fits;
+        acks = items-fit s items well.acks;
+        messages = λ connected. (kept-messages (after_items s items) start (blocks_by s items) is_cut connected).messages;
+      };
+      cut = is_cut;
+    }
+
+-- ---- what carries a block
+
+-- the emission carries one of these blocks, under the number of the offset that it names
+pub record IsBlockOf (isn start : ℕ) (blocks : List (List ℕ)) (emission : Emission) (number : ℕ) (payload : List ℕ) : Type 0 where
   pub offset : ℕ
-  pub block : List ℕ
-  pub flags : Flags
-  pub stamp : ℕ
   pub names : emission.offsets ≡ offset ∷ []
   pub not_before : start ≤ offset
-  pub carries : slice_get blocks (offset - start) ≡ Some block
-  pub sent_to : emission.datagram.addr ≡ peer.addr
-  pub reads : read emission.datagram.bytes ≡ Ok (Block (wire_number isn offset) flags stamp peer.id block)
+  pub carries : slice_get blocks (offset - start) ≡ Some payload
+  pub numbered : number ≡ wire_number isn offset
 
 slice_get-longer : (blocks more : List (List ℕ)) (n : ℕ) (block : List ℕ) → slice_get blocks n ≡ Some block
     → slice_get (blocks ++ more) n ≡ Some block
@@ -41,253 +79,131 @@ slice_get-longer [] more n block found = absurd (cc)
 slice_get-longer (first ∷ others) more zero block found = found
 slice_get-longer (first ∷ others) more (suc n) block found = slice_get-longer others more n block found
 
--- more blocks change nothing of this
-block-longer : (peer : Peer) (isn start : ℕ) (blocks more : List (List ℕ)) (emission : Emission) → IsBlockOf peer isn start blocks emission
-    → IsBlockOf peer isn start (blocks ++ more) emission
-block-longer peer isn start blocks more emission is = record {
-  offset = is.offset;
-  block = is.block;
-  flags = is.flags;
-  stamp = is.stamp;
-  names = is.names;
-  not_before = is.not_before;
-  carries = slice_get-longer blocks more (is.offset - start) is.block is.carries;
-  sent_to = is.sent_to;
-  reads = is.reads;
-}
+-- one packet that bytes read as is the same as another
+pub same-packet : (bytes : List ℕ) (first second : Packet) → read bytes ≡ Ok first → read bytes ≡ Ok second → first ≡ second
+same-packet bytes first second one two = cc
 
--- what an event takes adds blocks, and what it emits carries blocks
-pub record Emits (peer : Peer) (isn start : ℕ) (blocks : List (List ℕ)) (after : Sending) (emissions : List Emission) (taken : List ℕ) : Type 0 where
-  pub more : List (List ℕ)
-  pub joined : concat more ≡ taken
-  pub is_cut : IsCut after start (blocks ++ more)
-  pub emits : (emission : Emission) → Contains emissions emission → IsBlockOf peer isn start (blocks ++ more) emission
-
-not_among : (emission : Emission) → Contains [] emission → ⊥
-not_among emission among = omega (arith, among.1)
-
--- an event that takes and emits nothing
-emits-nothing : (peer : Peer) (isn start : ℕ) (blocks : List (List ℕ)) (s : Sending) → IsCut s start blocks → Emits peer isn start blocks s [] []
-emits-nothing peer isn start blocks s is_cut = record {
-  more = [];
-  joined = refl;
-  is_cut = rw append-nil is_cut;
-  emits = λ emission among. absurd (not_among emission among);
-}
-
-emits-answer : (peer : Peer) (isn start : ℕ) (blocks : List (List ℕ)) (s : Sending) (bytes : List ℕ) (answer : Result ℕ Refusal) → IsCut s start blocks
-    → Emits peer isn start blocks (after_answer s bytes answer) [] (taken_by (Send bytes) (Sent answer))
-emits-answer peer isn start blocks s bytes (Ok zero) is_cut = emits-nothing peer isn start blocks s is_cut
-emits-answer peer isn start blocks s bytes (Ok (suc n)) is_cut = record {
-  more = bytes_of (cut (blocks_for (length (take (suc n) bytes)) s.payload) s.payload s.message true (take (suc n) bytes));
-  joined = cut-all s.payload s.message true (take (suc n) bytes) is_cut.payload;
-  is_cut = cut-with_message s start blocks (take (suc n) bytes) is_cut;
-  emits = λ emission among. absurd (not_among emission among);
-}
-emits-answer peer isn start blocks s bytes (Err why) is_cut = emits-nothing peer isn start blocks s is_cut
-
-emits-send : (peer : Peer) (isn start : ℕ) (blocks : List (List ℕ)) (s : Sending) (bytes : List ℕ) → IsCut s start blocks
-    → Emits peer isn start blocks (after_send s bytes) [] (taken_by (Send bytes) (Sent (send_answer s (length bytes))))
-unfolding after_send
-emits-send peer isn start blocks s bytes is_cut = emits-answer peer isn start blocks s bytes (send_answer s (length bytes)) is_cut
-
-only : (first emission : Emission) → Contains (first ∷ []) emission → first ≡ emission
-only first emission among = elim (Contains-push_cases [] first emission among) [ inl none ↦ absurd (not_among emission none) | inr same ↦ same ]
-
--- the half once its next block was sent
-sent-next : (s : Sending) (start now : ℕ) (blocks : List (List ℕ)) (block : KeptBlock) → packing s now ≡ Sends block → IsCut s start blocks
-    → IsCut (after_pack s now) start blocks
-unfolding after_pack
-sent-next s start now blocks block is is_cut =
-    let found = slice_get_within s.kept (s.next - s.acked) block (packing-sends s now block is) in
-    rw is (record {
-      not_before = is_cut.not_before;
-      count = is_cut.count;
-      kept = is_cut.kept;
-      sent_from = omega (arith, is_cut.sent_from);
-      sent_to = omega (arith, is_cut.sent_from, is_cut.sent_to, found);
-      messages = is_cut.messages;
-      message = is_cut.message;
-      payload = is_cut.payload;
-    })
-
-block-sent : (s : State) (start : ℕ) (blocks : List (List ℕ)) (block : KeptBlock) → s.peer.id < 2 ^ 32 → IsCut s.sending start blocks
-    → unsent s.sending ≡ Some block
-    → IsBlockOf s.peer s.sending.isn start blocks (record { datagram = block_datagram s block; offsets = s.sending.next ∷ [] })
-block-sent s start blocks block id_fits is_cut found = record {
-  offset = s.sending.next;
-  block = block.bytes;
-  flags = block.flags;
-  stamp = stamp_of s;
-  names = refl;
-  not_before = omega (arith, is_cut.not_before, is_cut.sent_from);
-  carries = cut-next s.sending start blocks block is_cut found;
-  sent_to = refl;
-  reads =
-      let number_fits : wire_number s.sending.isn s.sending.next < 2 ^ 31 = omega arith in
-      let stamp_fits : stamp_of s < 2 ^ 32 = omega arith in
-      let message_fits = MessagesFit-at s.sending.kept (s.sending.next - s.sending.acked) block is_cut.messages found in
-      read-spelling (Block (wire_number s.sending.isn s.sending.next) block.flags (stamp_of s) s.peer.id block.bytes)
-      (number_fits, message_fits, stamp_fits, id_fits);
-}
-
-emits-packed : (s : State) (start : ℕ) (blocks : List (List ℕ)) (p : Packing) → packing s.sending s.last ≡ p → s.peer.id < 2 ^ 32
-    → IsCut s.sending start blocks
-    → Emits s.peer s.sending.isn start blocks (packed_as s p).after.sending (with_offsets (packed_as s p).outs (named_by_packing s p)) []
-emits-packed s start blocks (Waits until) is id_fits is_cut = emits-nothing s.peer s.sending.isn start blocks s.sending is_cut
-emits-packed s start blocks (Sends block) is id_fits is_cut = record {
-  more = [];
-  joined = refl;
-  is_cut = rw append-nil (sent-next s.sending start s.last blocks block is is_cut);
-  emits = λ emission among.
-      let same = only (record { datagram = block_datagram s block; offsets = s.sending.next ∷ [] }) emission among in
-      let sent = block-sent s start blocks block id_fits is_cut (packing-sends s.sending s.last block is) in
-      rw append-nil (subst (IsBlockOf s.peer s.sending.isn start blocks) same sent);
-}
-emits-packed s start blocks Idles is id_fits is_cut = emits-nothing s.peer s.sending.isn start blocks s.sending is_cut
-
-emits-quiet : (s : State) (start : ℕ) (blocks : List (List ℕ)) (outcome : Outcome) → IsQuiet s outcome → IsCut s.sending start blocks
-    → Emits s.peer s.sending.isn start blocks outcome.after.sending (with_offsets outcome.outs []) []
-emits-quiet s start blocks outcome quiet is_cut =
-    subst (λ (outs : List Datagram). Emits s.peer s.sending.isn start blocks outcome.after.sending (with_offsets outs []) []) (sym quiet.outs)
-    (subst (λ (sending : Sending). Emits s.peer s.sending.isn start blocks sending [] []) (sym quiet.sending)
-    (emits-nothing s.peer s.sending.isn start blocks s.sending is_cut))
-
-emits-act : (s : State) (start : ℕ) (blocks : List (List ℕ)) (act : Act) → s.peer.id < 2 ^ 32 → IsCut s.sending start blocks
-    → Emits s.peer s.sending.isn start blocks (on_act s act).after.sending (with_offsets (on_act s act).outs (named_by_act s act))
-    (taken_by act (on_act s act).reply)
-emits-act s start blocks (Send bytes) id_fits is_cut = emits-send s.peer s.sending.isn start blocks s.sending bytes is_cut
-emits-act s start blocks (Recv room) id_fits is_cut = emits-nothing s.peer s.sending.isn start blocks s.sending is_cut
-emits-act s start blocks Pack id_fits is_cut = emits-packed s start blocks (packing s.sending s.last) refl id_fits is_cut
-emits-act s start blocks (Arrive from bytes) id_fits is_cut = emits-quiet s start blocks _ (on_read-quiet s from (read bytes)) is_cut
-
-emits-step : (s : State) (start : ℕ) (blocks : List (List ℕ)) (event : Event) → s.peer.id < 2 ^ 32 → IsCut s.sending start blocks
-    → Emits s.peer s.sending.isn start blocks (step s event).after.sending (with_offsets (step s event).outs (named s event))
-    (taken_by event.act (step s event).reply)
-unfolding step named
-emits-step s start blocks event id_fits is_cut = emits-act (at_moment s event.now) start blocks event.act id_fits is_cut
-
--- two parts of a history emit what they emit apart, the second one from the blocks of both
-emits-both : (peer : Peer) (isn start : ℕ) (blocks : List (List ℕ)) (between after : Sending) (first second : List Emission) (taken later : List ℕ)
-    → (one : Emits peer isn start blocks between first taken) → Emits peer isn start (blocks ++ one.more) after second later
-    → Emits peer isn start blocks after (first ++ second) (taken ++ later)
-emits-both peer isn start blocks between after first second taken later one two =
-    let joined = append_assoc blocks one.more two.more in
-    record {
-      more = one.more ++ two.more;
-      joined = concat-append one.more two.more ∙ ap (λ (front : List ℕ). front ++ concat two.more) one.joined
-          ∙ ap (λ (rest : List ℕ). taken ++ rest) two.joined;
-      is_cut = subst (IsCut after start) joined two.is_cut;
-      emits = λ emission among. elim (Contains-append_cases first second emission among) [
-        | inl early ↦ subst (λ all. IsBlockOf peer isn start all emission) joined
-            (block-longer peer isn start (blocks ++ one.more) two.more emission (one.emits emission early))
-        | inr late ↦ subst (λ all. IsBlockOf peer isn start all emission) joined (two.emits emission late)
-      ];
-    }
-
--- over all items, what is accepted is the blocks that they add, and what is emitted carries blocks
-pub emits-items : (s : State) (start : ℕ) (blocks : List (List ℕ)) (items : List Item) → AreLegal s items → s.peer.id < 2 ^ 32
-    → IsCut s.sending start blocks
-    → Emits s.peer s.sending.isn start blocks (after_items s items).sending (emitted_by s items) (accepted_by items)
-unfolding after_items AreLegal emitted_by accepted_by
-emits-items s start blocks [] legal id_fits is_cut = emits-nothing s.peer s.sending.isn start blocks s.sending is_cut
-emits-items s start blocks (item ∷ items) legal id_fits is_cut =
-    let next = (step s item.event).after in
-    let same = step-keeps s item.event in
-    let stepped = emits-step s start blocks item.event id_fits is_cut in
-    let outs = subst (λ (outs : List Datagram). Emits s.peer s.sending.isn start blocks next.sending (with_offsets outs (named s item.event))
-    (taken_by item.event.act (step s item.event).reply)) (sym legal.1) stepped in
-    let one = subst (λ reply. Emits s.peer s.sending.isn start blocks next.sending (with_offsets item.outs (named s item.event))
-    (taken_by item.event.act reply)) (sym legal.0) outs in
-    let fits = subst (λ (peer : Peer). peer.id < 2 ^ 32) (sym same.peer) id_fits in
-    let rest = emits-items next start (blocks ++ one.more) items legal.2 fits one.is_cut in
-    let Rest = λ (peer : Peer) (isn : ℕ).
-    Emits peer isn start (blocks ++ one.more) (after_items next items).sending (emitted_by next items) (accepted_by items) in
-    let from = subst (λ (peer : Peer). Rest peer next.sending.isn) same.peer rest in
-    let two = subst (λ (isn : ℕ). Rest s.peer isn) same.sending.isn from in
-    emits-both s.peer s.sending.isn start blocks next.sending (after_items next items).sending _ _ _ _ one two
-
--- bytes read as one packet alone
-record IsOnePacket (number told dest to : ℕ) (payload block : List ℕ) : Type 0 where
-  same_number : number ≡ told
-  same_dest : dest ≡ to
-  same_payload : payload ≡ block
-
-read-once : (bytes : List ℕ) (number told : ℕ) (flags others : Flags) (stamp time dest to : ℕ) (payload block : List ℕ)
-    → read bytes ≡ Ok (Block number flags stamp dest payload) → read bytes ≡ Ok (Block told others time to block)
-    → IsOnePacket number told dest to payload block
-read-once bytes number told flags others stamp time dest to payload block reads again = record { same_number = cc; same_dest = cc; same_payload = cc }
-
--- the datagram is a data packet
-pub record ReadsAsBlock (emission : Emission) : Type 0 where
-  pub number : ℕ
-  pub flags : Flags
-  pub stamp : ℕ
-  pub dest : ℕ
-  pub payload : List ℕ
-  pub reads : read emission.datagram.bytes ≡ Ok (Block number flags stamp dest payload)
-
--- a half that begins has accepted no block
-cut-opening : (own : ℕ) (config : Config) (peer : Peer) (now start : ℕ) → 1 ≤ config.payload → 1 ≤ peer.payload
-    → IsCut (opening own config peer now start).sending start []
-unfolding opening
-cut-opening own config peer now start payload peer_payload = record {
-  not_before = omega arith;
-  count = refl;
-  kept = sym (drop_all (start - start) [] (omega arith));
-  sent_from = omega arith;
-  sent_to = omega arith;
-  messages = tt;
-  message = omega arith;
-  payload = omega arith;
-}
-
-module _ (own : ℕ) (config : Config) (peer : Peer) (now start : ℕ) (h : History) (in_range : IsOpening own config peer start)
-    (opened : h.opening ≡ opening own config peer now start) (legal : IsLegal h) where
-  emits-history : Emits h.opening.peer h.opening.sending.isn start [] (state_of h).sending (emitted h) (accepted h)
-  emits-history =
-      emits-items h.opening start [] h.items legal (subst (λ (p : Peer). p.id < 2 ^ 32) (sym (opened_peer own config peer now start h opened)) in_range.id_fits)
-      (subst (λ (s : State). IsCut s.sending start []) (sym opened) (cut-opening own config peer now start in_range.values.payload in_range.values.peer_payload))
-
-  -- the datagrams of a history carry its blocks to its last peer
-  carries-block : (emission : Emission) (number : ℕ) (flags : Flags) (stamp dest : ℕ) (payload : List ℕ) → Contains (emitted h) emission
-      → read emission.datagram.bytes ≡ Ok (Block number flags stamp dest payload) → CarriesBlock h emits-history.more emission number dest payload
-  carries-block emission number flags stamp dest payload among reads =
-      let is = emits-history.emits emission among in
-      let same = after_items-keeps h.opening h.items in
-      let told = read-once emission.datagram.bytes number _ flags is.flags stamp is.stamp dest h.opening.peer.id payload is.block reads is.reads in
+module _ (s : State) (start : ℕ) (blocks : List (List ℕ)) (emission : Emission) (number : ℕ) (flags : Flags) (stamp dest : ℕ) (payload : List ℕ) where
+  -- an emission that is a data packet sends a block of these
+  block-of : (x : Emitting s emission) → CutIn s.phase s.sending start blocks → packet_of s emission x ≡ Block number flags stamp dest payload
+      → IsBlockOf s.sending.isn start blocks emission number payload
+  block-of (NewBlock block connected packs is) is_cut same =
+      let cut = kept-messages s start blocks is_cut connected in
+      let bytes_are : block.bytes ≡ payload = cc in
       record {
-        offset = is.offset;
-        names = is.names;
-        not_before = subst (λ (n : ℕ). n ≤ is.offset) (sym (opened_start own config peer now start h opened)) is.not_before;
-        carries = ap (λ (n : ℕ). slice_get emits-history.more (is.offset - n)) (opened_start own config peer now start h opened) ∙ is.carries
-            ∙ ap (λ (b : List ℕ). Some b) (sym told.same_payload);
-        numbered = told.same_number ∙ ap (λ (isn : ℕ). wire_number isn is.offset) (sym same.sending.isn);
-        sent_to = is.sent_to ∙ ap (λ (p : Peer). p.addr) (sym same.peer);
-        destined = told.same_dest ∙ ap (λ (p : Peer). p.id) (sym same.peer);
+        offset = s.sending.next;
+        names = ap (λ (e : Emission). e.offsets) is;
+        not_before = omega (arith, cut.not_before, cut.sent_from);
+        carries = cut-next s.sending start blocks block cut (packing-sends s.sending s.last block packs) ∙ ap (λ (b : List ℕ). Some b) bytes_are;
+        numbered = cc;
       }
+  block-of (LostBlock offset block connected packs is) is_cut same =
+      let cut = kept-messages s start blocks is_cut connected in
+      let least = packing-again s.sending s.last offset block packs in
+      let within = lost-within s.sending start blocks offset block cut least in
+      let bytes_are : block.bytes ≡ payload = cc in
+      record {
+        offset = offset;
+        names = ap (λ (e : Emission). e.offsets) is;
+        not_before = omega (arith, cut.not_before, within.0);
+        carries = cut-kept_at s.sending start blocks offset block cut within.0 least.kept ∙ ap (λ (b : List ℕ). Some b) bytes_are;
+        numbered = cc;
+      }
+  block-of (Acknowledgement ack connected tells is) is_cut same = absurd (cc)
+  block-of (SignOfLife connected is) is_cut same = absurd (cc)
+  block-of (TheEnd closing is) is_cut same = absurd (cc)
+
+-- a data packet is for the peer
+packet-destined : (s : State) (emission : Emission) (x : Emitting s emission) (number : ℕ) (flags : Flags) (stamp dest : ℕ) (payload : List ℕ)
+    → packet_of s emission x ≡ Block number flags stamp dest payload → dest ≡ s.peer.id
+packet-destined s emission x number flags stamp dest payload same = sym (ap destination same) ∙ packet-dest s emission x
+
+-- the kept blocks are the last of all as long as the socket is open
+kept-last : (phase : Phase) (s : Sending) (start : ℕ) (blocks : List (List ℕ)) → CutIn phase s start blocks
+    → (is_connected phase || is_broken phase) ≡ true → bytes_of s.kept ≡ drop (s.acked - start) blocks
+kept-last phase.Connected s start blocks is_cut opened = is_cut.kept
+kept-last (phase.Broken why) s start blocks is_cut opened = is_cut.kept
+kept-last phase.Closing s start blocks is_cut opened = absurd (cc)
+kept-last phase.Closed s start blocks is_cut opened = absurd (cc)
+
+-- ---- histories
+
+-- a socket begins well
+half-begins : (own : ℕ) (config : Config) (peer : Peer) (now start : ℕ) → IsOpening own config peer start → BeginsWell (opening own config peer now start) start
+unfolding opening
+half-begins own config peer now start in_range = record {
+  connected = refl;
+  id_fits = in_range.id_fits;
+  acks = record { blocks = omega (arith, in_range.values.most_rcv_blocks); number = omega arith };
+  cut = record {
+    not_before = omega arith;
+    count = refl;
+    kept = sym (drop_all (start - start) [] (omega arith));
+    sent_from = omega arith;
+    sent_to = omega arith;
+    lost = tt;
+    messages = tt;
+    message = omega arith;
+    payload = omega (arith, in_range.values.payload, in_range.values.peer_payload);
+  };
+}
+
+-- so does each history that was so opened
+pub way-begins : (own : ℕ) (way : Way) (h : History) → IsWay own way → h.opening ≡ opened_by own way → BeginsWell h.opening (start_of h)
+way-begins own (PairedAt config peer now start) h in_range opened =
+    subst (BeginsWell h.opening) (sym (opened_start own config peer now start h opened))
+    (subst (λ (s : State). BeginsWell s start) (sym opened) (half-begins own config peer now start in_range))
+
+module _ (own : ℕ) (way : Way) (h : History) (in_range : IsWay own way) (opened : h.opening ≡ opened_by own way) (legal : IsLegal h) where
+  -- an emission with the state at its moment
+  pub emission-at : (emission : Emission) → Contains (emitted h) emission → IsEmittedAt h.opening h.items emission
+  emission-at emission among = emitted-at h.opening h.items emission legal among
+
+  -- it reads as its packet, to the peer
+  pub emission-reads : (emission : Emission) (is : IsEmittedAt h.opening h.items emission)
+      → IsSpelled (at_moment (after_items h.opening is.front) is.item.event.now) emission is.emitting
+  emission-reads emission is =
+      emission-spelled _ emission is.emitting (moment-after h.opening (start_of h) is.front is.item.event.now (way-begins own way h in_range opened)).can
+
+  blocks-longer : (front rest : List Item) → h.items ≡ front ++ rest
+      → blocks_by h.opening h.items ≡ blocks_by h.opening front ++ blocks_by (after_items h.opening front) rest
+  blocks-longer front rest joined = ap (blocks_by h.opening) joined ∙ blocks_by-append h.opening front rest
+
+  carries-block : (emission : Emission) (number : ℕ) (flags : Flags) (stamp dest : ℕ) (payload : List ℕ) → Contains (emitted h) emission
+      → read emission.datagram.bytes ≡ Ok (Block number flags stamp dest payload)
+      → CarriesBlock h (blocks_by h.opening h.items) emission number dest payload
+  carries-block emission number flags stamp dest payload among reads =
+      let at = emission-at emission among in
+      let spelled = emission-reads emission at in
+      let moment = moment-after h.opening (start_of h) at.front at.item.event.now (way-begins own way h in_range opened) in
+      let same = same-packet emission.datagram.bytes _ _ spelled.reads reads in
+      let block = block-of (at_moment (after_items h.opening at.front) at.item.event.now) (start_of h) (blocks_by h.opening at.front) emission
+      number flags stamp dest payload at.emitting moment.cut same in
+      let last = after_items-keeps h.opening h.items in
+      let peer_is = moment.peer ∙ sym last.peer in
+      let isn_is = moment.sending_isn ∙ sym last.sending.isn in
+      record {
+        offset = block.offset;
+        names = block.names;
+        not_before = block.not_before;
+        carries = subst (λ (all : List (List ℕ)). slice_get all (block.offset - start_of h) ≡ Some payload)
+            (sym (blocks-longer at.front (at.item ∷ at.rest) at.joined)) (slice_get-longer (blocks_by h.opening at.front) (blocks_by (after_items h.opening at.front) (at.item ∷ at.rest)) (block.offset - start_of h) payload block.carries);
+        numbered = block.numbered ∙ ap (λ (isn : ℕ). wire_number isn block.offset) isn_is;
+        sent_to = spelled.sent_to ∙ ap (λ (p : Peer). p.addr) peer_is;
+        destined = packet-destined _ emission at.emitting number flags stamp dest payload same ∙ ap (λ (p : Peer). p.id) peer_is;
+      }
+
+  -- how the half stands to all blocks in the end
+  pub last-cut : CutIn (state_of h).phase (state_of h).sending (start_of h) (blocks_by h.opening h.items)
+  last-cut = (moment-after h.opening (start_of h) h.items 0 (way-begins own way h in_range opened)).cut
 
   pub has_blocks : HasBlocks h
   has_blocks = record {
-    blocks = emits-history.more;
-    joined = emits-history.joined;
-    kept = emits-history.is_cut.kept
-        ∙ ap (λ (n : ℕ). drop ((state_of h).sending.acked - n) emits-history.more) (sym (opened_start own config peer now start h opened));
+    blocks = blocks_by h.opening h.items;
+    joined = blocks_by-joined h.opening h.items legal (way-begins own way h in_range opened).cut.payload;
+    kept = λ opened. kept-last (state_of h).phase (state_of h).sending (start_of h) (blocks_by h.opening h.items) last-cut opened;
     emits = carries-block;
   }
 
-  -- and each datagram is one of these
-  pub reads_block : (emission : Emission) → Contains (emitted h) emission → ReadsAsBlock emission
-  reads_block emission among =
-      let is = emits-history.emits emission among in
-      record { number = _; flags = is.flags; stamp = is.stamp; dest = _; payload = is.block; reads = is.reads }
-
-pub blocks_by_way : (own : ℕ) (way : Way) (h : History) → IsWay own way → h.opening ≡ opened_by own way → IsLegal h → HasBlocks h
-blocks_by_way own (PairedAt config peer now start) h in_range opened legal = has_blocks own config peer now start h in_range opened legal
-
 pub emitted_blocks : EmittedBlocks
-emitted_blocks socket is_socket stream = blocks_by_way socket.own socket.way socket.history is_socket.in_range is_socket.opened is_socket.legal
-
-pub reads_by_way : (own : ℕ) (way : Way) (h : History) → IsWay own way → h.opening ≡ opened_by own way → IsLegal h
-    → (emission : Emission) → Contains (emitted h) emission → ReadsAsBlock emission
-reads_by_way own (PairedAt config peer now start) h in_range opened legal = reads_block own config peer now start h in_range opened legal
+emitted_blocks socket is_socket stream = has_blocks socket.own socket.way socket.history is_socket.in_range is_socket.opened is_socket.legal

@@ -1,27 +1,51 @@
 -- What a socket emits goes to its own peer.
 use Rattle.std.proofs.Common.{◌≡◌, ℕ, Some, Ok, sym, ap, ◌∙◌}
 use Rattle.std.specs.List.{Contains}
-use Rattle.udt_model.specs.Wire.{Packet, Block, read, target}
+use Rattle.udt_model.specs.declared.answers.Peer.{Peer}
+use Rattle.udt_model.specs.Wire.{Packet, destination, read, target}
 use Rattle.udt_model.specs.State.{Datagram}
-use Rattle.udt_model.specs.History.{History, state_of}
-use Rattle.udt_model.specs.Records.{Emission, emitted, sent, Enrolled, IsSocket, own_peer, destination}
+use Rattle.udt_model.specs.Step.{at_moment}
+use Rattle.udt_model.specs.History.{History, IsLegal, after_items, state_of, start_of}
+use Rattle.udt_model.specs.Records.{Emission, emitted, sent, Enrolled, IsSocket, Way, opened_by, IsWay, own_peer}
+use Rattle.udt_model.proofs.EmissionLemmas.{IsEmittedAt}
 use Rattle.udt_model.proofs.RecordLemmas.{emitted-from_sent}
-use Rattle.udt_model.proofs.WireLemmas.{target-read}
-use Rattle.udt_laws.specs.Laws.{HasBlocks, Addressed}
-use Rattle.udt_laws.proofs.Emits.{blocks_by_way, reads_by_way}
+use Rattle.udt_model.proofs.StepLemmas.{after_items-keeps}
+use Rattle.udt_model.proofs.WireLemmas.{target-of-read}
+use Rattle.udt_laws.specs.Laws.{Addressed}
+use Rattle.udt_laws.proofs.Emits.{same-packet, way-begins, moment-after, emission-at, emission-reads}
 use Rattle.udt_laws.proofs.Opened.{names}
+use Rattle.udt_laws.proofs.Spelled.{packet_of, packet-dest}
 
-pub goes-to_peer : (h : History) (has : HasBlocks h) (emission : Emission) (packet : Packet) → Contains (emitted h) emission
-    → read emission.datagram.bytes ≡ Ok packet
-    → own_peer h ≡ Some (record { addr = emission.datagram.addr; id = destination packet })
-goes-to_peer h has emission (Block number flags stamp dest payload) among reads =
-    let carries = has.emits emission number flags stamp dest payload among reads in
-    names h emission.datagram.addr dest (sym carries.sent_to) (sym carries.destined)
+-- what an emission reads as goes to the last peer
+pub record IsForPeer (h : History) (emission : Emission) (packet : Packet) : Type 0 where
+  pub reads : read emission.datagram.bytes ≡ Ok packet
+  pub addr : emission.datagram.addr ≡ (state_of h).peer.addr
+  pub id : destination packet ≡ (state_of h).peer.id
+
+module _ (own : ℕ) (way : Way) (h : History) (in_range : IsWay own way) (opened : h.opening ≡ opened_by own way) (legal : IsLegal h) where
+  pub emission-goes : (emission : Emission) (is : IsEmittedAt h.opening h.items emission)
+      → IsForPeer h emission (packet_of (at_moment (after_items h.opening is.front) is.item.event.now) emission is.emitting)
+  emission-goes emission is =
+      let spelled = emission-reads own way h in_range opened legal emission is in
+      let moment = moment-after h.opening (start_of h) is.front is.item.event.now (way-begins own way h in_range opened) in
+      let peer_is = moment.peer ∙ sym (after_items-keeps h.opening h.items).peer in
+      record {
+        reads = spelled.reads;
+        addr = spelled.sent_to ∙ ap (λ (p : Peer). p.addr) peer_is;
+        id = packet-dest _ emission is.emitting ∙ ap (λ (p : Peer). p.id) peer_is;
+      }
+
+  pub goes-to_peer : (emission : Emission) (packet : Packet) → Contains (emitted h) emission → read emission.datagram.bytes ≡ Ok packet
+      → own_peer h ≡ Some (record { addr = emission.datagram.addr; id = destination packet })
+  goes-to_peer emission packet among reads =
+      let at = emission-at own way h in_range opened legal emission among in
+      let goes = emission-goes emission at in
+      let same = same-packet emission.datagram.bytes _ packet goes.reads reads in
+      names h emission.datagram.addr (destination packet) (sym goes.addr) (sym goes.id ∙ ap destination same)
 
 pub addressed : Addressed
 addressed socket emission packet is_socket among reads handshake =
-    goes-to_peer socket.history (blocks_by_way socket.own socket.way socket.history is_socket.in_range is_socket.opened is_socket.legal)
-    emission packet among reads
+    goes-to_peer socket.own socket.way socket.history is_socket.in_range is_socket.opened is_socket.legal emission packet among reads
 
 -- each datagram that a socket sent goes to its peer
 pub record GoesTo (h : History) (datagram : Datagram) : Type 0 where
@@ -30,12 +54,12 @@ pub record GoesTo (h : History) (datagram : Datagram) : Type 0 where
 
 pub sent-goes : (socket : Enrolled) (datagram : Datagram) → IsSocket socket → Contains (sent socket.history) datagram → GoesTo socket.history datagram
 sent-goes socket datagram is_socket among =
-    let is = emitted-from_sent socket.history.opening socket.history.items datagram is_socket.legal among in
-    let has = blocks_by_way socket.own socket.way socket.history is_socket.in_range is_socket.opened is_socket.legal in
-    let block = reads_by_way socket.own socket.way socket.history is_socket.in_range is_socket.opened is_socket.legal is.emission is.among in
-    let carries = has.emits is.emission block.number block.flags block.stamp block.dest block.payload is.among block.reads in
-    let reads = ap (λ (d : Datagram). read d.bytes) (sym is.datagram_is) ∙ block.reads in
+    let h = socket.history in
+    let is = emitted-from_sent h.opening h.items datagram is_socket.legal among in
+    let at = emission-at socket.own socket.way h is_socket.in_range is_socket.opened is_socket.legal is.emission is.among in
+    let goes = emission-goes socket.own socket.way h is_socket.in_range is_socket.opened is_socket.legal is.emission at in
+    let reads = ap (λ (d : Datagram). read d.bytes) (sym is.datagram_is) ∙ goes.reads in
     record {
-      addr = ap (λ (d : Datagram). d.addr) (sym is.datagram_is) ∙ carries.sent_to;
-      id = target-read block.number block.flags block.stamp block.dest datagram.bytes block.payload reads ∙ ap (λ (n : ℕ). Some n) carries.destined;
+      addr = ap (λ (d : Datagram). d.addr) (sym is.datagram_is) ∙ goes.addr;
+      id = target-of-read datagram.bytes _ reads ∙ ap (λ (n : ℕ). Some n) goes.id;
     }

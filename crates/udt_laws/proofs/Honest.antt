@@ -8,35 +8,17 @@ use Rattle.udt_model.specs.declared.answers.Peer.{Peer}
 use Rattle.udt_model.specs.declared.packets.Flags.{Flags}
 use Rattle.udt_model.specs.Wire.{Block, read}
 use Rattle.udt_model.specs.State.{State, Datagram}
-use Rattle.udt_model.specs.Step.{Act, Send, Recv, Pack, Arrive, step}
+use Rattle.udt_model.specs.Step.{Act, Send, Recv, Pack, Tick, Close, Arrive, step}
 use Rattle.udt_model.specs.History.{Item, state_of, accepted, delivered}
 use Rattle.udt_model.specs.Records.{IsPrefix, emitted, Enrolled, EndpointRecord, StandsAt, PeerPair, own_peer, AreLawful, WasEmitted, IsHonestAct, AreHonest, IsHonest}
 use Rattle.udt_model.proofs.StepLemmas.{step-keeps, after_items-keeps}
-use Rattle.udt_laws.specs.Laws.{HasBlocks, Prefix}
+use Rattle.udt_laws.specs.Laws.{HasBlocks}
 use Rattle.udt_laws.proofs.Receives.{MeetsAct, AllMeet}
 use Rattle.udt_laws.proofs.Opened.{names}
+use Rattle.udt_laws.proofs.OneSocket.{same-socket, emitter-is}
 use Rattle.udt_laws.proofs.Mates.{IsEmittedNear, IsBlockAt, reads-as, mates}
 
 module _ (net : List EndpointRecord) (lawful : AreLawful net) where
-  -- the records have one endpoint of an address
-  one-endpoint : (addr : Addr) (socket other : Enrolled) (here : StandsAt net addr socket) → (there : StandsAt net addr other)
-      → Contains here.endpoint.sockets other
-  one-endpoint addr socket other here there =
-      let same = lawful.addresses there.endpoint here.endpoint there.among here.among (there.addr_is ∙ sym here.addr_is) in
-      subst (λ (endpoint : EndpointRecord). Contains endpoint.sockets other) same there.enrolled
-
-  -- so an address and an ID name one socket
-  same-socket : (addr : Addr) (socket other : Enrolled) → StandsAt net addr socket → StandsAt net addr other → socket.own ≡ other.own
-      → socket ≡ other
-  same-socket addr socket other here there own =
-      (lawful.each here.endpoint here.among).ids socket other here.enrolled (one-endpoint addr socket other here there) own
-
-  -- and an address and a peer do
-  same-peer : (addr : Addr) (socket other : Enrolled) (peer : PeerPair) → StandsAt net addr socket → StandsAt net addr other
-      → own_peer socket.history ≡ Some peer → own_peer other.history ≡ Some peer → socket ≡ other
-  same-peer addr socket other peer here there first second =
-      (lawful.each here.endpoint here.among).peers socket other peer here.enrolled (one-endpoint addr socket other here there) first second
-
   module _ (addr sender_addr : Addr) (own : ℕ) (sender : Enrolled) (has : HasBlocks sender.history) (stands : StandsAt net sender_addr sender)
       (names_back : own_peer sender.history ≡ Some (record { addr = addr; id = own })) where
     -- what the net brings from the sender's address for this ID was emitted by the sender
@@ -44,18 +26,12 @@ module _ (net : List EndpointRecord) (lawful : AreLawful net) where
         → WasEmitted net s from addr bytes → read bytes ≡ Ok (Block number flags stamp s.own payload)
         → IsEmittedNear sender.history s.receiving.top bytes
     from-sender s from bytes payload number stamp flags own_is from_is was reads =
-        let there = subst (λ (a : Addr). StandsAt net a was.socket) from_is was.stands in
-        let bytes_are : was.emission.datagram.bytes ≡ bytes = ap (λ (d : Datagram). d.bytes) was.datagram in
-        let goes_to : was.emission.datagram.addr ≡ addr = ap (λ (d : Datagram). d.addr) was.datagram in
-        let addressed = (lawful.each there.endpoint there.among).addressed was.socket was.emission (Block number flags stamp s.own payload)
-        there.enrolled was.emits (ap read bytes_are ∙ reads) refl in
-        let peer = same_Some _ _ addressed in
-        let named = names was.socket.history addr own (ap (λ (p : PeerPair). p.addr) peer ∙ goes_to) (ap (λ (p : PeerPair). p.id) peer ∙ own_is) in
-        let same = same-peer sender_addr was.socket sender _ there stands named names_back in
+        let same = emitter-is net lawful addr sender_addr own sender stands names_back s from bytes (Block number flags stamp s.own payload) from_is was
+        reads refl own_is in
         record {
           emission = was.emission;
           among = subst (λ (x : Enrolled). Contains (emitted x.history) was.emission) same was.emits;
-          same = bytes_are;
+          same = ap (λ (d : Datagram). d.bytes) was.datagram;
           close = λ offset among. was.close (Block number flags stamp s.own payload) offset reads among;
         }
 
@@ -64,6 +40,8 @@ module _ (net : List EndpointRecord) (lawful : AreLawful net) where
     act-meets s (Send bytes) own_is addr_is isn_is honest = tt
     act-meets s (Recv room) own_is addr_is isn_is honest = tt
     act-meets s Pack own_is addr_is isn_is honest = tt
+    act-meets s Tick own_is addr_is isn_is honest = tt
+    act-meets s Close own_is addr_is isn_is honest = tt
     act-meets s (Arrive from bytes) own_is addr_is isn_is honest = λ number flags stamp payload offset from_is reads found.
         let emitted_near = from-sender s from bytes payload number stamp flags own_is (from_is ∙ addr_is) honest reads in
         (reads-as sender.history has s.receiving.isn s.receiving.top number offset flags stamp s.own bytes payload isn_is emitted_near reads found).is_block
@@ -95,13 +73,16 @@ module _ (net : List EndpointRecord) (lawful : AreLawful net) where
       let named = same_Some _ _ peer_is in
       let addr_is : peer.addr ≡ met.other_addr = sym (ap (λ (p : PeerPair). p.addr) named) ∙ ap (λ (p : Peer). p.addr) last ∙ are.peer_addr in
       let id_is : sender.own ≡ met.other.own = own_is ∙ sym (ap (λ (p : PeerPair). p.id) named) ∙ ap (λ (p : Peer). p.id) last ∙ are.peer_id in
-      let same = same-socket met.other_addr met.other sender met.stands (subst (λ (a : Addr). StandsAt net a sender) addr_is there) (sym id_is) in
+      let same = same-socket net lawful met.other_addr met.other sender met.stands (subst (λ (a : Addr). StandsAt net a sender) addr_is there) (sym id_is) in
       let meets = items-meet here.endpoint.addr met.other_addr receiver.own met.other are.has met.stands
       (names met.other.history here.endpoint.addr receiver.own are.back_addr are.back_id) receiver.history.opening receiver.history.items
       are.own_is are.peer_addr are.same_isn
       (subst (λ (a : Addr). AreHonest net a receiver.history.opening receiver.history.items) (sym here.addr_is) (honest addr receiver here)) in
       subst (λ (x : Enrolled). IsPrefix (delivered receiver.history) (accepted x.history)) same (are.front meets)
 
-pub prefix : Prefix
-prefix net addr receiver sender peer lawful honest here stream peer_is there own_is =
-    paired-prefix net lawful addr receiver peer sender honest here peer_is there own_is
+-- so what a socket delivers is a prefix of what its own peer accepted
+pub prefix-delivered : (net : List EndpointRecord) (addr : Addr) (socket other : Enrolled) (peer : PeerPair) → AreLawful net → IsHonest net
+    → StandsAt net addr socket → own_peer socket.history ≡ Some peer → StandsAt net peer.addr other → other.own ≡ peer.id
+    → IsPrefix (delivered socket.history) (accepted other.history)
+prefix-delivered net addr socket other peer lawful honest here peer_is there own_is =
+    paired-prefix net lawful addr socket peer other honest here peer_is there own_is

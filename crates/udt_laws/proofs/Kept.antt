@@ -10,7 +10,7 @@ use Rattle.udt_model.specs.declared.answers.Refusal.{Refusal}
 use Rattle.udt_model.specs.declared.packets.Flags.{Flags}
 use Rattle.udt_model.specs.State.{PlacedBlock, Receiving}
 use Rattle.udt_model.specs.Numbers.{near}
-use Rattle.udt_model.specs.Receiving.{Placing, AtOffset, IsDouble, IsBelow, IsAbove, placing, with_placed, after_placing, after_arrival, contiguous, with_block, waiting, receive_answer, after_read, after_receive_answer, after_receive, front_after}
+use Rattle.udt_model.specs.Receiving.{Placing, AtOffset, IsDouble, IsBelow, IsAbove, placing, with_placed, after_placing, after_arrival, contiguous, with_block, waiting, receive_answer, after_read, after_receive_answer, after_receive, front_after, Telling, IsEarly, IsKnown, Tells, telling, after_telling, after_tell}
 use Rattle.udt_model.specs.Step.{Received}
 use Rattle.udt_model.specs.History.{given_by}
 use Rattle.udt_model.specs.Records.{IsPrefix}
@@ -131,3 +131,31 @@ kept-front P start r got kept =
             ∙ ap (λ (bytes : List ℕ). bytes ++ drop r.given joined) (sym kept.got_is),
       );
     }
+
+-- telling changes nothing of this
+keep-telling : (P : ℕ → List ℕ → Type 0) (start : ℕ) (r : Receiving) (got : List ℕ) (now : ℕ) (t : Telling) → Kept P start r got
+    → Kept P start (after_telling r now t) got
+keep-telling P start r got now IsEarly kept = kept
+keep-telling P start r got now IsKnown kept = record {
+  done = kept.done;
+  count = kept.count;
+  each = kept.each;
+  rising = kept.rising;
+  all = kept.all;
+  within = kept.within;
+  got_is = kept.got_is;
+}
+keep-telling P start r got now (Tells ack) kept = record {
+  done = kept.done;
+  count = kept.count;
+  each = kept.each;
+  rising = kept.rising;
+  all = kept.all;
+  within = kept.within;
+  got_is = kept.got_is;
+}
+
+pub keep-tell : (P : ℕ → List ℕ → Type 0) (start : ℕ) (r : Receiving) (got : List ℕ) (now rtt : ℕ) → Kept P start r got
+    → Kept P start (after_tell r now rtt) got
+unfolding after_tell
+keep-tell P start r got now rtt kept = keep-telling P start r got now (telling r now rtt) kept

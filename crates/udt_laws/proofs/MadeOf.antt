@@ -9,7 +9,7 @@ use Rattle.udt_model.specs.declared.answers.Peer.{Peer}
 use Rattle.udt_model.specs.Numbers.{wire_number}
 use Rattle.udt_model.specs.Wire.{Block}
 use Rattle.udt_model.specs.State.{State, Datagram}
-use Rattle.udt_model.specs.Step.{Act, Send, Recv, Pack, Arrive, step, opening}
+use Rattle.udt_model.specs.Step.{Act, Send, Recv, Pack, Tick, Close, Arrive, step, opening}
 use Rattle.udt_model.specs.History.{Item, History, IsLegal, delivered, start_of}
 use Rattle.udt_model.specs.Records.{arrived_by_act, arrived_by, arrivals, opened_by, IsCarried, IsMadeOf, Way, PairedAt, PeerPair, own_peer}
 use Rattle.udt_model.proofs.NearLemmas.{near-found}
@@ -17,9 +17,9 @@ use Rattle.udt_model.proofs.ReceivingLemmas.{AllFrom}
 use Rattle.udt_model.proofs.StepLemmas.{step-keeps}
 use Rattle.std.proofs.lemmas.Option.{same_Some}
 use Rattle.udt_laws.specs.Laws.{OneHistory, peer_isn}
-use Rattle.udt_laws.proofs.Opened.{opened_own, opened_peer, opened_receiving, opened_start, last_peer}
-use Rattle.udt_laws.proofs.Kept.{Kept, kept-front}
-use Rattle.udt_laws.proofs.Receives.{MeetsAct, AllMeet, keep-items}
+use Rattle.udt_laws.proofs.Opened.{opened_own, opened_peer, opened_phase, opened_receiving, opened_start, last_peer}
+use Rattle.udt_laws.proofs.Kept.{Kept}
+use Rattle.udt_laws.proofs.Receives.{MeetsAct, AllMeet, delivers-front_of}
 
 -- what all blocks from an offset on meet, the one at a place meets
 pub AllFrom-at : (P : ℕ → List ℕ → Type 0) (offset : ℕ) (blocks : List (List ℕ)) (n : ℕ) (block : List ℕ) → AllFrom P offset blocks
@@ -50,6 +50,8 @@ module _ (arrived : List Datagram) (own : ℕ) (addr : Addr) (isn : ℕ) where
   act-arrived s (Send bytes) is_own is_addr is_isn among = tt
   act-arrived s (Recv room) is_own is_addr is_isn among = tt
   act-arrived s Pack is_own is_addr is_isn among = tt
+  act-arrived s Tick is_own is_addr is_isn among = tt
+  act-arrived s Close is_own is_addr is_isn among = tt
   act-arrived s (Arrive from bytes) is_own is_addr is_isn among = λ number flags stamp payload offset sender reads is_near.
       let found = near-found s.receiving.isn s.receiving.top number offset is_near in
       let number_is : wire_number isn offset ≡ number = rw (← is_isn) found.carries in
@@ -89,7 +91,7 @@ module _ (own : ℕ) (config : Config) (peer : Peer) (now start : ℕ) (h : Hist
       let addr_is = ap (λ (p : Peer). p.addr) (opened_peer own config peer now start h opened) in
       let isn_is = opened_receiving own config peer now start h opened in
       let meets = all-arrived (arrivals h) own peer.addr peer.isn h.opening h.items own_is addr_is isn_is (λ datagram among. among) in
-      let front = kept-front P start _ (delivered h) (keep-items P start h.opening h.items [] legal meets (opened_kept P)) in
+      let front = delivers-front_of P start h.opening h.items (opened_phase own config peer now start h opened) legal meets (opened_kept P) in
       record {
         payloads = front.blocks;
         carried = λ n payload found. subst (λ number. IsCarried (arrivals h) own peer.addr number payload) (same-number peer.isn start n)

@@ -17,9 +17,10 @@ use Rattle.udt_model.specs.Records.{IsPrefix, Emission, emitted, IsClose, Way, P
 use Rattle.udt_model.proofs.NearLemmas.{near-is}
 use Rattle.udt_model.proofs.ReceivingLemmas.{AllFrom, concat-append}
 use Rattle.udt_laws.specs.Laws.{HasBlocks}
-use Rattle.udt_laws.proofs.Kept.{IsFrontOf, kept-front}
-use Rattle.udt_laws.proofs.Receives.{AllMeet, keep-items}
-use Rattle.udt_laws.proofs.Opened.{opened_own, opened_peer, opened_receiving, opened_start, opened_next, opened_top, last_peer, last_isn}
+use Rattle.udt_laws.proofs.Kept.{IsFrontOf}
+use Rattle.udt_laws.proofs.Receives.{AllMeet, delivers-front_of}
+use Rattle.udt_laws.proofs.Opened.{opened_own, opened_peer, opened_phase, opened_receiving, opened_start, opened_top, opened_base, opened_placed, last_peer, last_isn}
+use Rattle.udt_laws.proofs.Stands.{IsWithin}
 use Rattle.udt_laws.proofs.MadeOf.{opened_kept}
 use Rattle.udt_laws.proofs.Emits.{has_blocks}
 
@@ -88,8 +89,9 @@ module _ (g : History) (has : HasBlocks g) where
   pub delivers-front : (own : ℕ) (config : Config) (peer : Peer) (now start : ℕ) (h : History) → h.opening ≡ opening own config peer now start
       → IsLegal h → start_of g ≡ start → AllMeet IsBlockAt h.opening h.items → IsPrefix (delivered h) (accepted g)
   delivers-front own config peer now start h opened legal same_start meets =
-      let kept = keep-items IsBlockAt start h.opening h.items [] legal meets (opened_kept own config peer now start h opened legal IsBlockAt) in
-      front-accepted (delivered h) (subst (λ (n : ℕ). IsFrontOf IsBlockAt n (delivered h)) (sym same_start) (kept-front IsBlockAt start _ (delivered h) kept))
+      let front = delivers-front_of IsBlockAt start h.opening h.items (opened_phase own config peer now start h opened) legal meets
+      (opened_kept own config peer now start h opened legal IsBlockAt) in
+      front-accepted (delivered h) (subst (λ (n : ℕ). IsFrontOf IsBlockAt n (delivered h)) (sym same_start) front)
 
 -- ---- pairs
 
@@ -104,15 +106,14 @@ pub record AreMates (addr : Addr) (own : ℕ) (h : History) (other_addr : Addr) 
   pub back_id : (state_of g).peer.id ≡ own
   pub same_isn : (state_of g).sending.isn ≡ h.opening.receiving.isn
   pub same_start : start_of g ≡ start_of h
-  pub next_is : g.opening.sending.next ≡ start_of g
-  pub top_is : h.opening.receiving.top ≡ start_of h
+  pub stands : IsWithin (start_of h) (start_of h) h.opening.receiving
   pub front : AllMeet (IsBlockAt g has) h.opening h.items → IsPrefix (delivered h) (accepted g)
 
 pub mates : (addr : Addr) (own : ℕ) (way : Way) (h : History) (other_addr : Addr) (other_own : ℕ) (other_way : Way) (g : History)
     → ArePaired addr own way other_addr other_own other_way → h.opening ≡ opened_by own way → IsLegal h
     → IsWay other_own other_way → g.opening ≡ opened_by other_own other_way → IsLegal g → AreMates addr own h other_addr other_own g
 mates addr own (PairedAt config peer now start) h other_addr other_own (PairedAt other_config other_peer other_now other_start) g paired opened legal in_range other_opened other_legal =
-    let has = has_blocks other_own other_config other_peer other_now other_start g in_range other_opened other_legal in
+    let has = has_blocks other_own (PairedAt other_config other_peer other_now other_start) g in_range other_opened other_legal in
     let peer_is = opened_peer own config peer now start h opened in
     let back_is = last_peer other_own other_config other_peer other_now other_start g other_opened in
     let start_is = opened_start other_own other_config other_peer other_now other_start g other_opened ∙ paired.6 in
@@ -126,8 +127,11 @@ mates addr own (PairedAt config peer now start) h other_addr other_own (PairedAt
       same_isn = last_isn other_own other_config other_peer other_now other_start g other_opened ∙ paired.5
           ∙ sym (opened_receiving own config peer now start h opened);
       same_start = start_is ∙ sym (opened_start own config peer now start h opened);
-      next_is = opened_next other_own other_config other_peer other_now other_start g other_opened
-          ∙ sym (opened_start other_own other_config other_peer other_now other_start g other_opened);
-      top_is = opened_top own config peer now start h opened ∙ sym (opened_start own config peer now start h opened);
+      stands = subst (λ (n : ℕ). IsWithin n n h.opening.receiving) (sym (opened_start own config peer now start h opened)) (record {
+        not_below = omega (arith, opened_base own config peer now start h opened);
+        base = omega (arith, opened_base own config peer now start h opened, opened_top own config peer now start h opened);
+        placed = rw (opened_placed own config peer now start h opened) tt;
+        not_above = omega (arith, opened_top own config peer now start h opened);
+      });
       front = delivers-front g has own config peer now start h opened legal start_is;
     }

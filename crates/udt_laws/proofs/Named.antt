@@ -1,53 +1,31 @@
--- What a history names: offsets below the first that was never sent, which rises by at most one for each datagram.
-use Rattle.std.proofs.Common.{◌≡◌, ℕ, zero, suc, ◌+◌, ◌<◌, ◌≤◌, List, [], ◌∷◌, ◌++◌, length, Ok, Err, refl, ap, ◌∙◌, sym, subst, inl, inr, arith}
+-- What the data packets of a history name: offsets below the first that was never sent, which rises by at most one with
+-- each event, and by at most one for each datagram.
+use Rattle.std.proofs.Common.{◌≡◌, ℕ, zero, suc, ◌+◌, ◌≤◌, List, [], ◌∷◌, ◌++◌, length, Ok, Err, refl, ap, subst, inl, inr, arith}
 use Rattle.std.specs.Prelude.{Result}
 use Rattle.std.specs.List.{Contains}
 use Rattle.std.proofs.lemmas.List.{length-append}
-use Rattle.std.proofs.lemmas.List.Elements.{Contains-append_cases, Contains-push_cases}
+use Rattle.std.proofs.lemmas.List.Elements.{Contains-push_cases}
+use Rattle.udt_model.specs.declared.addresses.Addr.{Addr}
+use Rattle.udt_model.specs.declared.answers.Phase.{Phase}
+use Rattle.udt_model.specs.declared.answers.Phase.TheVariants as phase
 use Rattle.udt_model.specs.declared.answers.Refusal.{Refusal}
-use Rattle.udt_model.specs.Wire.{read}
-use Rattle.udt_model.specs.State.{State, Sending, Datagram, KeptBlock}
-use Rattle.udt_model.specs.Sending.{send_answer, after_answer, after_send, Packing, Waits, Sends, Idles, packing, after_pack}
-use Rattle.udt_model.specs.Step.{Act, Send, Recv, Pack, Arrive, Event, at_moment, block_datagram, packed_as, on_read, on_act, step}
+use Rattle.udt_model.specs.declared.packets.Flags.{Flags}
+use Rattle.udt_model.specs.Wire.{Block, read}
+use Rattle.udt_model.specs.State.{Sending, State}
+use Rattle.udt_model.specs.Sending.{send_answer, after_answer, after_send, Packing, Waits, SendsAgain, Sends, Idles, packing, after_packing, after_pack, after_timeout, sending_closed}
+use Rattle.udt_model.specs.Step.{Act, Send, Recv, Pack, Tick, Close, Arrive, Event, Outcome, Silence, IsShort, Breaks, Resends, Signs, silence, after_silence, after_told, at_moment, send_in, recv_in, packed_as, pack_in, tick_in, on_close, on_read, on_act, step}
 use Rattle.udt_model.specs.History.{Item, after_items, AreLegal}
-use Rattle.udt_model.specs.Records.{Emission, named, named_by_act, named_by_packing, with_offsets, emitted_by}
-use Rattle.udt_model.proofs.StepLemmas.{on_read-quiet}
+use Rattle.udt_model.specs.Records.{Emission, sent_by}
+use Rattle.udt_model.proofs.ArrivalLemmas.{arrival-shows}
+use Rattle.udt_model.proofs.SendingLemmas.{IsCut, after_ack-next, packing-again, lost-within}
+use Rattle.udt_model.proofs.EmissionLemmas.{Emitting, NewBlock, LostBlock, Acknowledgement, SignOfLife, TheEnd}
+use Rattle.udt_laws.proofs.Cuts.{CutIn, cut-under_way, blocks_of, step-cut}
+use Rattle.udt_laws.proofs.Spelled.{packet_of}
 
--- the first offset never sent rises by at most one for each datagram, and each that is named lies below it
-pub record Advances (next after : ℕ) (emissions : List Emission) : Type 0 where
-  pub rises : next ≤ after
-  pub count : after ≤ next + length emissions
-  pub below : (emission : Emission) (offset : ℕ) → Contains emissions emission → Contains emission.offsets offset → offset < after
-
-stands-still : (next : ℕ) → Advances next next []
-stands-still next = record { rises = omega arith; count = omega arith; below = λ emission offset among named. absurd (omega (arith, among.1)) }
-
-advances-both : (next between after : ℕ) (first second : List Emission) → Advances next between first → Advances between after second
-    → Advances next after (first ++ second)
-advances-both next between after first second one two = record {
-  rises = omega (arith, one.rises, two.rises);
-  count = omega (arith, one.count, two.count, length-append first second);
-  below = λ emission offset among named. elim (Contains-append_cases first second emission among) [
-    | inl early ↦ let less = one.below emission offset early named in omega (arith, less, two.rises)
-    | inr late ↦ two.below emission offset late named
-  ];
-}
-
-one-named : (first : Emission) (offset : ℕ) → first.offsets ≡ offset ∷ [] → Advances offset (offset + 1) (first ∷ [])
-one-named first offset names = record {
-  rises = omega arith;
-  count = omega arith;
-  below = λ emission named_one among named. elim (Contains-push_cases [] first emission among) [
-    | inl none ↦ absurd (omega (arith, none.1))
-    | inr same ↦
-        let offsets = ap (λ (e : Emission). e.offsets) (sym same) ∙ names in
-        let there = subst (λ (l : List ℕ). Contains l named_one) offsets named in
-        elim (Contains-push_cases [] offset named_one there) [
-          | inl none ↦ absurd (omega (arith, none.1))
-          | inr is ↦ omega (arith, is)
-        ]
-  ];
-}
+-- the first offset never sent rises by at most one, and only with a datagram
+pub record Advances (next : ℕ) (outcome : Outcome) : Type 0 where
+  pub once : outcome.after.sending.next ≤ next + 1
+  pub sends : outcome.after.sending.next ≤ next + length outcome.outs
 
 answer-next : (s : Sending) (bytes : List ℕ) (answer : Result ℕ Refusal) → (after_answer s bytes answer).next ≡ s.next
 answer-next s bytes (Ok zero) = refl
@@ -58,40 +36,121 @@ send-next : (s : Sending) (bytes : List ℕ) → (after_send s bytes).next ≡ s
 unfolding after_send
 send-next s bytes = answer-next s bytes (send_answer s (length bytes))
 
-pack-next : (s : Sending) (now : ℕ) (block : KeptBlock) → packing s now ≡ Sends block → (after_pack s now).next ≡ s.next + 1
+pack-next : (s : Sending) (now : ℕ) (p : Packing) → (after_packing s now p).next ≤ s.next + 1
+pack-next s now (Waits until) = omega arith
+pack-next s now (SendsAgain offset block) = omega arith
+pack-next s now (Sends block) = omega arith
+pack-next s now Idles = omega arith
+
+after_pack-next : (s : Sending) (now : ℕ) → (after_pack s now).next ≤ s.next + 1
 unfolding after_pack
-pack-next s now block is = rw is
+after_pack-next s now = pack-next s now (packing s now)
 
-advances-packed : (s : State) (p : Packing) → packing s.sending s.last ≡ p
-    → Advances s.sending.next (packed_as s p).after.sending.next (with_offsets (packed_as s p).outs (named_by_packing s p))
-advances-packed s (Waits until) is = stands-still s.sending.next
-advances-packed s (Sends block) is =
-    subst (λ (after : ℕ). Advances s.sending.next after (record { datagram = block_datagram s block; offsets = s.sending.next ∷ [] } ∷ []))
-    (sym (pack-next s.sending s.last block is)) (one-named _ s.sending.next refl)
-advances-packed s Idles is = stands-still s.sending.next
+-- it stays
+stays-next : (s : State) (outcome : Outcome) → outcome.after.sending.next ≡ s.sending.next → Advances s.sending.next outcome
+stays-next s outcome same = record { once = omega (arith, same); sends = omega (arith, same) }
 
-advances-act : (s : State) (act : Act)
-    → Advances s.sending.next (on_act s act).after.sending.next (with_offsets (on_act s act).outs (named_by_act s act))
-advances-act s (Send bytes) = subst (λ (after : ℕ). Advances s.sending.next after []) (sym (send-next s.sending bytes)) (stands-still s.sending.next)
-advances-act s (Recv room) = stands-still s.sending.next
-advances-act s Pack = advances-packed s (packing s.sending s.last) refl
-advances-act s (Arrive from bytes) =
-    let quiet = on_read-quiet s from (read bytes) in
-    let outcome = on_read s from (read bytes) in
-    subst (λ (outs : List Datagram). Advances s.sending.next outcome.after.sending.next (with_offsets outs [])) (sym quiet.outs)
-    (subst (λ (sending : Sending). Advances s.sending.next sending.next []) (sym quiet.sending) (stands-still s.sending.next))
+module _ (s : State) where
+  send-advances : (bytes : List ℕ) (phase : Phase) → Advances s.sending.next (send_in s bytes phase)
+  send-advances bytes phase.Connected = stays-next s _ (send-next s.sending bytes)
+  send-advances bytes (phase.Broken why) = stays-next s _ refl
+  send-advances bytes phase.Closing = stays-next s _ refl
+  send-advances bytes phase.Closed = stays-next s _ refl
 
-advances-step : (s : State) (event : Event)
-    → Advances s.sending.next (step s event).after.sending.next (with_offsets (step s event).outs (named s event))
-unfolding step named
-advances-step s event = advances-act (at_moment s event.now) event.act
+  recv-advances : (room : ℕ) (phase : Phase) → Advances s.sending.next (recv_in s room phase)
+  recv-advances room phase.Connected = stays-next s _ refl
+  recv-advances room (phase.Broken why) = stays-next s _ refl
+  recv-advances room phase.Closing = stays-next s _ refl
+  recv-advances room phase.Closed = stays-next s _ refl
 
-pub advances-items : (s : State) (items : List Item) → AreLegal s items
-    → Advances s.sending.next (after_items s items).sending.next (emitted_by s items)
-unfolding after_items AreLegal emitted_by
-advances-items s [] legal = stands-still s.sending.next
-advances-items s (item ∷ items) legal =
+  packed-advances : (p : Packing) → Advances s.sending.next (packed_as s p)
+  packed-advances (Waits until) = stays-next s _ refl
+  packed-advances (SendsAgain offset block) = record { once = after_pack-next s.sending s.last; sends = after_pack-next s.sending s.last }
+  packed-advances (Sends block) = record { once = after_pack-next s.sending s.last; sends = after_pack-next s.sending s.last }
+  packed-advances Idles = stays-next s _ refl
+
+  pack-advances : (phase : Phase) → Advances s.sending.next (pack_in s phase)
+  pack-advances phase.Connected = packed-advances (packing s.sending s.last)
+  pack-advances (phase.Broken why) = stays-next s _ refl
+  pack-advances phase.Closing = stays-next s _ refl
+  pack-advances phase.Closed = stays-next s _ refl
+
+  silence-next : (what : Silence) → (after_silence (after_told s) what).sending.next ≡ s.sending.next
+  unfolding after_timeout
+  silence-next IsShort = refl
+  silence-next Breaks = refl
+  silence-next Resends = refl
+  silence-next Signs = refl
+
+  tick-advances : (phase : Phase) → Advances s.sending.next (tick_in s phase)
+  tick-advances phase.Connected = stays-next s (tick_in s phase.Connected) (silence-next (silence s))
+  tick-advances (phase.Broken why) = stays-next s _ refl
+  tick-advances phase.Closing = stays-next s _ refl
+  tick-advances phase.Closed = stays-next s _ refl
+
+  close-advances : s.sending.acked ≤ s.sending.next → Advances s.sending.next (on_close s)
+  unfolding sending_closed
+  close-advances sent = record { once = omega arith; sends = omega arith }
+
+  arrive-advances : (from : Addr) (bytes : List ℕ) → Advances s.sending.next (on_read s from (read bytes))
+  arrive-advances from bytes = arrival-shows s from (Advances s.sending.next) (read bytes) (record {
+    passed = λ counters answer differs. stays-next s _ refl;
+    noticed = λ counters answer differs connected. stays-next s _ refl;
+    brought = λ number flags stamp payload connected sender is. stays-next s _ refl;
+    acknowledged = λ number stamp body offset connected sender is acks. stays-next s _ (after_ack-next s.sending body);
+    ended = λ connected. stays-next s _ refl;
+  })
+
+  act-advances : (act : Act) → s.sending.acked ≤ s.sending.next → Advances s.sending.next (on_act s act)
+  act-advances (Send bytes) sent = send-advances bytes s.phase
+  act-advances (Recv room) sent = recv-advances room s.phase
+  act-advances Pack sent = pack-advances s.phase
+  act-advances Tick sent = tick-advances s.phase
+  act-advances Close sent = close-advances sent
+  act-advances (Arrive from bytes) sent = arrive-advances from bytes
+
+pub step-advances : (s : State) (event : Event) → s.sending.acked ≤ s.sending.next → Advances s.sending.next (step s event)
+unfolding step
+step-advances s event sent = act-advances (at_moment s event.now) event.act sent
+
+-- over items, it rises by at most their number, and by at most that of the datagrams that they sent
+pub record HasAdvanced (next after : ℕ) (items : List Item) : Type 0 where
+  pub events : after ≤ next + length items
+  pub sends : after ≤ next + length (sent_by items)
+
+pub items-advance : (s : State) (start : ℕ) (blocks : List (List ℕ)) (items : List Item) → AreLegal s items → CutIn s.phase s.sending start blocks
+    → HasAdvanced s.sending.next (after_items s items).sending.next items
+unfolding after_items AreLegal sent_by
+items-advance s start blocks [] legal is_cut = record { events = omega arith; sends = omega arith }
+items-advance s start blocks (item ∷ items) legal is_cut =
     let next = (step s item.event).after in
-    let one = subst (λ (outs : List Datagram). Advances s.sending.next next.sending.next (with_offsets outs (named s item.event)))
-    (sym legal.1) (advances-step s item.event) in
-    advances-both s.sending.next next.sending.next _ _ _ one (advances-items next items legal.2)
+    let one = step-advances s item.event (cut-under_way s.phase s.sending start blocks is_cut).sent in
+    let rest = items-advance next start (blocks ++ blocks_of s item.event) items legal.2 (step-cut start blocks s item.event is_cut) in
+    record {
+      events = omega (arith, one.once, rest.events);
+      sends = omega (arith, one.sends, rest.sends, ap length legal.1, length-append item.outs (sent_by items));
+    }
+
+-- ---- the offset of a data packet
+
+-- the one offset that is named
+pub only-named : (emission : Emission) (named offset : ℕ) → emission.offsets ≡ named ∷ [] → Contains emission.offsets offset → named ≡ offset
+only-named emission named offset names among =
+    elim (Contains-push_cases [] named offset (subst (λ (l : List ℕ). Contains l offset) names among)) [
+      | inl none ↦ absurd (omega (arith, none.1))
+      | inr same ↦ same
+    ]
+
+-- an emission that is a data packet names an offset that was sent before, or the first that wasn't
+pub packet-below : (s : State) (start : ℕ) (blocks : List (List ℕ)) (emission : Emission) (x : Emitting s emission) (number : ℕ) (flags : Flags) (stamp dest : ℕ)
+    (payload : List ℕ) (offset : ℕ) → CutIn s.phase s.sending start blocks → packet_of s emission x ≡ Block number flags stamp dest payload
+    → Contains emission.offsets offset → offset ≤ s.sending.next
+packet-below s start blocks emission (NewBlock block connected packs is) number flags stamp dest payload offset is_cut same named =
+    omega (arith, only-named emission s.sending.next offset (ap (λ (e : Emission). e.offsets) is) named)
+packet-below s start blocks emission (LostBlock lost block connected packs is) number flags stamp dest payload offset is_cut same named =
+    let cut : IsCut s.sending start blocks = rw connected at is_cut in
+    let within = lost-within s.sending start blocks lost block cut (packing-again s.sending s.last lost block packs) in
+    omega (arith, within.1, only-named emission lost offset (ap (λ (e : Emission). e.offsets) is) named)
+packet-below s start blocks emission (Acknowledgement ack connected tells is) number flags stamp dest payload offset is_cut same named = absurd (cc)
+packet-below s start blocks emission (SignOfLife connected is) number flags stamp dest payload offset is_cut same named = absurd (cc)
+packet-below s start blocks emission (TheEnd closing is) number flags stamp dest payload offset is_cut same named = absurd (cc)

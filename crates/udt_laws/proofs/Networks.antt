@@ -3,7 +3,7 @@ use Rattle.std.proofs.Common.{◌≡◌, ℕ, ◌+◌, ◌≤◌, List, ◌++◌
 use Rattle.std.specs.Prelude.{slice_get, slice_set, map}
 use Rattle.std.specs.List.{Contains}
 use Rattle.std.proofs.lemmas.Bool.{cases_eq}
-use Rattle.std.proofs.lemmas.List.{append-nil, length-append, length-map, length-set}
+use Rattle.std.proofs.lemmas.List.{append-nil, length-append, length-set}
 use Rattle.std.proofs.lemmas.List.Elements.{Contains-append_left, Contains-append_right, Contains-append_cases}
 use Rattle.udt_model.specs.declared.addresses.Addr.{Addr}
 use Rattle.udt_model.specs.State.{Datagram}
@@ -60,7 +60,10 @@ pub record IsNetwork (n : Network) : Type 0 where
   pub letters : (letter : Letter) → Contains n.letters letter → IsFromSeat n.seats letter
   pub arrived : (k : ℕ) (seat : Seat) (datagram : Datagram) → slice_get n.seats k ≡ Some seat → Contains (arrivals seat.history) datagram
       → CameAs n.letters datagram
-  pub few : (k : ℕ) (seat : Seat) → slice_get n.seats k ≡ Some seat → length (sent seat.history) ≤ length n.letters
+
+-- each of its sockets has had so many events at most
+abbrev pub HaveFew : Network → ℕ → Type 0
+HaveFew n most = (k : ℕ) (seat : Seat) → slice_get n.seats k ≡ Some seat → length seat.history.items ≤ most
 
 -- ---- events
 
@@ -71,6 +74,9 @@ sent-happened h pass event = sent_by-append h.items _ ∙ ap (λ (more : List Da
 arrivals-happened : (h : History) (pass : ℕ) (event : Event) → arrivals (happened h pass event) ≡ arrivals h ++ arrived_by_act event.act
 unfolding arrived_by
 arrivals-happened h pass event = arrived_by-append h.items _ ∙ ap (λ (more : List Datagram). arrivals h ++ more) (append-nil (arrived_by_act event.act))
+
+length-happened : (h : History) (pass : ℕ) (event : Event) → length (happened h pass event).items ≡ length h.items + 1
+length-happened h pass event = length-append h.items _
 
 module _ (n : Network) (place : ℕ) (seat : Seat) (event : Event) (here : slice_get n.seats place ≡ Some seat) where
   outs : List Datagram
@@ -177,19 +183,14 @@ module _ (n : Network) (place : ℕ) (seat : Seat) (event : Event) (here : slice
           ]
       | inr old ↦ came-longer datagram (is.arrived k found datagram old among)
     ];
-    few = λ k found at. elim (seat-cases k found at) [
-      | inl new ↦
-          let lengths = ap (λ (s : Seat). length (sent s.history)) (sym new.1) in
-          let longer = ap length (sent-happened seat.history 0 event) in
-          omega (
-            arith,
-            lengths,
-            longer,
-            length-append (sent seat.history) outs,
-            is.few place seat here,
-            length-append n.letters (map (letter_from seat.host) outs),
-            length-map outs (letter_from seat.host),
-          )
-      | inr old ↦ omega (arith, is.few k found old, length-append n.letters (map (letter_from seat.host) outs))
-    ];
   }
+
+  -- one socket has had one event more
+  pub event-counts : (most : ℕ) → HaveFew n most → HaveFew (event_at n place seat event).network (most + 1)
+  unfolding event_at after_seat
+  event-counts most few k found at = elim (seat-cases k found at) [
+    | inl new ↦
+        let events = ap (λ (s : Seat). length s.history.items) (sym new.1) in
+        omega (arith, events, few place seat here, length-happened seat.history 0 event)
+    | inr old ↦ omega (arith, few k found old)
+  ]

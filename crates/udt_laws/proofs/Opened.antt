@@ -1,12 +1,13 @@
 -- What a history that begins with an opening begins with and keeps.
-use Rattle.std.proofs.Common.{◌≡◌, ℕ, Some, ap, ◌∙◌}
+use Rattle.std.proofs.Common.{◌≡◌, ℕ, [], Some, sym, ap, ◌∙◌}
 use Rattle.udt_model.specs.declared.answers.Peer.{Peer}
+use Rattle.udt_model.specs.declared.answers.Phase.TheVariants as phase
 use Rattle.udt_model.specs.declared.packets.Config.{Config}
 use Rattle.udt_model.specs.State.{State}
 use Rattle.udt_model.specs.Step.{opening}
 use Rattle.udt_model.specs.History.{History, state_of, start_of}
 use Rattle.udt_model.specs.declared.addresses.Addr.{Addr}
-use Rattle.udt_model.specs.Records.{PeerPair, own_peer}
+use Rattle.udt_model.specs.Records.{Way, PairedAt, opened_by, PeerPair, own_peer}
 use Rattle.udt_model.proofs.StepLemmas.{after_items-keeps}
 
 module _ (own : ℕ) (config : Config) (peer : Peer) (now start : ℕ) (h : History) (opened : h.opening ≡ opening own config peer now start) where
@@ -17,6 +18,10 @@ module _ (own : ℕ) (config : Config) (peer : Peer) (now start : ℕ) (h : Hist
   pub opened_peer : h.opening.peer ≡ peer
   unfolding opening
   opened_peer = ap (λ (s : State). s.peer) opened
+
+  pub opened_phase : h.opening.phase ≡ phase.Connected
+  unfolding opening
+  opened_phase = ap (λ (s : State). s.phase) opened
 
   pub opened_receiving : h.opening.receiving.isn ≡ peer.isn
   unfolding opening
@@ -38,11 +43,24 @@ module _ (own : ℕ) (config : Config) (peer : Peer) (now start : ℕ) (h : Hist
   unfolding opening
   opened_top = ap (λ (s : State). s.receiving.top) opened
 
+  pub opened_base : h.opening.receiving.base ≡ start
+  unfolding opening
+  opened_base = ap (λ (s : State). s.receiving.base) opened
+
+  pub opened_placed : h.opening.receiving.placed ≡ []
+  unfolding opening
+  opened_placed = ap (λ (s : State). s.receiving.placed) opened
+
   pub last_peer : (state_of h).peer ≡ peer
   last_peer = (after_items-keeps h.opening h.items).peer ∙ opened_peer
 
   pub last_isn : (state_of h).sending.isn ≡ peer.isn
   last_isn = (after_items-keeps h.opening h.items).sending.isn ∙ opened_sending
+
+-- the first block that a socket sends has the offset at which it begins
+pub way-next : (own : ℕ) (way : Way) (h : History) → h.opening ≡ opened_by own way → h.opening.sending.next ≡ start_of h
+way-next own (PairedAt config peer now start) h opened =
+    opened_next own config peer now start h opened ∙ sym (opened_start own config peer now start h opened)
 
 pair_from : Addr → ℕ → PeerPair
 pair_from addr id = record { addr = addr; id = id }

@@ -3,8 +3,9 @@ use Rattle.std.proofs.Common.{◌≡◌, ℕ, ◌-◌, ◌^◌, ◌<◌, ◌≤�
 use Rattle.std.specs.Prelude.{Option, if◌then◌else◌, ◌&&◌, codes}
 use Rattle.std.proofs.lemmas.Bool.Decides.{nat_tests}
 use Rattle.udt_model.specs.declared.limits.TheConstants.{MOST_PAYLOAD, FEWEST_BLOCKS, MOST_BLOCKS, LAST_START}
+use Rattle.udt_model.specs.Addresses.{addr_of}
 use Rattle.udt_model.specs.Words.{◌>>=◌, words_of, is_word, name_of, number_of, if_within, number_within, bytes_of}
-use Rattle.udt_model.specs.Lines.{Pairing, Line, PairLine, is_silent, moment_of, pairing_of, pair_line, send_line, recv_line, pack_line, deliver_line, line_by_words, read_line}
+use Rattle.udt_model.specs.Lines.{Pairing, Line, PairLine, is_silent, moment_of, pairing_of, pair_line, send_line, recv_line, pack_line, tick_line, close_line, deliver_line, raw_line, line_by_words, read_line}
 
 -- the values of a pair are in their ranges
 pub record IsPairing (p : Pairing) : Type 0 where
@@ -100,6 +101,24 @@ pack-no_pair name (a ∷ []) p is =
     cc
 pack-no_pair name (a ∷ b ∷ others) p is = cc
 
+tick-no_pair : (name : List ℕ) (words : List (List ℕ)) (p : Pairing) → tick_line name words ≡ Some (PairLine p) → ⊥
+unfolding tick_line
+tick-no_pair name [] p is = cc
+tick-no_pair name (a ∷ []) p is =
+    let one = bind-some (name_of name) _ _ is in
+    let two = bind-some (moment_of a) _ _ one.2 in
+    cc
+tick-no_pair name (a ∷ b ∷ others) p is = cc
+
+close-no_pair : (name : List ℕ) (words : List (List ℕ)) (p : Pairing) → close_line name words ≡ Some (PairLine p) → ⊥
+unfolding close_line
+close-no_pair name [] p is = cc
+close-no_pair name (a ∷ []) p is =
+    let one = bind-some (name_of name) _ _ is in
+    let two = bind-some (moment_of a) _ _ one.2 in
+    cc
+close-no_pair name (a ∷ b ∷ others) p is = cc
+
 deliver-no_pair : (number : List ℕ) (words : List (List ℕ)) (p : Pairing) → deliver_line number words ≡ Some (PairLine p) → ⊥
 unfolding deliver_line
 deliver-no_pair number [] p is = cc
@@ -108,6 +127,19 @@ deliver-no_pair number (a ∷ []) p is =
     let two = bind-some (moment_of a) _ _ one.2 in
     cc
 deliver-no_pair number (a ∷ b ∷ others) p is = cc
+
+raw-no_pair : (now : List ℕ) (words : List (List ℕ)) (p : Pairing) → raw_line now words ≡ Some (PairLine p) → ⊥
+unfolding raw_line
+raw-no_pair now [] p is = cc
+raw-no_pair now (a ∷ []) p is = cc
+raw-no_pair now (a ∷ b ∷ []) p is = cc
+raw-no_pair now (a ∷ b ∷ c ∷ []) p is =
+    let one = bind-some (moment_of now) _ _ is in
+    let two = bind-some (addr_of a) _ _ one.2 in
+    let three = bind-some (addr_of b) _ _ two.2 in
+    let four = bind-some (bytes_of c) _ _ three.2 in
+    cc
+raw-no_pair now (a ∷ b ∷ c ∷ d ∷ others) p is = cc
 
 words-in_range : (words : List (List ℕ)) (p : Pairing) → line_by_words words ≡ Some (PairLine p) → IsPairing p
 unfolding line_by_words
@@ -120,11 +152,20 @@ words-in_range (first ∷ second ∷ others) p is =
         | inl is_recv ↦ absurd (recv-no_pair first others p is_recv)
         | inr two ↦ elim (if-some (is_word second (codes "pack")) _ _ _ two) [
           | inl is_pack ↦ absurd (pack-no_pair first others p is_pack)
-          | inr three ↦ elim (if-some (is_word first (codes "deliver")) _ _ _ three) [
-            | inl is_deliver ↦ absurd (deliver-no_pair second others p is_deliver)
-            | inr four ↦ elim (if-some (is_word first (codes "pair") && is_word second (codes "stream")) _ _ _ four) [
-              | inl is_pair ↦ pair-in_range others p is_pair
-              | inr none ↦ absurd (cc)
+          | inr three ↦ elim (if-some (is_word second (codes "tick")) _ _ _ three) [
+            | inl is_tick ↦ absurd (tick-no_pair first others p is_tick)
+            | inr four ↦ elim (if-some (is_word second (codes "close")) _ _ _ four) [
+              | inl is_close ↦ absurd (close-no_pair first others p is_close)
+              | inr five ↦ elim (if-some (is_word first (codes "deliver")) _ _ _ five) [
+                | inl is_deliver ↦ absurd (deliver-no_pair second others p is_deliver)
+                | inr six ↦ elim (if-some (is_word first (codes "raw")) _ _ _ six) [
+                  | inl is_raw ↦ absurd (raw-no_pair second others p is_raw)
+                  | inr seven ↦ elim (if-some (is_word first (codes "pair") && is_word second (codes "stream")) _ _ _ seven) [
+                    | inl is_pair ↦ pair-in_range others p is_pair
+                    | inr none ↦ absurd (cc)
+                  ]
+                ]
+              ]
             ]
           ]
         ]

@@ -1,242 +1,56 @@
--- Each line of a script keeps the network, so each of its sockets delivers a prefix of what its peer accepted.
-use Rattle.std.proofs.Common.{◌≡◌, ℕ, zero, suc, ◌+◌, ◌-◌, ◌^◌, ◌<◌, ◌≤◌, List, [], ◌∷◌, ◌++◌, length, Some, None, true, false, refl, ap, ◌∙◌, sym, subst, inl, inr, ◌⊎◌, arith}
-use Rattle.std.specs.Prelude.{Option, slice_get, map, codes, option_map, if◌then◌else◌, ◌==◌}
+-- Each line of a script keeps the network, so each of its sockets is in step with its peer.
+use Rattle.std.proofs.Common.{◌≡◌, ℕ, suc, ◌+◌, ◌-◌, ◌<◌, ◌≤◌, List, [], ◌∷◌, length, Some, None, true, false, refl, ap, ◌∙◌, sym, subst, inl, inr, arith}
+use Rattle.std.specs.Prelude.{Option, slice_get, codes, option_map, if◌then◌else◌, ◌==◌}
 use Rattle.std.specs.List.{Contains}
 use Rattle.std.proofs.lemmas.Bool.{and_parts, leb-true}
 use Rattle.std.proofs.lemmas.Option.{same_Some}
 use Rattle.std.proofs.lemmas.List.Sums.{sum_by-cons}
-use Rattle.std.proofs.lemmas.List.{length-append, length-map}
 use Rattle.std.proofs.lemmas.List.Elements.{Contains-push_cases}
 use Rattle.udt_model.specs.declared.limits.TheConstants.{MOST_SOCKETS}
 use Rattle.udt_model.specs.declared.addresses.Addr.{Addr}
 use Rattle.udt_model.specs.declared.answers.Peer.{Peer}
-use Rattle.udt_model.specs.Addresses.{same_addr}
-use Rattle.udt_model.specs.Wire.{target, read}
-use Rattle.udt_model.specs.State.{State, Datagram}
-use Rattle.udt_model.specs.Sending.{Packing, Waits, Sends, Idles, packing}
-use Rattle.udt_model.specs.Step.{Act, Send, Recv, Pack, Arrive, Event, at_moment, packed_as, on_act, step, opening}
-use Rattle.udt_model.specs.History.{History, AreLegal, state_of}
-use Rattle.udt_model.specs.Records.{sent_by, sent, arrived_by_act, arrived_by, arrivals, Way, PairedAt, opened_by, IsSocket, CanOpen, ArePaired, PeerPair}
+use Rattle.udt_model.specs.Wire.{target}
+use Rattle.udt_model.specs.State.{Datagram}
+use Rattle.udt_model.specs.Step.{Act, Send, Recv, Pack, Tick, Close, Arrive, Event}
+use Rattle.udt_model.specs.History.{History, state_of}
+use Rattle.udt_model.specs.Records.{sent, arrived_by_act, Way, PairedAt, opened_by, IsSocket, ArePaired, PeerPair}
 use Rattle.udt_model.specs.Words.{◌>>=◌}
-use Rattle.udt_model.specs.Lines.{Pairing, Line, Silent, PairLine, SendLine, RecvLine, PackLine, DeliverLine, read_line}
-use Rattle.udt_model.specs.Script.{Seat, Letter, Network, Printed, empty_network, first_host, second_host, config_of, peer_of, paired_seat, paired, may_pair, letter_from, event_at, event_there, place_of, Route, ToSeat, Nowhere, route_to, route_by, route, arrived, delivery, on_line, played_line, left_by, network_from, network_after, size_of}
-use Rattle.udt_model.proofs.StepLemmas.{on_read-quiet}
+use Rattle.udt_model.specs.Lines.{Pairing, Line, Silent, PairLine, SendLine, RecvLine, PackLine, TickLine, CloseLine, DeliverLine, RawLine, read_line, is_raw, AreEmitted}
+use Rattle.udt_model.specs.Script.{Seat, Letter, Network, Printed, empty_network, paired, may_pair, event_at, event_there, place_of, is_enrolled, is_host, Route, ToSeat, Nowhere, route_to, route_by, route, arrived, delivery, on_line, played_line, left_by, network_from, network_after, size_of}
 use Rattle.udt_laws.specs.Laws.{ComesFrom, ScriptPrefix}
-use Rattle.udt_laws.proofs.Seats.{append-found, append-first, append-second, found-once, found-among}
+use Rattle.udt_laws.proofs.Seats.{found-once, found-among}
 use Rattle.udt_laws.proofs.ScriptLines.{IsPairing, line-in_range}
 use Rattle.udt_laws.proofs.Opened.{last_peer}
 use Rattle.udt_laws.proofs.GoesToPeer.{sent-goes}
-use Rattle.udt_laws.proofs.Pair.{pair_prefix}
-use Rattle.udt_laws.proofs.Networks.{Plan, enrolled_at, IsPlanned, HasMate, CameAs, IsNetwork, event-keeps}
-
--- ---- a pair
-
-two-found : {X : Type 0} (a b x : X) (j : ℕ) → slice_get (a ∷ b ∷ []) j ≡ Some x → ((j ≡ 0) × (a ≡ x)) ⊎ ((j ≡ 1) × (b ≡ x))
-two-found a b x zero found = inl (refl, cc)
-two-found a b x (suc zero) found = inr (refl, cc)
-two-found a b x (suc (suc j)) found = absurd (cc)
-
-no-arrival : (datagram : Datagram) → Contains [] datagram → ⊥
-no-arrival datagram among = omega (arith, among.1)
-
-module _ (n : Network) (p : Pairing) (in_range : IsPairing p) (room : length n.seats + 2 ≤ MOST_SOCKETS) where
-  first_plan : Plan
-  first_plan = record { host = first_host; way = PairedAt (config_of p) (peer_of p second_host (length n.seats + 2)) 0 p.start }
-
-  second_plan : Plan
-  second_plan = record { host = second_host; way = PairedAt (config_of p) (peer_of p first_host (length n.seats + 1)) 0 p.start }
-
-  can_open : (host : Addr) (id : ℕ) → CanOpen (config_of p) (peer_of p host id) p.start
-  can_open host id = record {
-    payload = in_range.payload;
-    most_payload = in_range.most_payload;
-    snd_blocks = in_range.blocks;
-    most_snd_blocks = in_range.most_blocks;
-    rcv_blocks = in_range.blocks;
-    most_rcv_blocks = in_range.most_blocks;
-    peer_payload = in_range.payload;
-    within = in_range.start;
-  }
-
-  first_seat : Seat
-  first_seat = paired_seat p p.a first_host (length n.seats + 1) second_host (length n.seats + 2)
-
-  second_seat : Seat
-  second_seat = paired_seat p p.b second_host (length n.seats + 2) first_host (length n.seats + 1)
-
-  module _ (is : IsNetwork n) where
-    with_both : List Plan
-    with_both = is.plans ++ first_plan ∷ second_plan ∷ []
-
-    first-planned : IsPlanned with_both (length n.seats) first_seat
-    unfolding with_both first_plan first_seat opening AreLegal
-    first-planned = record {
-      plan = first_plan;
-      at = append-second is.plans _ (length n.seats) 0 first_plan (omega (arith, is.count)) refl;
-      host = refl;
-      stream = refl;
-      socket = record {
-        in_range = record { values = can_open second_host (length n.seats + 2); own_fits = omega (arith, room); id_fits = omega (arith, room); isn_fits = in_range.isn };
-        opened = refl;
-        legal = tt;
-      };
-    }
-
-    second-planned : IsPlanned with_both (length n.seats + 1) second_seat
-    unfolding with_both second_plan second_seat opening AreLegal
-    second-planned =
-        let own_is : length n.seats + 2 ≡ length n.seats + 1 + 1 = omega arith in
-        record {
-          plan = second_plan;
-          at = append-second is.plans _ (length n.seats + 1) 1 second_plan (omega (arith, is.count)) refl;
-          host = refl;
-          stream = refl;
-          socket = record {
-            in_range = record { values = can_open first_host (length n.seats + 1); own_fits = omega (arith, room); id_fits = omega (arith, room); isn_fits = in_range.isn };
-            opened = ap (λ (own : ℕ). opening own (config_of p) (peer_of p first_host (length n.seats + 1)) 0 p.start) own_is;
-            legal = tt;
-          };
-        }
-
-    first-mate : HasMate with_both (length n.seats) first_plan
-    unfolding with_both first_plan second_plan
-    first-mate = record {
-      place = length n.seats + 1;
-      other = second_plan;
-      at = append-second is.plans _ (length n.seats + 1) 1 second_plan (omega (arith, is.count)) refl;
-      are = (refl, omega arith, refl, refl, refl, refl, refl);
-    }
-
-    second-mate : HasMate with_both (length n.seats + 1) second_plan
-    unfolding with_both first_plan second_plan
-    second-mate = record {
-      place = length n.seats;
-      other = first_plan;
-      at = append-second is.plans _ (length n.seats) 0 first_plan (omega (arith, is.count)) refl;
-      are = (refl, refl, refl, omega arith, refl, refl, refl);
-    }
-
-    -- a socket of the network with the pair is an old one, or one of the pair
-    seat-found : (k : ℕ) (seat : Seat) → slice_get (n.seats ++ first_seat ∷ second_seat ∷ []) k ≡ Some seat
-        → (slice_get n.seats k ≡ Some seat) ⊎ (((length n.seats ≡ k) × (first_seat ≡ seat)) ⊎ ((length n.seats + 1 ≡ k) × (second_seat ≡ seat)))
-    seat-found k seat at = elim (append-found n.seats (first_seat ∷ second_seat ∷ []) k seat at) [
-      | inl old ↦ inl old
-      | inr past ↦ elim (two-found first_seat second_seat seat past.0 past.2) [
-        | inl one ↦ inr (inl (omega (arith, past.1, one.0), one.1))
-        | inr two ↦ inr (inr (omega (arith, past.1, two.0), two.1))
-      ]
-    ]
-
-    seat-planned : (k : ℕ) (seat : Seat) → slice_get (n.seats ++ first_seat ∷ second_seat ∷ []) k ≡ Some seat → IsPlanned with_both k seat
-    unfolding with_both
-    seat-planned k seat at = elim (seat-found k seat at) [
-      | inl old ↦
-          let planned = is.seats k seat old in
-          record { plan = planned.plan; at = append-first is.plans _ k planned.plan planned.at; host = planned.host; stream = planned.stream; socket = planned.socket }
-      | inr new ↦ elim new [
-        | inl one ↦ subst (λ (at_k : ℕ). IsPlanned with_both at_k seat) one.0 (subst (IsPlanned with_both (length n.seats)) one.1 first-planned)
-        | inr two ↦ subst (λ (at_k : ℕ). IsPlanned with_both at_k seat) two.0 (subst (IsPlanned with_both (length n.seats + 1)) two.1 second-planned)
-      ]
-    ]
-
-    plan-mate : (k : ℕ) (plan : Plan) → slice_get (is.plans ++ first_plan ∷ second_plan ∷ []) k ≡ Some plan → HasMate with_both k plan
-    unfolding with_both
-    plan-mate k plan at = elim (append-found is.plans (first_plan ∷ second_plan ∷ []) k plan at) [
-      | inl old ↦
-          let mate = is.mates k plan old in
-          record { place = mate.place; other = mate.other; at = append-first is.plans _ mate.place mate.other mate.at; are = mate.are }
-      | inr past ↦ elim (two-found first_plan second_plan plan past.0 past.2) [
-        | inl one ↦
-            let place : length n.seats ≡ k = omega (arith, past.1, one.0, is.count) in
-            subst (λ (at_k : ℕ). HasMate with_both at_k plan) place (subst (HasMate with_both (length n.seats)) one.1 first-mate)
-        | inr two ↦
-            let place : length n.seats + 1 ≡ k = omega (arith, past.1, two.0, is.count) in
-            subst (λ (at_k : ℕ). HasMate with_both at_k plan) place (subst (HasMate with_both (length n.seats + 1)) two.1 second-mate)
-      ]
-    ]
-
-    -- the sockets of the pair got and sent nothing yet
-    nothing-arrived : (k : ℕ) (seat : Seat) (datagram : Datagram) → slice_get (n.seats ++ first_seat ∷ second_seat ∷ []) k ≡ Some seat
-        → Contains (arrivals seat.history) datagram → CameAs n.letters datagram
-    unfolding first_seat second_seat arrived_by
-    nothing-arrived k seat datagram at among = elim (seat-found k seat at) [
-      | inl old ↦ is.arrived k seat datagram old among
-      | inr new ↦ elim new [
-        | inl one ↦ absurd (no-arrival datagram (subst (λ (s : Seat). Contains (arrivals s.history) datagram) (sym one.1) among))
-        | inr two ↦ absurd (no-arrival datagram (subst (λ (s : Seat). Contains (arrivals s.history) datagram) (sym two.1) among))
-      ]
-    ]
-
-    few-sent : (k : ℕ) (seat : Seat) → slice_get (n.seats ++ first_seat ∷ second_seat ∷ []) k ≡ Some seat → length (sent seat.history) ≤ length n.letters
-    unfolding first_seat second_seat sent_by
-    few-sent k seat at = elim (seat-found k seat at) [
-      | inl old ↦ is.few k seat old
-      | inr new ↦ elim new [
-        | inl one ↦ omega (arith, ap (λ (s : Seat). length (sent s.history)) one.1)
-        | inr two ↦ omega (arith, ap (λ (s : Seat). length (sent s.history)) two.1)
-      ]
-    ]
-
-  pub pair-keeps : IsNetwork n → IsNetwork (paired n p).network
-  unfolding paired first_seat second_seat with_both
-  pair-keeps is = record {
-    plans = with_both is;
-    count = omega (arith, is.count, length-append is.plans (first_plan ∷ second_plan ∷ []), length-append n.seats (first_seat ∷ second_seat ∷ []));
-    seats = seat-planned is;
-    mates = plan-mate is;
-    letters = λ letter among.
-        let old = is.letters letter among in
-        record { place = old.place; seat = old.seat; at = append-first n.seats _ old.place old.seat old.at; from = old.from; among = old.among };
-    arrived = nothing-arrived is;
-    few = few-sent is;
-  }
+use Rattle.udt_laws.proofs.Pair.{events-prefix}
+use Rattle.udt_laws.proofs.Arrived.{events-arrived}
+use Rattle.udt_laws.proofs.Networks.{Plan, enrolled_at, IsPlanned, CameAs, IsNetwork, HaveFew, event-keeps, event-counts}
+use Rattle.udt_laws.proofs.ScriptPairs.{no-arrival, pair-keeps, pair-counts}
 
 -- ---- calls and arrivals
 
--- an event emits at most one datagram
-packed-one : (s : State) (p : Packing) → length (packed_as s p).outs ≤ 1
-packed-one s (Waits until) = omega arith
-packed-one s (Sends block) = omega arith
-packed-one s Idles = omega arith
-
-act-one : (s : State) (act : Act) → length (on_act s act).outs ≤ 1
-act-one s (Send bytes) = omega arith
-act-one s (Recv room) = omega arith
-act-one s Pack = packed-one s (packing s.sending s.last)
-act-one s (Arrive from bytes) = omega (arith, ap length (on_read-quiet s from (read bytes)).outs)
-
-step-one : (s : State) (event : Event) → length (step s event).outs ≤ 1
-unfolding step
-step-one s event = act-one (at_moment s event.now) event.act
-
--- a network that a script makes, with at most so many datagrams
+-- a network that a script makes, whose sockets have had so many events at most
 record IsMade (n : Network) (most : ℕ) : Type 0 where
   network : IsNetwork n
-  within : length n.letters ≤ most
+  few : HaveFew n most
 
--- what a line leaves of such a network, which has at most one datagram more
+-- what a line leaves of such a network, in which a socket may have had one event more
 Keeps : Network → ℕ → Option Printed → Type 0
 Keeps n most printed = IsMade (left_by n printed) (most + 1)
 
 event-made : (n : Network) (most place : ℕ) (seat : Seat) (event : Event) → slice_get n.seats place ≡ Some seat
     → ((datagram : Datagram) → Contains (arrived_by_act event.act) datagram → CameAs n.letters datagram) → IsMade n most
     → IsMade (event_at n place seat event).network (most + 1)
-unfolding event_at
-event-made n most place seat event here comes made =
-    let outs = (step (state_of seat.history) event).outs in
-    record {
-      network = event-keeps n place seat event here made.network comes;
-      within = omega (
-        arith,
-        made.within,
-        step-one (state_of seat.history) event,
-        length-append n.letters (map (letter_from seat.host) outs),
-        length-map outs (letter_from seat.host),
-      );
-    }
+event-made n most place seat event here comes made = record {
+  network = event-keeps n place seat event here made.network comes;
+  few = event-counts n place seat event here most made.few;
+}
+
+few-more : (n : Network) (most : ℕ) → HaveFew n most → HaveFew n (most + 1)
+few-more n most few k seat at = omega (arith, few k seat at)
 
 stays : (n : Network) (most : ℕ) → IsMade n most → IsMade n (most + 1)
-stays n most made = record { network = made.network; within = omega (arith, made.within) }
+stays n most made = record { network = made.network; few = few-more n most made.few }
 
 call-found : (n : Network) (most place now : ℕ) (act : Act) (found : Option Seat) → slice_get n.seats place ≡ found
     → ((datagram : Datagram) → Contains (arrived_by_act act) datagram → CameAs n.letters datagram) → IsMade n most
@@ -267,7 +81,7 @@ routed-to : (host : Addr) (at place : ℕ) (found : Option Seat) (seat : Seat) �
     → (at ≡ place) × (found ≡ Some seat)
 routed-to host at place None seat is = absurd (cc)
 routed-to host at place (Some other) seat is =
-    elim (same_addr other.host host) as (λ same. (if same then ToSeat at other else Nowhere (codes "id")) ≡ ToSeat place seat
+    elim (is_enrolled host other) as (λ enrolled. (if enrolled then ToSeat at other else Nowhere (codes "id")) ≡ ToSeat place seat
     → (at ≡ place) × (Some other ≡ Some seat)) [
       | true ↦ λ e. (cc, cc)
       | false ↦ λ e. absurd (cc)
@@ -288,7 +102,12 @@ routed-by seats host (Some id) place seat is =
 route-found : (seats : List Seat) (letter : Letter) (place : ℕ) (seat : Seat) → route seats letter ≡ ToSeat place seat
     → slice_get seats place ≡ Some seat
 unfolding route
-route-found seats letter place seat is = routed-by seats letter.to (target letter.bytes) place seat is
+route-found seats letter place seat is =
+    elim (is_host letter.to) as (λ known. (if known then route_by seats letter.to (target letter.bytes) else Nowhere (codes "host")) ≡ ToSeat place seat
+    → slice_get seats place ≡ Some seat) [
+      | true ↦ λ e. routed-by seats letter.to (target letter.bytes) place seat e
+      | false ↦ λ e. absurd (cc)
+    ] is
 
 arrival-made : (n : Network) (most now : ℕ) (letter : Letter) (r : Route) → route n.seats letter ≡ r → Contains n.letters letter → IsMade n most
     → IsMade (arrived n now letter r).network (most + 1)
@@ -310,7 +129,8 @@ paired-made : (n : Network) (most : ℕ) (p : Pairing) → IsPairing p → lengt
     → IsMade (paired n p).network (most + 1)
 unfolding paired
 paired-made n most p in_range room made =
-    record { network = pair-keeps n p in_range room made.network; within = omega (arith, made.within) }
+    let both = pair-counts n p in_range room made.network most made.few in
+    record { network = pair-keeps n p in_range room made.network; few = few-more (paired n p).network most both }
 
 silent-made : (n : Network) (most : ℕ) → IsMade n most → Keeps n most (on_line n Silent)
 unfolding Keeps
@@ -330,28 +150,37 @@ pair-made n most p in_range made =
       | false ↦ λ test. stays n most made
     ] refl
 
-form-made : (n : Network) (most : ℕ) (line : List ℕ) (form : Line) → read_line line ≡ Some form → IsMade n most → Keeps n most (on_line n form)
-form-made n most line Silent reads made = silent-made n most made
-form-made n most line (PairLine p) reads made = pair-made n most p (line-in_range line p reads) made
-form-made n most line (SendLine name now bytes) reads made = call-there n most (place_of name n.seats) now (Send bytes) (nothing-came n) made
-form-made n most line (RecvLine name now room) reads made = call-there n most (place_of name n.seats) now (Recv room) (nothing-came n) made
-form-made n most line (PackLine name now) reads made = call-there n most (place_of name n.seats) now Pack (nothing-came n) made
-form-made n most line (DeliverLine number now) reads made = delivery-made n most number now (slice_get n.letters number) refl made
+form-made : (n : Network) (most : ℕ) (line : List ℕ) (form : Line) → read_line line ≡ Some form → is_raw (Some form) ≡ false → IsMade n most
+    → Keeps n most (on_line n form)
+form-made n most line Silent reads emitted made = silent-made n most made
+form-made n most line (PairLine p) reads emitted made = pair-made n most p (line-in_range line p reads) made
+form-made n most line (SendLine name now bytes) reads emitted made = call-there n most (place_of name n.seats) now (Send bytes) (nothing-came n) made
+form-made n most line (RecvLine name now room) reads emitted made = call-there n most (place_of name n.seats) now (Recv room) (nothing-came n) made
+form-made n most line (PackLine name now) reads emitted made = call-there n most (place_of name n.seats) now Pack (nothing-came n) made
+form-made n most line (TickLine name now) reads emitted made = call-there n most (place_of name n.seats) now Tick (nothing-came n) made
+form-made n most line (CloseLine name now) reads emitted made = call-there n most (place_of name n.seats) now Close (nothing-came n) made
+form-made n most line (DeliverLine number now) reads emitted made = delivery-made n most number now (slice_get n.letters number) refl made
+form-made n most line (RawLine now from to bytes) reads emitted made = absurd (cc)
 
-read-made : (n : Network) (most : ℕ) (line : List ℕ) (form : Option Line) → read_line line ≡ form → IsMade n most → Keeps n most (form >>= on_line n)
-read-made n most line None reads made = refused-made n most made
-read-made n most line (Some form) reads made = form-made n most line form reads made
+read-made : (n : Network) (most : ℕ) (line : List ℕ) (form : Option Line) → read_line line ≡ form → is_raw form ≡ false → IsMade n most
+    → Keeps n most (form >>= on_line n)
+read-made n most line None reads emitted made = refused-made n most made
+read-made n most line (Some form) reads emitted made = form-made n most line form reads emitted made
 
-line-made : (n : Network) (most : ℕ) (line : List ℕ) → IsMade n most → Keeps n most (played_line n line)
+line-made : (n : Network) (most : ℕ) (line : List ℕ) → is_raw (read_line line) ≡ false → IsMade n most → Keeps n most (played_line n line)
 unfolding played_line
-line-made n most line made = read-made n most line (read_line line) refl made
+line-made n most line emitted made = read-made n most line (read_line line) refl emitted made
 
-lines-made : (n : Network) (most : ℕ) (lines : List (List ℕ)) → IsMade n most → IsMade (network_from n lines) (most + length lines)
+lines-made : (n : Network) (most : ℕ) (lines : List (List ℕ)) → AreEmitted lines → IsMade n most → IsMade (network_from n lines) (most + length lines)
 unfolding network_from Keeps
-lines-made n most [] made = record { network = made.network; within = omega (arith, made.within) }
-lines-made n most (line ∷ lines) made =
-    let after = lines-made (left_by n (played_line n line)) (most + 1) lines (line-made n most line made) in
-    record { network = after.network; within = omega (arith, after.within) }
+lines-made n most [] emitted made =
+    let none : most + length {A = List ℕ} [] ≡ most = omega arith in
+    rw none made
+lines-made n most (line ∷ lines) emitted made =
+    let others = λ (k : ℕ) (d : List ℕ) (lt : k < length lines). emitted (suc k) d (omega arith) in
+    let after = lines-made (left_by n (played_line n line)) (most + 1) lines others (line-made n most line (emitted 0 line (omega arith)) made) in
+    let same : most + length (line ∷ lines) ≡ most + 1 + length lines = omega arith in
+    rw same after
 
 none-found : {X : Type 0} (k : ℕ) (x : X) → slice_get [] k ≡ Some x → ⊥
 none-found k x found = cc
@@ -365,15 +194,14 @@ empty-made = record {
     mates = λ k plan at. absurd (none-found k plan at);
     letters = λ letter among. absurd (omega (arith, among.1));
     arrived = λ k seat datagram at among. absurd (none-found k seat at);
-    few = λ k seat at. absurd (none-found k seat at);
   };
-  within = omega arith;
+  few = λ k seat at. absurd (none-found k seat at);
 }
 
-network-made : (lines : List (List ℕ)) → IsMade (network_after lines) (length lines)
-network-made lines =
-    let made = lines-made empty_network 0 lines empty-made in
-    record { network = made.network; within = omega (arith, made.within) }
+network-made : (lines : List (List ℕ)) → AreEmitted lines → IsMade (network_after lines) (length lines)
+network-made lines emitted =
+    let none : 0 + length lines ≡ length lines = omega arith in
+    rw none at (lines-made empty_network 0 lines emitted empty-made)
 
 -- ---- the law
 
@@ -424,16 +252,21 @@ module _ (n : Network) (is : IsNetwork n) where
       )
 
 pub script_prefix : ScriptPrefix
-script_prefix lines place peer_place seat peer few at peer_at names =
-    let made = network-made lines in
+script_prefix lines place peer_place seat peer few emitted at peer_at names =
+    let made = network-made lines emitted in
     let n = network_after lines in
     let a = made.network.seats place seat at in
     let b = made.network.seats peer_place peer peer_at in
+    let one = enrolled_at place a.plan.way seat.history in
+    let other = enrolled_at peer_place b.plan.way peer.history in
     let id : (state_of seat.history).peer.id ≡ peer_place + 1 = ap (λ (p : PeerPair). p.id) (same_Some _ _ names) in
     let are = mate-at n made.network place peer_place seat a.plan b.plan a.socket a.at b.at id in
-    let count : length (sent peer.history) < 2 ^ 30 = omega (arith, made.network.few peer_place peer peer_at, made.within, few) in
-    pair_prefix a.plan.host b.plan.host (enrolled_at place a.plan.way seat.history) (enrolled_at peer_place b.plan.way peer.history) a.socket b.socket are
-    a.stream (comes-from n made.network place peer_place seat peer at peer_at id a b) count
+    let comes = comes-from n made.network place peer_place seat peer at peer_at id a b in
+    record {
+      prefix = events-prefix a.plan.host b.plan.host one other a.socket b.socket are a.stream comes
+          (omega (arith, made.few peer_place peer peer_at, few));
+      acknowledged = events-arrived a.plan.host b.plan.host one other a.socket b.socket are comes (omega (arith, made.few place seat at, few));
+    }
 
 -- there are at most as many lines as bytes with their line feeds, so the lines of a script are few enough
 pub lines-within : (lines : List (List ℕ)) → length lines ≤ size_of lines

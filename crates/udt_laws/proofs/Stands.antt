@@ -1,103 +1,82 @@
--- Where a receiving half stands, over events: it never falls, and stays at most where all that it places lies below.
-use Rattle.std.proofs.Common.{◌≡◌, ℕ, ◌<◌, ◌≤◌, true, false, List, Some, Ok, Err, refl, subst, arith}
-use Rattle.std.specs.Prelude.{Result, ◌==◌, ◌&&◌, if◌then◌else◌}
-use Rattle.std.proofs.lemmas.Bool.{and_parts, eqb-true}
+-- Where a receiving half stands, over events: its base never falls, its placed blocks lie below the greatest offset that
+-- arrived, and that stays at most where all that it places lies below.
+use Rattle.std.proofs.Common.{◌≡◌, ℕ, ◌+◌, ◌<◌, ◌≤◌, List, Some, Ok, Err, refl, subst, arith}
+use Rattle.std.specs.Prelude.{Result}
 use Rattle.udt_model.specs.declared.addresses.Addr.{Addr}
-use Rattle.udt_model.specs.declared.answers.Heard.TheVariants as heard
 use Rattle.udt_model.specs.declared.answers.Refusal.{Refusal}
 use Rattle.udt_model.specs.declared.packets.Flags.{Flags}
-use Rattle.udt_model.specs.declared.packets.Malformed.{Malformed}
-use Rattle.udt_model.specs.Addresses.{same_addr}
 use Rattle.udt_model.specs.Numbers.{near}
-use Rattle.udt_model.specs.Wire.{Packet, Block, read}
-use Rattle.udt_model.specs.State.{State, Receiving}
-use Rattle.udt_model.specs.Sending.{Packing, Waits, Sends, Idles, packing}
-use Rattle.udt_model.specs.Receiving.{Placing, AtOffset, IsDouble, IsBelow, IsAbove, placing, after_placing, after_arrival, receive_answer, after_receive_answer, after_receive}
-use Rattle.udt_model.specs.Step.{Act, Send, Recv, Pack, Arrive, Event, answered, DidHear, at_moment, packed_as, count_stale, count_placing, heard_of, count_foreign, has_bad_length, on_block, on_read, on_act, step}
-use Rattle.udt_model.proofs.AddressLemmas.{same_addr-is}
-use Rattle.udt_model.proofs.ReceivingLemmas.{placing-free}
-use Rattle.udt_laws.proofs.Receives.{MeetsAct, meets-at_moment}
+use Rattle.udt_model.specs.Wire.{Block, read}
+use Rattle.udt_model.specs.State.{PlacedBlock, State, Receiving}
+use Rattle.udt_model.specs.Receiving.{Placing, AtOffset, IsDouble, IsBelow, IsAbove, placing, with_placed, after_placing, after_arrival, receive_answer, after_read, after_receive_answer, after_receive, Telling, IsEarly, IsKnown, Tells, telling, after_telling, after_tell, receiving_closed}
+use Rattle.udt_model.specs.Step.{Act, Arrive, Event, round_trip, step}
+use Rattle.udt_model.proofs.ReceivingLemmas.{placing-free, AllPlaced-with_block}
+use Rattle.udt_model.proofs.FrontLemmas.{AreBelow, AreBelow-higher, front_after-within}
+use Rattle.udt_model.proofs.ReceivingSteps.{receiving-shows}
+use Rattle.udt_laws.proofs.Receives.{MeetsAct}
 
 -- the half stands between these offsets
 pub record IsWithin (low high : ℕ) (r : Receiving) : Type 0 where
-  pub not_below : low ≤ r.top
+  pub not_below : low ≤ r.base
+  pub base : r.base ≤ r.top
+  pub placed : AreBelow r.top r.placed
   pub not_above : r.top ≤ high
+
+read-within : (low high : ℕ) (r : Receiving) (count : ℕ) → IsWithin low high r → IsWithin low high (after_read r count)
+read-within low high r count within =
+    let front = front_after-within r.top r.base (r.given + count) r.placed within.base within.placed in
+    record { not_below = omega (arith, within.not_below, front.not_below); base = front.not_above; placed = front.below; not_above = within.not_above }
 
 answer-within : (low high : ℕ) (r : Receiving) (answer : Result (List ℕ) Refusal) → IsWithin low high r
     → IsWithin low high (after_receive_answer r answer)
-answer-within low high r (Ok bytes) within = record { not_below = within.not_below; not_above = within.not_above }
+answer-within low high r (Ok bytes) within = read-within low high r _ within
 answer-within low high r (Err why) within = within
 
-receive-within : (low high : ℕ) (r : Receiving) (room : ℕ) → IsWithin low high r → IsWithin low high (after_receive r room)
-unfolding after_receive
-receive-within low high r room within = answer-within low high r (receive_answer r room) within
+block-within : (low high : ℕ) (r : Receiving) (block : PlacedBlock) → block.offset < high → IsWithin low high r
+    → IsWithin low high (with_placed r block)
+block-within low high r block below within =
+    let top = (with_placed r block).top in
+    record {
+      not_below = within.not_below;
+      base = omega (arith, within.base);
+      placed = AllPlaced-with_block (λ offset bytes. offset < top) block r.placed (omega arith)
+          (AreBelow-higher r.top top r.placed (omega arith) within.placed);
+      not_above = omega (arith, within.not_above, below);
+    }
 
 placing-within : (low high : ℕ) (r : Receiving) (number : ℕ) (flags : Flags) (bytes : List ℕ) (p : Placing) → placing r number ≡ p
     → ((offset : ℕ) → near r.isn r.top number ≡ Some offset → offset < high) → IsWithin low high r
     → IsWithin low high (after_placing r flags bytes p)
 placing-within low high r number flags bytes (AtOffset offset) is below within =
-    let less = below offset (placing-free r number offset is).is_near in
-    record { not_below = omega (arith, within.not_below); not_above = omega (arith, within.not_above, less) }
+    block-within low high r (record { offset = offset; flags = flags; bytes = bytes }) (below offset (placing-free r number offset is).is_near) within
 placing-within low high r number flags bytes IsDouble is below within = within
 placing-within low high r number flags bytes IsBelow is below within = within
 placing-within low high r number flags bytes IsAbove is below within = within
 
-arrival-within : (low high : ℕ) (r : Receiving) (number : ℕ) (flags : Flags) (bytes : List ℕ)
-    → ((offset : ℕ) → near r.isn r.top number ≡ Some offset → offset < high) → IsWithin low high r
-    → IsWithin low high (after_arrival r number flags bytes)
-unfolding after_arrival
-arrival-within low high r number flags bytes below within = placing-within low high r number flags bytes (placing r number) refl below within
+tell-within : (low high : ℕ) (r : Receiving) (now : ℕ) (t : Telling) → IsWithin low high r → IsWithin low high (after_telling r now t)
+tell-within low high r now IsEarly within = within
+tell-within low high r now IsKnown within =
+    record { not_below = within.not_below; base = within.base; placed = within.placed; not_above = within.not_above }
+tell-within low high r now (Tells ack) within =
+    record { not_below = within.not_below; base = within.base; placed = within.placed; not_above = within.not_above }
 
-packed-within : (low high : ℕ) (s : State) (p : Packing) → IsWithin low high s.receiving → IsWithin low high (packed_as s p).after.receiving
-packed-within low high s (Waits until) within = within
-packed-within low high s (Sends block) within = within
-packed-within low high s Idles within = within
-
-on_block-within : (low high : ℕ) (s : State) (number : ℕ) (flags : Flags) (bytes : List ℕ)
-    → ((offset : ℕ) → near s.receiving.isn s.receiving.top number ≡ Some offset → offset < high) → IsWithin low high s.receiving
-    → IsWithin low high (on_block s number flags bytes).after.receiving
-on_block-within low high s number flags bytes below within =
-    elim (has_bad_length s.receiving bytes) as (λ bad. IsWithin low high (
-    if bad
-    then answered (record s { counters = count_stale s.counters }) (DidHear heard.BadLength)
-    else answered
-    (record s {
-      receiving = after_arrival s.receiving number flags bytes;
-      counters = count_placing s.counters (placing s.receiving number);
-    })
-    (DidHear (heard_of (placing s.receiving number)))).after.receiving) [
-      | true ↦ within
-      | false ↦ arrival-within low high s.receiving number flags bytes below within
-    ]
-
-on_read-within : (low high : ℕ) (s : State) (from : Addr) (bytes : List ℕ) (result : Result Packet Malformed) → read bytes ≡ result
-    → MeetsAct (λ offset payload. offset < high) s (Arrive from bytes) → IsWithin low high s.receiving
-    → IsWithin low high (on_read s from result).after.receiving
-on_read-within low high s from bytes (Err why) reads below within = within
-on_read-within low high s from bytes (Ok (Block number flags stamp dest payload)) reads below within =
-    elim (same_addr from s.peer.addr && (dest == s.own)) as (λ own. (same_addr from s.peer.addr && (dest == s.own)) ≡ own
-    → IsWithin low high (
-    if own
-    then on_block s number flags payload
-    else answered (record s { counters = count_foreign s.counters }) (DidHear heard.Foreign)).after.receiving) [
-      | true ↦ λ test.
-          let parts = and_parts (same_addr from s.peer.addr) (dest == s.own) test in
-          let sender = same_addr-is from s.peer.addr parts.0 in
-          let own = eqb-true dest s.own parts.1 in
-          let told = subst (λ (id : ℕ). read bytes ≡ Ok (Block number flags stamp id payload)) own reads in
-          on_block-within low high s number flags payload (λ offset is_near. below number flags stamp payload offset sender told is_near) within
-      | false ↦ λ test. within
-    ] refl
-
-act-within : (low high : ℕ) (s : State) (act : Act) → MeetsAct (λ offset payload. offset < high) s act → IsWithin low high s.receiving
-    → IsWithin low high (on_act s act).after.receiving
-act-within low high s (Send bytes) below within = within
-act-within low high s (Recv room) below within = receive-within low high s.receiving room within
-act-within low high s Pack below within = packed-within low high s (packing s.sending s.last) within
-act-within low high s (Arrive from bytes) below within = on_read-within low high s from bytes (read bytes) refl below within
+-- what an act that meets this brings, meets it
+brings-below : (high : ℕ) (s : State) (act : Act) (from : Addr) (raw : List ℕ) (number : ℕ) (flags : Flags) (stamp : ℕ) (bytes : List ℕ)
+    → MeetsAct (λ offset payload. offset < high) s act → act ≡ Arrive from raw → from ≡ s.peer.addr
+    → read raw ≡ Ok (Block number flags stamp s.own bytes) → (offset : ℕ) → near s.receiving.isn s.receiving.top number ≡ Some offset
+    → offset < high
+brings-below high s act from raw number flags stamp bytes below is sender reads offset is_near =
+    let meets = subst (MeetsAct (λ offset payload. offset < high) s) is below in
+    meets number flags stamp bytes offset sender reads is_near
 
 pub step-within : (low high : ℕ) (s : State) (event : Event) → MeetsAct (λ offset payload. offset < high) s event.act
     → IsWithin low high s.receiving → IsWithin low high (step s event).after.receiving
-unfolding step
-step-within low high s event below within =
-    act-within low high (at_moment s event.now) event.act (meets-at_moment (λ offset payload. offset < high) s event.now event.act below) within
+unfolding after_receive after_arrival after_tell receiving_closed
+step-within low high s event below within = receiving-shows s event (IsWithin low high) (record {
+  stays = within;
+  reads = λ room. answer-within low high s.receiving (receive_answer s.receiving room) within;
+  brings = λ from raw number flags stamp bytes is sender reads. placing-within low high s.receiving number flags bytes (placing s.receiving number) refl
+      (brings-below high s event.act from raw number flags stamp bytes below is sender reads) within;
+  tells = λ now. tell-within low high s.receiving now (telling s.receiving now round_trip.rtt) within;
+  closes = record { not_below = within.not_below; base = within.base; placed = tt; not_above = within.not_above };
+})

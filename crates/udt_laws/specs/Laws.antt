@@ -1,15 +1,17 @@
 -- The main theorems, as statements about histories and records.
-use Rattle.std.specs.Prelude.{◌≡◌, ℕ, ◌+◌, ◌-◌, ◌%◌, ◌^◌, ◌<◌, ◌≤◌, List, [], ◌∷◌, drop, length, map, Some, Ok, slice_get, false}
+use Rattle.std.specs.Prelude.{◌≡◌, ℕ, ◌+◌, ◌-◌, ◌%◌, ◌^◌, ◌<◌, ◌≤◌, List, [], ◌∷◌, drop, length, map, Some, Ok, slice_get, true, false, ◌||◌}
 use Rattle.std.specs.List.{Contains, concat}
 use Rattle.udt_model.specs.declared.packets.Flags.{Flags}
 use Rattle.udt_model.specs.declared.packets.Kind.TheVariants.{Stream}
 use Rattle.udt_model.specs.declared.addresses.Addr.{Addr}
 use Rattle.udt_model.specs.Numbers.{wire_number}
-use Rattle.udt_model.specs.Wire.{Packet, Block, read, target}
+use Rattle.udt_model.specs.Wire.{Packet, Block, is_handshake, destination, read, target}
 use Rattle.udt_model.specs.State.{KeptBlock, Datagram}
-use Rattle.udt_model.specs.History.{History, IsLegal, state_of, start_of, accepted, delivered}
+use Rattle.udt_model.specs.History.{History, IsLegal, state_of, start_of, accepted, delivered, acked, arrived}
+use Rattle.udt_model.specs.Step.{is_connected, is_broken}
+use Rattle.udt_model.specs.Lines.{AreEmitted}
 use Rattle.udt_model.specs.Script.{Seat, network_after}
-use Rattle.udt_model.specs.Records.{IsPrefix, Emission, emitted, sent, arrivals, IsMadeOf, Enrolled, IsSocket, EndpointRecord, StandsAt, PeerPair, own_peer, ArePaired, is_handshake, destination, AreLawful, IsHonest}
+use Rattle.udt_model.specs.Records.{IsPrefix, Emission, emitted, sent, arrivals, IsMadeOf, Enrolled, IsSocket, EndpointRecord, StandsAt, PeerPair, own_peer, ArePaired, AreLawful, IsHonest}
 
 -- the socket carries a stream of bytes
 abbrev pub IsStream : History → Type 0
@@ -38,12 +40,12 @@ pub record CarriesBlock (h : History) (blocks : List (List ℕ)) (emission : Emi
   pub destined : dest ≡ (state_of h).peer.id
 
 -- the blocks of a history, the first at the offset at which it begins: joined they are what was accepted, the kept
--- ones are the last of them, and data packets carry no others
+-- ones are the last of them as long as the socket isn't closing or closed, and data packets carry no others
 pub record HasBlocks (h : History) : Type 0 where
   pub blocks : List (List ℕ)
   pub joined : concat blocks ≡ accepted h
-  pub kept : map (λ (block : KeptBlock). block.bytes) (state_of h).sending.kept
-      ≡ drop ((state_of h).sending.acked - start_of h) blocks
+  pub kept : (is_connected (state_of h).phase || is_broken (state_of h).phase) ≡ true
+      → map (λ (block : KeptBlock). block.bytes) (state_of h).sending.kept ≡ drop ((state_of h).sending.acked - start_of h) blocks
   pub emits : (emission : Emission) (number : ℕ) (flags : Flags) (stamp dest : ℕ) (payload : List ℕ)
       → Contains (emitted h) emission → read emission.datagram.bytes ≡ Ok (Block number flags stamp dest payload)
       → CarriesBlock h blocks emission number dest payload
@@ -63,13 +65,19 @@ Addressed =
     → read emission.datagram.bytes ≡ Ok packet → is_handshake packet ≡ false
     → own_peer socket.history ≡ Some (record { addr = emission.datagram.addr; id = destination packet })
 
--- Prefix: where records are lawful and honest, what a stream socket delivered is a prefix of what its own peer accepted
+-- what is promised of a socket's history and that of its own peer: what the one delivered is a prefix of what the other
+-- accepted, and no more blocks of the one are acknowledged than have arrived at the other
+pub record AreInStep (own other : History) : Type 0 where
+  pub prefix : IsPrefix (delivered own) (accepted other)
+  pub acknowledged : acked own ≤ arrived other
+
+-- Prefix: where records are lawful and honest, this holds of each stream socket and its own peer
 abbrev pub Prefix : Type 0
 Prefix =
-    (net : List EndpointRecord) (addr : Addr) (receiver sender : Enrolled) (peer : PeerPair) → AreLawful net → IsHonest net
-    → StandsAt net addr receiver → IsStream receiver.history → own_peer receiver.history ≡ Some peer
-    → StandsAt net peer.addr sender → sender.own ≡ peer.id
-    → IsPrefix (delivered receiver.history) (accepted sender.history)
+    (net : List EndpointRecord) (addr : Addr) (socket other : Enrolled) (peer : PeerPair) → AreLawful net → IsHonest net
+    → StandsAt net addr socket → IsStream socket.history → own_peer socket.history ≡ Some peer
+    → StandsAt net peer.addr other → other.own ≡ peer.id
+    → AreInStep socket.history other.history
 
 -- a datagram has the bytes of one that the socket emitted
 abbrev pub WasSentBy : Enrolled → Datagram → Type 0
@@ -82,14 +90,22 @@ ComesFrom receiver from sender =
     → target datagram.bytes ≡ Some receiver.own
     → WasSentBy sender datagram
 
--- Pair prefix: the same for two sockets that were made as a pair, where the one emitted fewer than 2^30 datagrams and
--- the other got no others from there
+-- Pair prefix: its first half for two sockets that were made as a pair, where the one emitted fewer than 2^30 datagrams
+-- and the other got no others from there
 abbrev pub PairPrefix : Type 0
 PairPrefix =
     (addr peer_addr : Addr) (receiver sender : Enrolled) → IsSocket receiver → IsSocket sender
     → ArePaired addr receiver.own receiver.way peer_addr sender.own sender.way → IsStream receiver.history
     → ComesFrom receiver peer_addr sender → length (sent sender.history) < 2 ^ 30
     → IsPrefix (delivered receiver.history) (accepted sender.history)
+
+-- Pair arrived: its second half for two such sockets, where the one emitted fewer than 2^30 datagrams itself
+abbrev pub PairArrived : Type 0
+PairArrived =
+    (addr peer_addr : Addr) (socket other : Enrolled) → IsSocket socket → IsSocket other
+    → ArePaired addr socket.own socket.way peer_addr other.own other.way → IsStream socket.history
+    → ComesFrom socket peer_addr other → length (sent socket.history) < 2 ^ 30
+    → acked socket.history ≤ arrived other.history
 
 -- each datagram that came at all came from this address, and has the bytes of one that the sender emitted
 abbrev pub AllComesFrom : Enrolled → Addr → Enrolled → Type 0
@@ -110,11 +126,11 @@ PairHonest =
     → length (sent socket.history) < 2 ^ 30 → length (sent other.history) < 2 ^ 30
     → AreLawful (both_records addr socket other_addr other) × IsHonest (both_records addr socket other_addr other)
 
--- Script prefix: whatever the lines of a script deliver, lose, repeat and reorder, what a socket of it delivered is a
--- prefix of what its own peer accepted
+-- Script prefix: whatever the lines of a script deliver, lose, repeat and reorder, the same holds of each socket of it and
+-- its own peer, where no line brings bytes of its own
 abbrev pub ScriptPrefix : Type 0
 ScriptPrefix =
-    (lines : List (List ℕ)) (place peer_place : ℕ) (seat peer : Seat) → length lines < 2 ^ 30
+    (lines : List (List ℕ)) (place peer_place : ℕ) (seat peer : Seat) → length lines < 2 ^ 30 → AreEmitted lines
     → slice_get (network_after lines).seats place ≡ Some seat → slice_get (network_after lines).seats peer_place ≡ Some peer
     → own_peer seat.history ≡ Some (record { addr = peer.host; id = peer_place + 1 })
-    → IsPrefix (delivered seat.history) (accepted peer.history)
+    → AreInStep seat.history peer.history

@@ -2,7 +2,7 @@
 #![tactic(auto)]
 
 ghost use Rattle.udt_laws.specs.Laws.{OneHistory, EmittedBlocks, AllNamed, Addressed};
-ghost use Rattle.udt_laws.specs.Laws.{Prefix, PairPrefix, PairHonest, ScriptPrefix};
+ghost use Rattle.udt_laws.specs.Laws.{Prefix, PairPrefix, PairArrived, PairHonest, ScriptPrefix};
 
 /// Whatever arrives, a stream socket delivers a front of the payloads that came from its peer's
 /// address, each under the wire number of its place.
@@ -27,15 +27,22 @@ pub fn addressed()
 {}
 
 /// Where no datagram is forged and none outlives 2^30 packets, what a stream socket delivers is a
-/// prefix of what its own peer accepted.
+/// prefix of what its own peer accepted, and no more of its blocks are acknowledged than have
+/// arrived there.
 pub fn prefix()
     ensures { Prefix }
 {}
 
-/// The same for two sockets that were made as a pair, of which the sender emitted fewer than 2^30
+/// The first for two sockets that were made as a pair, of which the sender emitted fewer than 2^30
 /// datagrams.
 pub fn pair_prefix()
     ensures { PairPrefix }
+{}
+
+/// The second for two such sockets, of which the one whose blocks are acknowledged emitted fewer
+/// than 2^30 datagrams.
+pub fn pair_arrived()
+    ensures { PairArrived }
 {}
 
 /// The records of two sockets that were made as a pair are lawful and honest, where each got from
@@ -44,8 +51,8 @@ pub fn pair_honest()
     ensures { PairHonest }
 {}
 
-/// Whatever the lines of a script deliver, what a socket of it delivers is a prefix of what its own
-/// peer accepted.
+/// Whatever the lines of a script deliver, both hold of each socket of it and its own peer, where no
+/// line brings bytes of its own.
 pub fn script_prefix()
     ensures { ScriptPrefix }
 {}

@@ -1,16 +1,19 @@
 -- What joined histories emit and what arrives in them.
-use Rattle.std.proofs.Common.{◌≡◌, List, [], ◌∷◌, ◌++◌, length, refl, ap, ◌∙◌, sym, subst, inl, inr, arith}
+use Rattle.std.proofs.Common.{◌≡◌, ℕ, List, [], ◌∷◌, ◌++◌, length, refl, ap, ◌∙◌, sym, subst, inl, inr, arith}
 use Rattle.std.specs.Prelude.{map}
 use Rattle.std.specs.List.{Contains}
 use Rattle.std.proofs.lemmas.List.{append_assoc, map-append, length-map}
 use Rattle.std.proofs.lemmas.List.Elements.{Contains-append_left, Contains-append_right, Contains-append_cases, Contains-push_cases, Contains-push}
 use Rattle.udt_model.specs.State.{State, Datagram}
-use Rattle.udt_model.specs.Sending.{Packing, Waits, Sends, Idles, packing}
-use Rattle.udt_model.specs.Step.{Act, Send, Recv, Pack, Arrive, Event, at_moment, packed_as, on_act, step}
+use Rattle.udt_model.specs.declared.answers.Phase.{Phase}
+use Rattle.udt_model.specs.declared.answers.Phase.TheVariants as phase
+use Rattle.udt_model.specs.Sending.{Packing, Waits, SendsAgain, Sends, Idles, packing}
+use Rattle.udt_model.specs.Receiving.{Telling, IsEarly, IsKnown, Tells, telling}
+use Rattle.udt_model.specs.Step.{Act, Send, Recv, Pack, Tick, Close, Arrive, Event, Silence, IsShort, Breaks, Resends, Signs, silence, round_trip, told, signed, at_moment, send_in, recv_in, packed_as, pack_in, tick_in, on_act, step}
 use Rattle.udt_model.specs.Wire.{read}
 use Rattle.udt_model.specs.History.{Item, after_items, AreLegal}
-use Rattle.udt_model.proofs.StepLemmas.{on_read-quiet}
-use Rattle.udt_model.specs.Records.{Emission, named_by_packing, named_by_act, named, with_offsets, emitted_by, sent_by, arrived_by_act, arrived_by}
+use Rattle.udt_model.proofs.ArrivalLemmas.{on_read-outs}
+use Rattle.udt_model.specs.Records.{Emission, named_by_packing, named_by_pack, named_by_telling, named_by_silence, named_by_tick, named_by_act, named, with_offsets, emitted_by, sent_by, arrived_by_act, arrived_by}
 
 pub emitted_by-append : (s : State) (items more : List Item)
     → emitted_by s (items ++ more) ≡ emitted_by s items ++ emitted_by (after_items s items) more
@@ -41,20 +44,59 @@ arrived_by-append (item ∷ items) more =
 abbrev pub datagram_of : Emission → Datagram
 datagram_of emission = emission.datagram
 
-packed-named : (s : State) (p : Packing) → map datagram_of (with_offsets (packed_as s p).outs (named_by_packing s p)) ≡ (packed_as s p).outs
-packed-named s (Waits until) = refl
-packed-named s (Sends block) = refl
-packed-named s Idles = refl
-
 none-named : (outs : List Datagram) → outs ≡ [] → map datagram_of (with_offsets outs []) ≡ outs
 none-named [] none = refl
 none-named (first ∷ others) none = absurd (cc)
 
+send-named : (s : State) (bytes : List ℕ) (phase : Phase) → map datagram_of (with_offsets (send_in s bytes phase).outs []) ≡ (send_in s bytes phase).outs
+send-named s bytes phase.Connected = refl
+send-named s bytes (phase.Broken why) = refl
+send-named s bytes phase.Closing = refl
+send-named s bytes phase.Closed = refl
+
+recv-named : (s : State) (room : ℕ) (phase : Phase) → map datagram_of (with_offsets (recv_in s room phase).outs []) ≡ (recv_in s room phase).outs
+recv-named s room phase.Connected = refl
+recv-named s room (phase.Broken why) = refl
+recv-named s room phase.Closing = refl
+recv-named s room phase.Closed = refl
+
+packed-named : (s : State) (p : Packing) → map datagram_of (with_offsets (packed_as s p).outs (named_by_packing s p)) ≡ (packed_as s p).outs
+packed-named s (Waits until) = refl
+packed-named s (SendsAgain offset block) = refl
+packed-named s (Sends block) = refl
+packed-named s Idles = refl
+
+pack-named : (s : State) (phase : Phase) → map datagram_of (with_offsets (pack_in s phase).outs (named_by_pack s phase)) ≡ (pack_in s phase).outs
+pack-named s phase.Connected = packed-named s (packing s.sending s.last)
+pack-named s (phase.Broken why) = refl
+pack-named s phase.Closing = refl
+pack-named s phase.Closed = refl
+
+signed-named : (s : State) (silence : Silence) → map datagram_of (with_offsets (signed s silence) (named_by_silence silence)) ≡ signed s silence
+signed-named s IsShort = refl
+signed-named s Breaks = refl
+signed-named s Resends = refl
+signed-named s Signs = refl
+
+told-named : (s : State) (t : Telling) (silence : Silence)
+    → map datagram_of (with_offsets (told s t ++ signed s silence) (named_by_telling t ++ named_by_silence silence)) ≡ told s t ++ signed s silence
+told-named s IsEarly silence = signed-named s silence
+told-named s IsKnown silence = signed-named s silence
+told-named s (Tells ack) silence = ap (λ (rest : List Datagram). told s (Tells ack) ++ rest) (signed-named s silence)
+
+tick-named : (s : State) (phase : Phase) → map datagram_of (with_offsets (tick_in s phase).outs (named_by_tick s phase)) ≡ (tick_in s phase).outs
+tick-named s phase.Connected = told-named s (telling s.receiving s.last round_trip.rtt) (silence s)
+tick-named s (phase.Broken why) = refl
+tick-named s phase.Closing = refl
+tick-named s phase.Closed = refl
+
 act-named : (s : State) (act : Act) → map datagram_of (with_offsets (on_act s act).outs (named_by_act s act)) ≡ (on_act s act).outs
-act-named s (Send bytes) = refl
-act-named s (Recv room) = refl
-act-named s Pack = packed-named s (packing s.sending s.last)
-act-named s (Arrive from bytes) = none-named _ (on_read-quiet s from (read bytes)).outs
+act-named s (Send bytes) = send-named s bytes s.phase
+act-named s (Recv room) = recv-named s room s.phase
+act-named s Pack = pack-named s s.phase
+act-named s Tick = tick-named s s.phase
+act-named s Close = refl
+act-named s (Arrive from bytes) = none-named _ (on_read-outs s from (read bytes))
 
 step-named : (s : State) (event : Event) → map datagram_of (with_offsets (step s event).outs (named s event)) ≡ (step s event).outs
 unfolding step named

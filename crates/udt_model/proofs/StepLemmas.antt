@@ -1,69 +1,17 @@
--- What events of a socket don't change: who it is, who its peer is, and the initial numbers; and, where something
--- arrives, the sending half.
-use Rattle.std.proofs.Common.{◌≡◌, ℕ, zero, suc, true, false, List, [], ◌∷◌, Ok, Err, refl, ◌∙◌}
-use Rattle.std.specs.Prelude.{Result, ◌==◌, ◌&&◌, if◌then◌else◌, length}
+-- What events of a socket don't change: who it is, who its peer is, and the initial numbers.
+use Rattle.std.proofs.Common.{◌≡◌, ℕ, List, [], ◌∷◌, refl, ◌∙◌}
+use Rattle.std.specs.Prelude.{Result}
 use Rattle.udt_model.specs.declared.addresses.Addr.{Addr}
-use Rattle.udt_model.specs.declared.answers.Refusal.{Refusal}
-use Rattle.udt_model.specs.declared.answers.Heard.TheVariants as heard
-use Rattle.udt_model.specs.declared.packets.Flags.{Flags}
+use Rattle.udt_model.specs.declared.answers.Phase.{Phase}
+use Rattle.udt_model.specs.declared.answers.Phase.TheVariants as phase
 use Rattle.udt_model.specs.declared.packets.Malformed.{Malformed}
-use Rattle.udt_model.specs.Addresses.{same_addr}
-use Rattle.udt_model.specs.Wire.{Packet, Block, read}
+use Rattle.udt_model.specs.Wire.{Packet, read}
 use Rattle.udt_model.specs.State.{Sending, Receiving, State}
-use Rattle.udt_model.specs.Sending.{send_answer, after_answer, after_send, Packing, Waits, Sends, Idles, packing, after_packing, after_pack}
-use Rattle.udt_model.specs.Receiving.{Placing, AtOffset, IsDouble, IsBelow, IsAbove, placing, after_placing, after_arrival, receive_answer, after_receive_answer, after_receive}
-use Rattle.udt_model.specs.Step.{Act, Send, Recv, Pack, Arrive, Event, Outcome, answered, DidHear, count_stale, count_placing, heard_of, count_foreign, has_bad_length, at_moment, packed_as, on_block, on_read, on_act, step}
+use Rattle.udt_model.specs.Sending.{Packing, Waits, SendsAgain, Sends, Idles, packing}
+use Rattle.udt_model.specs.Step.{Act, Send, Recv, Pack, Tick, Close, Arrive, Event, Silence, IsShort, Breaks, Resends, Signs, silence, round_trip, after_silence, after_told, send_in, recv_in, pack_in, tick_in, on_close, at_moment, packed_as, on_read, on_act, step}
 use Rattle.udt_model.specs.History.{Item, after_items}
-
--- ---- the halves
-
-pub record KeepsSending (s t : Sending) : Type 0 where
-  pub isn : t.isn ≡ s.isn
-  pub payload : t.payload ≡ s.payload
-  pub blocks : t.blocks ≡ s.blocks
-
-pub record KeepsReceiving (s t : Receiving) : Type 0 where
-  pub isn : t.isn ≡ s.isn
-  pub payload : t.payload ≡ s.payload
-  pub blocks : t.blocks ≡ s.blocks
-
-answer-keeps : (s : Sending) (bytes : List ℕ) (answer : Result ℕ Refusal) → KeepsSending s (after_answer s bytes answer)
-answer-keeps s bytes (Ok zero) = record { isn = refl; payload = refl; blocks = refl }
-answer-keeps s bytes (Ok (suc n)) = record { isn = refl; payload = refl; blocks = refl }
-answer-keeps s bytes (Err why) = record { isn = refl; payload = refl; blocks = refl }
-
-pub after_send-keeps : (s : Sending) (bytes : List ℕ) → KeepsSending s (after_send s bytes)
-unfolding after_send
-after_send-keeps s bytes = answer-keeps s bytes (send_answer s (length bytes))
-
-packing-keeps : (s : Sending) (now : ℕ) (p : Packing) → KeepsSending s (after_packing s now p)
-packing-keeps s now (Waits until) = record { isn = refl; payload = refl; blocks = refl }
-packing-keeps s now (Sends block) = record { isn = refl; payload = refl; blocks = refl }
-packing-keeps s now Idles = record { isn = refl; payload = refl; blocks = refl }
-
-pub after_pack-keeps : (s : Sending) (now : ℕ) → KeepsSending s (after_pack s now)
-unfolding after_pack
-after_pack-keeps s now = packing-keeps s now (packing s now)
-
-reading-keeps : (r : Receiving) (answer : Result (List ℕ) Refusal) → KeepsReceiving r (after_receive_answer r answer)
-reading-keeps r (Ok bytes) = record { isn = refl; payload = refl; blocks = refl }
-reading-keeps r (Err why) = record { isn = refl; payload = refl; blocks = refl }
-
-pub after_receive-keeps : (r : Receiving) (room : ℕ) → KeepsReceiving r (after_receive r room)
-unfolding after_receive
-after_receive-keeps r room = reading-keeps r (receive_answer r room)
-
-placing-keeps : (r : Receiving) (flags : Flags) (bytes : List ℕ) (p : Placing) → KeepsReceiving r (after_placing r flags bytes p)
-placing-keeps r flags bytes (AtOffset offset) = record { isn = refl; payload = refl; blocks = refl }
-placing-keeps r flags bytes IsDouble = record { isn = refl; payload = refl; blocks = refl }
-placing-keeps r flags bytes IsBelow = record { isn = refl; payload = refl; blocks = refl }
-placing-keeps r flags bytes IsAbove = record { isn = refl; payload = refl; blocks = refl }
-
-pub after_arrival-keeps : (r : Receiving) (number : ℕ) (flags : Flags) (bytes : List ℕ) → KeepsReceiving r (after_arrival r number flags bytes)
-unfolding after_arrival
-after_arrival-keeps r number flags bytes = placing-keeps r flags bytes (placing r number)
-
--- ---- the socket
+use Rattle.udt_model.proofs.HalfLemmas.{KeepsSending, KeepsReceiving, same_sending, same_receiving, sending_on, receiving_on, after_send-keeps, after_pack-keeps, after_ack-keeps, after_timeout-keeps, sending_closed-keeps, after_receive-keeps, after_arrival-keeps, after_tell-keeps, receiving_closed-keeps}
+use Rattle.udt_model.proofs.ArrivalLemmas.{arrival-shows}
 
 pub record KeepsIdentity (s t : State) : Type 0 where
   pub own : t.own ≡ s.own
@@ -73,80 +21,101 @@ pub record KeepsIdentity (s t : State) : Type 0 where
   pub sending : KeepsSending s.sending t.sending
   pub receiving : KeepsReceiving s.receiving t.receiving
 
-same_sending : (s : Sending) → KeepsSending s s
-same_sending s = record { isn = refl; payload = refl; blocks = refl }
-
-same_receiving : (r : Receiving) → KeepsReceiving r r
-same_receiving r = record { isn = refl; payload = refl; blocks = refl }
-
 pub same_identity : (s : State) → KeepsIdentity s s
 same_identity s =
     record { own = refl; kind = refl; peer = refl; opened = refl; sending = same_sending s.sending; receiving = same_receiving s.receiving }
 
+identity_on : (s t u : State) → KeepsIdentity s t → KeepsIdentity t u → KeepsIdentity s u
+identity_on s t u first second = record {
+  own = second.own ∙ first.own;
+  kind = second.kind ∙ first.kind;
+  peer = second.peer ∙ first.peer;
+  opened = second.opened ∙ first.opened;
+  sending = sending_on s.sending t.sending u.sending first.sending second.sending;
+  receiving = receiving_on s.receiving t.receiving u.receiving first.receiving second.receiving;
+}
+
+-- the halves change, and who the socket and its peer are doesn't
+halves-keep : (s : State) (sending : Sending) (receiving : Receiving) → KeepsSending s.sending sending → KeepsReceiving s.receiving receiving
+    → KeepsIdentity s (record s { sending = sending; receiving = receiving })
+halves-keep s sending receiving sends receives =
+    record { own = refl; kind = refl; peer = refl; opened = refl; sending = sends; receiving = receives }
+
+-- nor do other fields tell who it is
+others-keep : (s t u : State) → KeepsIdentity s t → u.own ≡ t.own → u.kind ≡ t.kind → u.peer ≡ t.peer → u.opened ≡ t.opened → u.sending ≡ t.sending
+    → u.receiving ≡ t.receiving → KeepsIdentity s u
+others-keep s t u kept own kind peer opened sending receiving = record {
+  own = own ∙ kept.own;
+  kind = kind ∙ kept.kind;
+  peer = peer ∙ kept.peer;
+  opened = opened ∙ kept.opened;
+  sending = rw sending kept.sending;
+  receiving = rw receiving kept.receiving;
+}
+
+send-keeps : (s : State) (bytes : List ℕ) (phase : Phase) → KeepsIdentity s (send_in s bytes phase).after
+send-keeps s bytes phase.Connected = halves-keep s _ s.receiving (after_send-keeps s.sending bytes) (same_receiving s.receiving)
+send-keeps s bytes (phase.Broken why) = same_identity s
+send-keeps s bytes phase.Closing = same_identity s
+send-keeps s bytes phase.Closed = same_identity s
+
+recv-keeps : (s : State) (room : ℕ) (phase : Phase) → KeepsIdentity s (recv_in s room phase).after
+recv-keeps s room phase.Connected = halves-keep s s.sending _ (same_sending s.sending) (after_receive-keeps s.receiving room)
+recv-keeps s room (phase.Broken why) = halves-keep s s.sending _ (same_sending s.sending) (after_receive-keeps s.receiving room)
+recv-keeps s room phase.Closing = same_identity s
+recv-keeps s room phase.Closed = same_identity s
+
 packed-keeps : (s : State) (p : Packing) → KeepsIdentity s (packed_as s p).after
 packed-keeps s (Waits until) = same_identity s
-packed-keeps s (Sends block) = record {
-  own = refl;
-  kind = refl;
-  peer = refl;
-  opened = refl;
-  sending = after_pack-keeps s.sending s.last;
-  receiving = same_receiving s.receiving;
-}
+packed-keeps s (SendsAgain offset block) =
+    others-keep s _ _ (halves-keep s _ s.receiving (after_pack-keeps s.sending s.last) (same_receiving s.receiving)) refl refl refl refl refl refl
+packed-keeps s (Sends block) =
+    others-keep s _ _ (halves-keep s _ s.receiving (after_pack-keeps s.sending s.last) (same_receiving s.receiving)) refl refl refl refl refl refl
 packed-keeps s Idles = same_identity s
 
-on_block-keeps : (s : State) (number : ℕ) (flags : Flags) (bytes : List ℕ) → KeepsIdentity s (on_block s number flags bytes).after
-on_block-keeps s number flags bytes =
-    elim (has_bad_length s.receiving bytes) as (λ bad. KeepsIdentity s (
-    if bad
-    then answered (record s { counters = count_stale s.counters }) (DidHear heard.BadLength)
-    else answered
-    (record s {
-      receiving = after_arrival s.receiving number flags bytes;
-      counters = count_placing s.counters (placing s.receiving number);
-    })
-    (DidHear (heard_of (placing s.receiving number)))).after) [
-      | true ↦ record { own = refl; kind = refl; peer = refl; opened = refl; sending = same_sending s.sending; receiving = same_receiving s.receiving }
-      | false ↦ record {
-        own = refl;
-        kind = refl;
-        peer = refl;
-        opened = refl;
-        sending = same_sending s.sending;
-        receiving = after_arrival-keeps s.receiving number flags bytes;
-      }
-    ]
+pack-keeps : (s : State) (phase : Phase) → KeepsIdentity s (pack_in s phase).after
+pack-keeps s phase.Connected = packed-keeps s (packing s.sending s.last)
+pack-keeps s (phase.Broken why) = same_identity s
+pack-keeps s phase.Closing = same_identity s
+pack-keeps s phase.Closed = same_identity s
+
+told-keeps : (s : State) → KeepsIdentity s (after_told s)
+told-keeps s = halves-keep s s.sending _ (same_sending s.sending) (after_tell-keeps s.receiving s.last round_trip.rtt)
+
+silence-keeps : (s : State) (silence : Silence) → KeepsIdentity s (after_silence s silence)
+silence-keeps s IsShort = same_identity s
+silence-keeps s Breaks = others-keep s s _ (same_identity s) refl refl refl refl refl refl
+silence-keeps s Resends =
+    others-keep s _ _ (halves-keep s _ s.receiving (after_timeout-keeps s.sending) (same_receiving s.receiving)) refl refl refl refl refl refl
+silence-keeps s Signs = others-keep s s _ (same_identity s) refl refl refl refl refl refl
+
+tick-keeps : (s : State) (phase : Phase) → KeepsIdentity s (tick_in s phase).after
+tick-keeps s phase.Connected = identity_on s (after_told s) _ (told-keeps s) (silence-keeps (after_told s) (silence s))
+tick-keeps s (phase.Broken why) = same_identity s
+tick-keeps s phase.Closing = others-keep s s _ (same_identity s) refl refl refl refl refl refl
+tick-keeps s phase.Closed = same_identity s
+
+close-keeps : (s : State) → KeepsIdentity s (on_close s).after
+close-keeps s =
+    others-keep s _ _ (halves-keep s _ _ (sending_closed-keeps s.sending) (receiving_closed-keeps s.receiving)) refl refl refl refl refl refl
 
 on_read-keeps : (s : State) (from : Addr) (result : Result Packet Malformed) → KeepsIdentity s (on_read s from result).after
-on_read-keeps s from (Err why) =
-    record { own = refl; kind = refl; peer = refl; opened = refl; sending = same_sending s.sending; receiving = same_receiving s.receiving }
-on_read-keeps s from (Ok (Block number flags stamp dest bytes)) =
-    elim (same_addr from s.peer.addr && (dest == s.own)) as (λ own. KeepsIdentity s (
-    if own
-    then on_block s number flags bytes
-    else answered (record s { counters = count_foreign s.counters }) (DidHear heard.Foreign)).after) [
-      | true ↦ on_block-keeps s number flags bytes
-      | false ↦ record { own = refl; kind = refl; peer = refl; opened = refl; sending = same_sending s.sending; receiving = same_receiving s.receiving }
-    ]
+on_read-keeps s from result = arrival-shows s from (λ outcome. KeepsIdentity s outcome.after) result (record {
+  passed = λ counters answer differs. others-keep s s _ (same_identity s) refl refl refl refl refl refl;
+  noticed = λ counters answer differs connected. others-keep s s _ (same_identity s) refl refl refl refl refl refl;
+  brought = λ number flags stamp bytes connected sender is.
+      others-keep s _ _ (halves-keep s s.sending _ (same_sending s.sending) (after_arrival-keeps s.receiving number flags bytes)) refl refl refl refl refl refl;
+  acknowledged = λ number stamp body offset connected sender is acks.
+      others-keep s _ _ (halves-keep s _ s.receiving (after_ack-keeps s.sending body) (same_receiving s.receiving)) refl refl refl refl refl refl;
+  ended = λ connected. others-keep s s _ (same_identity s) refl refl refl refl refl refl;
+})
 
 on_act-keeps : (s : State) (act : Act) → KeepsIdentity s (on_act s act).after
-on_act-keeps s (Send bytes) = record {
-  own = refl;
-  kind = refl;
-  peer = refl;
-  opened = refl;
-  sending = after_send-keeps s.sending bytes;
-  receiving = same_receiving s.receiving;
-}
-on_act-keeps s (Recv room) = record {
-  own = refl;
-  kind = refl;
-  peer = refl;
-  opened = refl;
-  sending = same_sending s.sending;
-  receiving = after_receive-keeps s.receiving room;
-}
-on_act-keeps s Pack = packed-keeps s (packing s.sending s.last)
+on_act-keeps s (Send bytes) = send-keeps s bytes s.phase
+on_act-keeps s (Recv room) = recv-keeps s room s.phase
+on_act-keeps s Pack = pack-keeps s s.phase
+on_act-keeps s Tick = tick-keeps s s.phase
+on_act-keeps s Close = close-keeps s
 on_act-keeps s (Arrive from bytes) = on_read-keeps s from (read bytes)
 
 pub step-keeps : (s : State) (event : Event) → KeepsIdentity s (step s event).after
@@ -155,58 +124,9 @@ step-keeps s event =
     let kept = on_act-keeps (at_moment s event.now) event.act in
     record { own = kept.own; kind = kept.kind; peer = kept.peer; opened = kept.opened; sending = kept.sending; receiving = kept.receiving }
 
-identity_on : (s t u : State) → KeepsIdentity s t → KeepsIdentity t u → KeepsIdentity s u
-identity_on s t u first second = record {
-  own = second.own ∙ first.own;
-  kind = second.kind ∙ first.kind;
-  peer = second.peer ∙ first.peer;
-  opened = second.opened ∙ first.opened;
-  sending = record {
-    isn = second.sending.isn ∙ first.sending.isn;
-    payload = second.sending.payload ∙ first.sending.payload;
-    blocks = second.sending.blocks ∙ first.sending.blocks;
-  };
-  receiving = record {
-    isn = second.receiving.isn ∙ first.receiving.isn;
-    payload = second.receiving.payload ∙ first.receiving.payload;
-    blocks = second.receiving.blocks ∙ first.receiving.blocks;
-  };
-}
-
 -- nor do all events of a history
 pub after_items-keeps : (s : State) (items : List Item) → KeepsIdentity s (after_items s items)
 unfolding after_items
 after_items-keeps s [] = same_identity s
 after_items-keeps s (item ∷ items) =
     identity_on s (step s item.event).after _ (step-keeps s item.event) (after_items-keeps (step s item.event).after items)
-
--- an arrival leaves the sending half, and emits nothing
-pub record IsQuiet (s : State) (outcome : Outcome) : Type 0 where
-  pub sending : outcome.after.sending ≡ s.sending
-  pub outs : outcome.outs ≡ []
-
-on_block-quiet : (s : State) (number : ℕ) (flags : Flags) (bytes : List ℕ) → IsQuiet s (on_block s number flags bytes)
-on_block-quiet s number flags bytes =
-    elim (has_bad_length s.receiving bytes) as (λ bad. IsQuiet s (
-    if bad
-    then answered (record s { counters = count_stale s.counters }) (DidHear heard.BadLength)
-    else answered
-    (record s {
-      receiving = after_arrival s.receiving number flags bytes;
-      counters = count_placing s.counters (placing s.receiving number);
-    })
-    (DidHear (heard_of (placing s.receiving number))))) [
-      | true ↦ record { sending = refl; outs = refl }
-      | false ↦ record { sending = refl; outs = refl }
-    ]
-
-pub on_read-quiet : (s : State) (from : Addr) (result : Result Packet Malformed) → IsQuiet s (on_read s from result)
-on_read-quiet s from (Err why) = record { sending = refl; outs = refl }
-on_read-quiet s from (Ok (Block number flags stamp dest bytes)) =
-    elim (same_addr from s.peer.addr && (dest == s.own)) as (λ own. IsQuiet s (
-    if own
-    then on_block s number flags bytes
-    else answered (record s { counters = count_foreign s.counters }) (DidHear heard.Foreign))) [
-      | true ↦ on_block-quiet s number flags bytes
-      | false ↦ record { sending = refl; outs = refl }
-    ]

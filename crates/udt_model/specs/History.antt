@@ -1,7 +1,12 @@
 -- Histories of one socket, and what can be read off them.
-use Rattle.std.specs.Prelude.{◌≡◌, ℕ, List, [], ◌∷◌, ◌++◌, take, Ok}
+use Rattle.std.specs.Prelude.{◌≡◌, ℕ, zero, suc, ◌+◌, ◌-◌, ◌==◌, List, [], ◌∷◌, ◌++◌, length, take, Result, Ok, if◌then◌else◌}
+use Rattle.std.specs.List.{list_any}
+use Rattle.udt_model.specs.declared.answers.Heard.TheVariants as heard
+use Rattle.udt_model.specs.declared.packets.Malformed.{Malformed}
+use Rattle.udt_model.specs.Wire.{Packet, Block, read}
 use Rattle.udt_model.specs.State.{State, Datagram}
-use Rattle.udt_model.specs.Step.{Act, Send, Event, Reply, Sent, Received, step}
+use Rattle.udt_model.specs.Receiving.{Placing, AtOffset, placing}
+use Rattle.udt_model.specs.Step.{Act, Send, Arrive, Event, Reply, Sent, Received, DidHear, step}
 
 -- an event with its answer and what it emitted, made by the holder of the pass with this number
 pub record Item : Type 0 where
@@ -73,3 +78,39 @@ accepted h = accepted_by h.items
 -- the bytes that receives gave, joined in order
 abbrev pub delivered : History → List ℕ
 delivered h = delivered_by h.items
+
+-- how many blocks were acknowledged
+abbrev pub acked : History → ℕ
+acked h = (state_of h).sending.acked - start_of h
+
+-- the offset at which a block with this wire number is placed
+abbrev pub placed_by_placing : Placing → List ℕ
+placed_by_placing (AtOffset offset) = offset ∷ []
+placed_by_placing other = []
+
+abbrev pub placed_by_packet : State → Result Packet Malformed → List ℕ
+placed_by_packet s (Ok (Block number flags stamp dest bytes)) = placed_by_placing (placing s.receiving number)
+placed_by_packet s other = []
+
+-- the offset at which an event placed a block, which it answers
+abbrev pub placed_by : State → Act → Reply → List ℕ
+placed_by s (Arrive from bytes) (DidHear heard.Placed) = placed_by_packet s (read bytes)
+placed_by s act reply = []
+
+-- the offsets at which these items placed blocks, from this state on
+unfoldable pub placed_from : State → List Item → List ℕ
+placed_from s [] = []
+placed_from s (item ∷ items) = placed_by s item.event.act item.reply ++ placed_from (step s item.event).after items
+
+-- the offsets of all blocks that were placed
+abbrev pub placed_offsets : History → List ℕ
+placed_offsets h = placed_from h.opening h.items
+
+-- how many offsets from this one on, of so many at most, are among these, without a gap
+unfoldable pub gapless : ℕ → ℕ → List ℕ → ℕ
+gapless zero offset offsets = 0
+gapless (suc most) offset offsets = if list_any (λ n. n == offset) offsets then gapless most (offset + 1) offsets + 1 else 0
+
+-- how many blocks have arrived, from the first one on and without a gap
+abbrev pub arrived : History → ℕ
+arrived h = gapless (length (placed_offsets h)) (start_of h) (placed_offsets h)

@@ -1,12 +1,12 @@
--- The receiving half: where a block is placed, and which bytes are read.
-use Rattle.std.specs.Prelude.{ℕ, ◌+◌, ◌-◌, ◌==◌, max, Bool, ◌&&◌, List, [], ◌∷◌, ◌++◌, length, take, drop, Option, Some, None, Result, Ok, Err, nat_lt, nat_le, if◌then◌else◌}
+-- The receiving half: where a block is placed, which bytes are read, and which acknowledgements are due.
+use Rattle.std.specs.Prelude.{ℕ, ◌+◌, ◌-◌, ◌*◌, ◌==◌, max, Bool, false, ◌&&◌, ◌||◌, List, [], ◌∷◌, ◌++◌, length, take, drop, Option, Some, None, Result, Ok, Err, nat_lt, nat_le, if◌then◌else◌}
 use Rattle.std.specs.List.{list_any}
-use Rattle.udt_model.specs.declared.limits.TheConstants.{PACKET_LIMIT}
+use Rattle.udt_model.specs.declared.limits.TheConstants.{PACKET_LIMIT, LAST_ACK_NUMBER, ACK_INTERVAL, FEWEST_BLOCKS}
 use Rattle.udt_model.specs.declared.answers.Refusal.{Refusal}
 use Rattle.udt_model.specs.declared.answers.Refusal.TheVariants as refusal
 use Rattle.udt_model.specs.declared.packets.Flags.{Flags}
 use Rattle.udt_model.specs.Numbers.{near}
-use Rattle.udt_model.specs.State.{PlacedBlock, Receiving}
+use Rattle.udt_model.specs.State.{PlacedBlock, FullAck, Receiving}
 
 -- ---- placing
 
@@ -100,3 +100,58 @@ after_receive_answer r (Err why) = r
 
 unfoldable pub after_receive : Receiving → ℕ → Receiving
 after_receive r room = after_receive_answer r (receive_answer r room)
+
+-- ---- acknowledging
+
+-- the first offset from this one on at which no block is placed
+unfoldable pub first_gap : ℕ → List PlacedBlock → ℕ
+first_gap offset [] = offset
+first_gap offset (block ∷ others) = if block.offset == offset then first_gap (offset + 1) others else offset
+
+-- the offset before which all has arrived
+abbrev pub ack_offset : Receiving → ℕ
+ack_offset r = first_gap r.base r.placed
+
+-- the number of the full acknowledgement after this one. They are counted from 1
+abbrev pub number_after : Option FullAck → ℕ
+number_after None = 1
+number_after (Some ack) = if ack.number == LAST_ACK_NUMBER then 1 else ack.number + 1
+
+-- the last full acknowledgement told of this offset, less than two round trips ago
+abbrev pub is_just_told : ℕ → ℕ → ℕ → Option FullAck → Bool
+is_just_told offset now rtt None = false
+is_just_told offset now rtt (Some ack) = (ack.offset == offset) && nat_lt (now - ack.moment) (2 * rtt)
+
+-- whether a full acknowledgement is emitted: it isn't due yet, there is nothing new to tell, or it is this one
+pub data Telling : Type 0 where
+  IsEarly : Telling
+  IsKnown : Telling
+  Tells : (ack : FullAck) → Telling
+
+-- what is told at this moment in microseconds, with round trips of so many
+unfoldable pub telling : Receiving → ℕ → ℕ → Telling
+telling r now rtt =
+    if nat_lt now r.ack_due
+    then IsEarly
+    else (if (ack_offset r == r.confirmed) || is_just_told (ack_offset r) now rtt r.last_ack
+    then IsKnown
+    else Tells (record { number = number_after r.last_ack; offset = ack_offset r; moment = now }))
+
+abbrev pub after_telling : Receiving → ℕ → Telling → Receiving
+after_telling r now IsEarly = r
+after_telling r now IsKnown = record r { ack_due = now + ACK_INTERVAL }
+after_telling r now (Tells ack) = record r { ack_due = now + ACK_INTERVAL; last_ack = Some ack }
+
+-- the half after it was asked for an acknowledgement
+unfoldable pub after_tell : Receiving → ℕ → ℕ → Receiving
+after_tell r now rtt = after_telling r now (telling r now rtt)
+
+-- how many blocks from this offset on there is room for, of which 2 are told at least
+abbrev pub room_from : Receiving → ℕ → ℕ
+room_from r offset = max FEWEST_BLOCKS (r.blocks - (offset - r.base))
+
+-- ---- closing
+
+-- the half without the blocks that weren't read
+unfoldable pub receiving_closed : Receiving → Receiving
+receiving_closed r = record r { given = 0; placed = [] }

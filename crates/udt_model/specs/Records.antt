@@ -1,7 +1,7 @@
 -- Records of endpoints: what their sockets emitted and what it names, and when the records are lawful and honest.
 -- The network may lose, repeat and reorder (Gu and Grossman, Computer Networks, 2007), so a record keeps all that was
 -- ever emitted, and each arrival is one of these.
-use Rattle.std.specs.Prelude.{◌≡◌, ℕ, ◌+◌, ◌^◌, ◌<◌, ◌≤◌, Bool, false, List, [], ◌∷◌, ◌++◌, Option, Some, Ok, slice_get}
+use Rattle.std.specs.Prelude.{◌≡◌, ℕ, ◌+◌, ◌^◌, ◌<◌, ◌≤◌, false, List, [], ◌∷◌, ◌++◌, Option, Some, Ok, slice_get}
 use Rattle.std.specs.List.{Contains, concat}
 use Rattle.udt_model.specs.declared.limits.TheConstants.{LAST_START, MOST_PAYLOAD, FEWEST_BLOCKS, MOST_BLOCKS}
 use Rattle.udt_model.specs.declared.addresses.Addr.{Addr}
@@ -9,10 +9,13 @@ use Rattle.udt_model.specs.declared.answers.Peer.{Peer}
 use Rattle.udt_model.specs.declared.packets.Config.{Config}
 use Rattle.udt_model.specs.declared.packets.Flags.{Flags}
 use Rattle.udt_model.specs.Numbers.{wire_number}
-use Rattle.udt_model.specs.Wire.{Packet, Block, read}
+use Rattle.udt_model.specs.declared.answers.Phase.{Phase}
+use Rattle.udt_model.specs.declared.answers.Phase.TheVariants as phase
+use Rattle.udt_model.specs.Wire.{Packet, Block, Handshake, KeepAlive, Ack, Nak, Shutdown, Ack2, DropAsk, is_handshake, destination, read}
 use Rattle.udt_model.specs.State.{State, Datagram}
-use Rattle.udt_model.specs.Sending.{Packing, Waits, Sends, Idles, packing}
-use Rattle.udt_model.specs.Step.{Act, Send, Recv, Pack, Arrive, Event, at_moment, step, opening}
+use Rattle.udt_model.specs.Sending.{Packing, Waits, SendsAgain, Sends, Idles, packing}
+use Rattle.udt_model.specs.Receiving.{Telling, IsEarly, IsKnown, Tells, telling}
+use Rattle.udt_model.specs.Step.{Act, Send, Recv, Pack, Tick, Close, Arrive, Event, Silence, IsShort, Breaks, Resends, Signs, silence, round_trip, at_moment, step, opening}
 use Rattle.udt_model.specs.History.{Item, History, state_of, IsLegal}
 
 -- the first list is where the second begins
@@ -29,14 +32,42 @@ pub record Emission : Type 0 where
 -- a data packet names the offset of its block
 abbrev pub named_by_packing : State → Packing → List (List ℕ)
 named_by_packing s (Waits until) = []
+named_by_packing s (SendsAgain offset block) = (offset ∷ []) ∷ []
 named_by_packing s (Sends block) = (s.sending.next ∷ []) ∷ []
 named_by_packing s Idles = []
 
--- packing alone emits anything so far
+abbrev pub named_by_pack : State → Phase → List (List ℕ)
+named_by_pack s phase.Connected = named_by_packing s (packing s.sending s.last)
+named_by_pack s (phase.Broken why) = []
+named_by_pack s phase.Closing = []
+named_by_pack s phase.Closed = []
+
+-- an acknowledgement names the offset before which all has arrived
+abbrev pub named_by_telling : Telling → List (List ℕ)
+named_by_telling IsEarly = []
+named_by_telling IsKnown = []
+named_by_telling (Tells ack) = (ack.offset ∷ []) ∷ []
+
+-- a sign of life and a shutdown name none
+abbrev pub named_by_silence : Silence → List (List ℕ)
+named_by_silence IsShort = []
+named_by_silence Breaks = []
+named_by_silence Resends = []
+named_by_silence Signs = [] ∷ []
+
+abbrev pub named_by_tick : State → Phase → List (List ℕ)
+named_by_tick s phase.Connected = named_by_telling (telling s.receiving s.last round_trip.rtt) ++ named_by_silence (silence s)
+named_by_tick s (phase.Broken why) = []
+named_by_tick s phase.Closing = [] ∷ []
+named_by_tick s phase.Closed = []
+
+-- packing and ticks alone emit anything so far
 abbrev pub named_by_act : State → Act → List (List ℕ)
 named_by_act s (Send bytes) = []
 named_by_act s (Recv room) = []
-named_by_act s Pack = named_by_packing s (packing s.sending s.last)
+named_by_act s Pack = named_by_pack s s.phase
+named_by_act s Tick = named_by_tick s s.phase
+named_by_act s Close = []
 named_by_act s (Arrive from bytes) = []
 
 -- the offsets that each datagram of an event names, in the order of the datagrams
@@ -75,6 +106,8 @@ abbrev pub arrived_by_act : Act → List Datagram
 arrived_by_act (Send bytes) = []
 arrived_by_act (Recv room) = []
 arrived_by_act Pack = []
+arrived_by_act Tick = []
+arrived_by_act Close = []
 arrived_by_act (Arrive from bytes) = record { addr = from; bytes = bytes } ∷ []
 
 -- what arrived with these items
@@ -172,14 +205,6 @@ own_peer h = Some (record { addr = (state_of h).peer.addr; id = (state_of h).pee
 
 -- ---- lawful
 
--- handshakes alone are sent before there is a peer. No packet is one so far
-abbrev pub is_handshake : Packet → Bool
-is_handshake (Block seq flags stamp dest bytes) = false
-
--- the ID that a packet names as its destination
-abbrev pub destination : Packet → ℕ
-destination (Block seq flags stamp dest bytes) = dest
-
 -- a script made both sockets as a pair: each is the other's peer, and kind, initial number and first offset are the
 -- same
 abbrev pub ArePaired : Addr → ℕ → Way → Addr → ℕ → Way → Type 0
@@ -209,7 +234,7 @@ pub record IsLawful (net : List EndpointRecord) (endpoint : EndpointRecord) : Ty
   pub peers : (socket other : Enrolled) (peer : PeerPair) → Contains endpoint.sockets socket → Contains endpoint.sockets other
       → own_peer socket.history ≡ Some peer → own_peer other.history ≡ Some peer → socket ≡ other
   -- what isn't a handshake goes to the own peer of the socket that emits it. What handshakes carry is said here once
-  -- there are any
+  -- sockets emit any
   pub addressed : (socket : Enrolled) (emission : Emission) (packet : Packet) → Contains endpoint.sockets socket
       → Contains (emitted socket.history) emission → read emission.datagram.bytes ≡ Ok packet → is_handshake packet ≡ false
       → own_peer socket.history ≡ Some (record { addr = emission.datagram.addr; id = destination packet })
@@ -228,9 +253,17 @@ pub record AreLawful (net : List EndpointRecord) : Type 0 where
 abbrev pub IsClose : ℕ → ℕ → Type 0
 IsClose offset other = (offset < other + 2 ^ 30) × (other < offset + 2 ^ 30)
 
--- the offset by which a packet's numbers are read: those of data by the one after the greatest that arrived
+-- the offset by which a packet's numbers are read: those of data and drop requests by the one after the greatest that
+-- arrived, those of acknowledgements and loss reports by the first that isn't acknowledged. Others have no numbers
 abbrev pub read_by : State → Packet → ℕ
 read_by s (Block seq flags stamp dest bytes) = s.receiving.top
+read_by s (Handshake stamp dest shake) = s.receiving.top
+read_by s (KeepAlive stamp dest) = s.receiving.top
+read_by s (Ack number stamp dest body) = s.sending.acked
+read_by s (Nak stamp dest ranges) = s.sending.acked
+read_by s (Shutdown stamp dest) = s.receiving.top
+read_by s (Ack2 number stamp dest) = s.receiving.top
+read_by s (DropAsk message stamp dest first last) = s.receiving.top
 
 -- these bytes from this address were emitted there, to the other address, and all that they name lies near where a
 -- socket in this state reads them
@@ -248,6 +281,8 @@ abbrev pub IsHonestAct : List EndpointRecord → Addr → State → Act → Type
 IsHonestAct net addr s (Send bytes) = Unit {0}
 IsHonestAct net addr s (Recv room) = Unit {0}
 IsHonestAct net addr s Pack = Unit {0}
+IsHonestAct net addr s Tick = Unit {0}
+IsHonestAct net addr s Close = Unit {0}
 IsHonestAct net addr s (Arrive from bytes) = WasEmitted net s from addr bytes
 
 -- and so was each arrival of these items. No order in time is asked

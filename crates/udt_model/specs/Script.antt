@@ -1,5 +1,5 @@
 -- What a script prints: lines of calls and arrivals at sockets of a network in which anything may be delivered.
-use Rattle.std.specs.Prelude.{ℕ, ◌+◌, ◌-◌, ◌==◌, Bool, true, false, not, ◌&&◌, List, [], ◌∷◌, ◌++◌, length, take, map, Option, Some, None, Result, Ok, Err, slice_get, slice_set, option_map, position, is_some, take_while, sum_by, nat_le, decimal, codes, if◌then◌else◌}
+use Rattle.std.specs.Prelude.{ℕ, ◌+◌, ◌-◌, ◌==◌, Bool, true, false, not, ◌&&◌, ◌||◌, List, [], ◌∷◌, ◌++◌, length, take, map, Option, Some, None, Result, Ok, Err, slice_get, slice_set, option_map, position, is_some, take_while, sum_by, nat_le, decimal, codes, if◌then◌else◌}
 use Rattle.udt_model.specs.declared.limits.TheConstants.{MOST_SOCKETS, LONGEST_SCRIPT, LONGEST_LINE}
 use Rattle.udt_model.specs.declared.addresses.Addr.{Addr}
 use Rattle.udt_model.specs.declared.addresses.Ip.TheVariants.{V4}
@@ -20,10 +20,10 @@ use Rattle.udt_model.specs.declared.scripts.ControlName.{ControlName}
 use Rattle.udt_model.specs.Addresses.{same_addr, address_text}
 use Rattle.udt_model.specs.Wire.{target}
 use Rattle.udt_model.specs.State.{Datagram}
-use Rattle.udt_model.specs.Step.{Act, Send, Recv, Pack, Arrive, Event, Reply, Sent, Received, DidPack, DidHear, step, opening}
+use Rattle.udt_model.specs.Step.{Act, Send, Recv, Pack, Tick, Close, Arrive, Event, Reply, Sent, Received, DidPack, DidTick, DidClose, DidHear, is_closed, step, opening}
 use Rattle.udt_model.specs.History.{History, state_of, happened}
 use Rattle.udt_model.specs.Words.{◌>>=◌, is_word, hex_word}
-use Rattle.udt_model.specs.Lines.{Pairing, Line, Silent, PairLine, SendLine, RecvLine, PackLine, DeliverLine, read_line}
+use Rattle.udt_model.specs.Lines.{Pairing, Line, Silent, PairLine, SendLine, RecvLine, PackLine, TickLine, CloseLine, DeliverLine, RawLine, read_line}
 
 -- ---- the network
 
@@ -142,6 +142,8 @@ abbrev pub reply_text : Reply → List ℕ
 reply_text (Sent answer) = codes "send " ++ sent_text answer
 reply_text (Received answer) = codes "recv " ++ received_text answer
 reply_text (DidPack answer) = codes "pack " ++ packed_text answer
+reply_text DidTick = codes "tick"
+reply_text DidClose = codes "close"
 reply_text (DidHear answer) = codes "arrive " ++ heard_text answer
 
 -- a word and a space behind it, a last word and the line feed behind it
@@ -240,24 +242,32 @@ pub data Route : Type 0 where
   ToSeat : (place : ℕ) → (seat : Seat) → Route
   Nowhere : (word : List ℕ) → Route
 
--- the socket stands at this host
+-- the socket stands at this host, and isn't closed
+abbrev pub is_enrolled : Addr → Seat → Bool
+is_enrolled host seat = same_addr seat.host host && not (is_closed (state_of seat.history).phase)
+
 abbrev pub route_to : Addr → ℕ → Option Seat → Route
 route_to host place None = Nowhere (codes "id")
-route_to host place (Some seat) = if same_addr seat.host host then ToSeat place seat else Nowhere (codes "id")
+route_to host place (Some seat) = if is_enrolled host seat then ToSeat place seat else Nowhere (codes "id")
 
 abbrev pub route_by : List Seat → Addr → Option ℕ → Route
 route_by seats host None = Nowhere (codes "short")
 route_by seats host (Some id) = if id == 0 then Nowhere (codes "shake") else route_to host (id - 1) (slice_get seats (id - 1))
 
--- a datagram goes to the socket at its host whose ID is its destination
+-- a host has this address. Sockets are paired on these two alone
+abbrev pub is_host : Addr → Bool
+is_host addr = same_addr addr first_host || same_addr addr second_host
+
+-- a datagram goes to the socket at its host whose ID is its destination. There are no handshakes yet, so one without
+-- destination goes nowhere
 unfoldable pub route : List Seat → Letter → Route
-route seats letter = route_by seats letter.to (target letter.bytes)
+route seats letter = if is_host letter.to then route_by seats letter.to (target letter.bytes) else Nowhere (codes "host")
 
 abbrev pub arrived : Network → ℕ → Letter → Route → Printed
 arrived n now letter (ToSeat place seat) = event_at n place seat (record { now = now; act = Arrive letter.from letter.bytes })
 arrived n now letter (Nowhere word) = record { network = n; text = codes "dropped " ++ ended word }
 
--- the arrival of a datagram that was printed
+-- the arrival of a datagram, where there is one
 abbrev pub delivery : Network → ℕ → Option Letter → Option Printed
 delivery n now None = None
 delivery n now (Some letter) = Some (arrived n now letter (route n.seats letter))
@@ -269,7 +279,10 @@ on_line n (PairLine pairing) = if may_pair n pairing then Some (paired n pairing
 on_line n (SendLine name now bytes) = call_of n name now (Send bytes)
 on_line n (RecvLine name now room) = call_of n name now (Recv room)
 on_line n (PackLine name now) = call_of n name now Pack
+on_line n (TickLine name now) = call_of n name now Tick
+on_line n (CloseLine name now) = call_of n name now Close
 on_line n (DeliverLine number now) = delivery n now (slice_get n.letters number)
+on_line n (RawLine now from to bytes) = delivery n now (Some (record { from = from; to = to; bytes = bytes }))
 
 -- what a line of a script does, or None where it is refused
 unfoldable pub played_line : Network → List ℕ → Option Printed

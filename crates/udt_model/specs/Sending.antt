@@ -1,9 +1,12 @@
--- The sending half: what a send takes, and which block is sent next.
-use Rattle.std.specs.Prelude.{ℕ, zero, suc, ◌+◌, ◌-◌, ◌*◌, ◌/◌, ◌%◌, ◌==◌, min, Bool, true, false, List, [], ◌∷◌, ◌++◌, length, take, drop, Option, Some, None, Result, Ok, Err, slice_get, nat_lt, if◌then◌else◌}
-use Rattle.udt_model.specs.declared.limits.TheConstants.{PACKET_LIMIT, LAST_MESSAGE}
+-- The sending half: what a send takes, which block is sent next, and what an acknowledgement releases.
+use Rattle.std.specs.Prelude.{ℕ, zero, suc, ◌+◌, ◌-◌, ◌*◌, ◌/◌, ◌%◌, ◌==◌, min, max, Bool, true, false, ◌||◌, List, [], ◌∷◌, ◌++◌, length, take, drop, Option, Some, None, Result, Ok, Err, slice_get, nat_lt, if◌then◌else◌}
+use Rattle.udt_model.specs.declared.limits.TheConstants.{PACKET_LIMIT, LAST_MESSAGE, FEWEST_BLOCKS, MOST_BLOCKS}
 use Rattle.udt_model.specs.declared.answers.Refusal.{Refusal}
 use Rattle.udt_model.specs.declared.answers.Refusal.TheVariants as refusal
-use Rattle.udt_model.specs.Numbers.{wire_number}
+use Rattle.udt_model.specs.declared.packets.AckBody.{AckBody}
+use Rattle.udt_model.specs.declared.packets.AckBody.TheVariants.{Light, Buffer, Full}
+use Rattle.udt_model.specs.Numbers.{wire_number, near}
+use Rattle.udt_model.specs.Losses.{with_range, from_offset}
 use Rattle.udt_model.specs.State.{KeptBlock, Sending}
 
 -- ---- accepting
@@ -71,24 +74,38 @@ window = 16
 abbrev pub period : ℕ
 period = 0
 
--- what packing does: it waits until a moment, sends a block, or has nothing to send
+-- what packing does: it waits until a moment, sends a lost block again, sends the next block, or has nothing to send
 pub data Packing : Type 0 where
   Waits : (until : ℕ) → Packing
+  SendsAgain : (offset : ℕ) → (block : KeptBlock) → Packing
   Sends : (block : KeptBlock) → Packing
   Idles : Packing
 
+-- the kept block at this offset, where there is one
+abbrev pub kept_at : Sending → ℕ → Option KeptBlock
+kept_at s offset = slice_get s.kept (offset - s.acked)
+
 -- the first block that was never sent, where there is one
 abbrev pub unsent : Sending → Option KeptBlock
-unsent s = slice_get s.kept (s.next - s.acked)
+unsent s = kept_at s s.next
 
 -- a block is sent where fewer are under way than both windows allow
 abbrev pub sends : Sending → Option KeptBlock → Packing
 sends s None = Idles
 sends s (Some block) = if nat_lt (s.next - s.acked) (min s.flow window) then Sends block else Idles
 
+abbrev pub sends_again : ℕ → Option KeptBlock → Packing
+sends_again offset None = Idles
+sends_again offset (Some block) = SendsAgain offset block
+
+-- the least lost block goes before all that were never sent, whatever the windows allow
+abbrev pub sends_first : Sending → List ℕ → Packing
+sends_first s [] = sends s (unsent s)
+sends_first s (offset ∷ others) = sends_again offset (kept_at s offset)
+
 -- what packing does at this moment, in microseconds
 unfoldable pub packing : Sending → ℕ → Packing
-packing s now = if nat_lt (1000 * now) s.due then Waits ((s.due + 999) / 1000) else sends s (unsent s)
+packing s now = if nat_lt (1000 * now) s.due then Waits ((s.due + 999) / 1000) else sends_first s s.lost
 
 -- the moment before which nothing is sent after the block with this wire number. Two packets in a row measure the link
 abbrev pub due_after : ℕ → ℕ → ℕ
@@ -98,10 +115,73 @@ due_after number now = if number % 16 == 0 then 1000 * now else 1000 * now + per
 abbrev pub after_block : Sending → ℕ → Sending
 after_block s now = record s { next = s.next + 1; due = due_after (wire_number s.isn s.next) now }
 
+-- the half after its least lost block was sent again
+abbrev pub after_again : Sending → ℕ → ℕ → Sending
+after_again s offset now = record s { lost = drop 1 s.lost; due = due_after (wire_number s.isn offset) now }
+
 abbrev pub after_packing : Sending → ℕ → Packing → Sending
 after_packing s now (Waits until) = s
+after_packing s now (SendsAgain offset block) = after_again s offset now
 after_packing s now (Sends block) = after_block s now
 after_packing s now Idles = s
 
 unfoldable pub after_pack : Sending → ℕ → Sending
 after_pack s now = after_packing s now (packing s now)
+
+-- ---- acknowledgements
+
+-- how many blocks of the peer a socket counts on: 2 at least, and no more than any socket has
+abbrev pub clamped : ℕ → ℕ
+clamped flow = max FEWEST_BLOCKS (min flow MOST_BLOCKS)
+
+-- what becomes of an acknowledgement: all blocks below an offset have arrived, or it is stale
+pub data Acking : Type 0 where
+  Acks : (offset : ℕ) → Acking
+  IsStale : Acking
+
+-- what is below the kept blocks, or above all that were sent, is stale
+abbrev pub acking_near : Sending → Option ℕ → Acking
+acking_near s None = IsStale
+acking_near s (Some offset) = if nat_lt offset s.acked || nat_lt s.next offset then IsStale else Acks offset
+
+-- what becomes of an acknowledgement of all before this wire number
+unfoldable pub acking : Sending → ℕ → Acking
+acking s number = acking_near s (near s.isn s.acked number)
+
+-- the wire number before which all has arrived
+abbrev pub acked_number : AckBody → ℕ
+acked_number (Light ack) = ack
+acked_number (Buffer ack rtt var buffer) = ack
+acked_number (Full ack rtt var buffer rate capacity) = ack
+
+-- how many packets the peer has room for, once so many more have arrived: a light acknowledgement doesn't say
+abbrev pub flow_after : ℕ → ℕ → AckBody → ℕ
+flow_after flow newly (Light ack) = max FEWEST_BLOCKS (flow - newly)
+flow_after flow newly (Buffer ack rtt var buffer) = clamped buffer
+flow_after flow newly (Full ack rtt var buffer rate capacity) = clamped buffer
+
+-- the half without the blocks below this offset
+abbrev pub released : Sending → ℕ → Sending
+released s offset = record s {
+  acked = offset;
+  kept = drop (offset - s.acked) s.kept;
+  lost = from_offset offset s.lost;
+}
+
+abbrev pub after_acking : Sending → AckBody → Acking → Sending
+after_acking s body (Acks offset) = record (released s offset) { flow = flow_after s.flow (offset - s.acked) body }
+after_acking s body IsStale = s
+
+-- the half after an acknowledgement arrived
+unfoldable pub after_ack : Sending → AckBody → Sending
+after_ack s body = after_acking s body (acking s (acked_number body))
+
+-- ---- loss and closing
+
+-- the half once all blocks that are under way count as lost, of which there are some
+unfoldable pub after_timeout : Sending → Sending
+after_timeout s = record s { lost = with_range s.acked (s.next - 1) s.lost }
+
+-- the half without the blocks that are kept
+unfoldable pub sending_closed : Sending → Sending
+sending_closed s = record s { kept = []; next = s.acked; lost = [] }

@@ -1,7 +1,8 @@
 -- What a socket knows, as plain records.
-use Rattle.std.specs.Prelude.{ℕ, List}
+use Rattle.std.specs.Prelude.{ℕ, List, Option}
 use Rattle.udt_model.specs.declared.addresses.Addr.{Addr}
 use Rattle.udt_model.specs.declared.answers.Peer.{Peer}
+use Rattle.udt_model.specs.declared.answers.Phase.{Phase}
 use Rattle.udt_model.specs.declared.packets.Flags.{Flags}
 use Rattle.udt_model.specs.declared.packets.Kind.{Kind}
 
@@ -27,12 +28,20 @@ pub record Sending : Type 0 where
   pub kept : List KeptBlock
   -- the first offset that was never sent
   pub next : ℕ
+  -- the offsets that are to be sent again, in rising order
+  pub lost : List ℕ
   -- the number of the next message
   pub message : ℕ
   -- how many packets the peer has room for
   pub flow : ℕ
   -- the moment before which nothing is sent, in nanoseconds
   pub due : ℕ
+
+-- a full acknowledgement that was emitted: its number, the first offset that had not arrived, and its moment
+pub record FullAck : Type 0 where
+  pub number : ℕ
+  pub offset : ℕ
+  pub moment : ℕ
 
 -- the receiving half
 pub record Receiving : Type 0 where
@@ -48,14 +57,21 @@ pub record Receiving : Type 0 where
   pub given : ℕ
   -- the placed blocks, in rising order of their offsets
   pub placed : List PlacedBlock
+  -- the greatest offset up to which the peer is known to have been told of arrivals
+  pub confirmed : ℕ
+  -- the last full acknowledgement, and the moment from which on the next may be due, in microseconds
+  pub last_ack : Option FullAck
+  pub ack_due : ℕ
 
 -- what was counted. Each count stays at 2^64 - 1 once it stands there
 pub record Counters : Type 0 where
   pub sent : ℕ
+  pub resent : ℕ
   pub placed : ℕ
   pub double : ℕ
   pub below : ℕ
   pub above : ℕ
+  pub control : ℕ
   pub stale : ℕ
   pub foreign : ℕ
   pub malformed : ℕ
@@ -70,6 +86,11 @@ pub record State : Type 0 where
   pub last : ℕ
   -- how many events it has had
   pub count : ℕ
+  pub phase : Phase
+  -- the moments of the last arrival from the peer and from which on silence is counted, and how often it expired, plus one
+  pub heard : ℕ
+  pub exp_from : ℕ
+  pub exp_n : ℕ
   pub sending : Sending
   pub receiving : Receiving
   pub counters : Counters

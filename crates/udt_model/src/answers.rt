@@ -22,6 +22,16 @@ pub enum Cause {
     PortDown,
 }
 
+/// Where a socket stands: connected to its peer, cut off from it for a cause, closed with the peer
+/// not told yet, or closed.
+#[derive(Clone, Copy, Debug, PartialEq, Eq)]
+pub enum Phase {
+    Connected,
+    Broken(Cause),
+    Closing,
+    Closed,
+}
+
 /// Why a call of a socket did nothing.
 #[derive(Clone, Copy, Debug, PartialEq, Eq)]
 pub enum Refusal {

@@ -8,10 +8,11 @@ mod packets;
 mod scripts;
 
 pub use addresses::{Addr, Family, Ip};
-pub use answers::{Cause, Heard, Packed, Peer, Refusal};
+pub use answers::{Cause, Heard, Packed, Peer, Phase, Refusal};
 pub use limits::{
-    FEWEST_BLOCKS, LAST_MESSAGE, LAST_MOMENT, LAST_START, LONGEST_LINE, LONGEST_SCRIPT,
-    MOST_BLOCKS, MOST_PAYLOAD, MOST_SOCKETS, PACKET_LIMIT,
+    ACK_INTERVAL, EXPIRIES, FEWEST_BLOCKS, LAST_ACK_NUMBER, LAST_MESSAGE, LAST_MOMENT, LAST_START,
+    LEAST_EXPIRY, LEAST_SILENCE, LONGEST_LINE, LONGEST_SCRIPT, LONGEST_SILENCE, MOST_BLOCKS,
+    MOST_PAYLOAD, MOST_SOCKETS, PACKET_LIMIT,
 };
-pub use packets::{Config, Flags, Kind, Malformed};
+pub use packets::{AckBody, Config, Flags, Kind, Malformed, Shake};
 pub use scripts::ControlName;

@@ -9,6 +9,24 @@ pub const LAST_MOMENT: u64 = (1 << 53) - 1;
 /// The greatest number of a message, after which 1 comes again.
 pub const LAST_MESSAGE: u32 = (1 << 29) - 1;
 
+/// The greatest number of a full acknowledgement, after which 1 comes again.
+pub const LAST_ACK_NUMBER: u32 = (1 << 31) - 1;
+
+/// From one moment at which an acknowledgement may be due to the next, in microseconds.
+pub const ACK_INTERVAL: u64 = 10_000;
+
+/// The least time of silence after which a socket does something about it, in microseconds.
+pub const LEAST_EXPIRY: u64 = 500_000;
+
+/// How often silence expires before it may break a connection.
+pub const EXPIRIES: u64 = 16;
+
+/// The least silence that breaks a connection, in microseconds: three seconds.
+pub const LEAST_SILENCE: u64 = 3_000_000;
+
+/// The silence that always breaks a connection, in microseconds: three minutes.
+pub const LONGEST_SILENCE: u64 = 180_000_000;
+
 /// The most bytes that a block of any socket carries.
 pub const MOST_PAYLOAD: u32 = 8956;
 

@@ -36,3 +36,44 @@ pub enum Malformed {
     BadDropLength,
     BadAckLength,
 }
+
+/// The fields of a handshake: the version of the protocol, the socket type (1 for a stream, 2 for
+/// messages), the initial number, the packet size (the bytes of a block plus 44), the flow window
+/// in packets, what the handshake asks or answers, the sender's socket ID, the cookie, and the
+/// address to which it is sent.
+#[derive(Clone, Copy, Debug, PartialEq, Eq)]
+pub struct Shake {
+    pub version: u32,
+    pub kind: u32,
+    pub isn: u32,
+    pub packet: u32,
+    pub flow: u32,
+    pub ask: i32,
+    pub id: u32,
+    pub cookie: u32,
+    pub address: [u8; 16],
+}
+
+/// What an acknowledgement tells: the number up to which everything has arrived; with the
+/// round-trip time and its variance in microseconds and the free blocks of the receiver; or with
+/// the receiving rate and the link's capacity too, in packets a second.
+#[derive(Clone, Copy, Debug, PartialEq, Eq)]
+pub enum AckBody {
+    Light {
+        ack: u32,
+    },
+    Buffer {
+        ack: u32,
+        rtt: u32,
+        var: u32,
+        buffer: u32,
+    },
+    Full {
+        ack: u32,
+        rtt: u32,
+        var: u32,
+        buffer: u32,
+        rate: u32,
+        capacity: u32,
+    },
+}

@@ -1,1 +1,6 @@
+pub mod RangeWords
+pub mod RangeBytes
+pub mod Refusals
+pub mod TwoPuts
 pub mod Spellings
+pub mod ReadRanges

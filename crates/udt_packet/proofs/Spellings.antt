@@ -1,10 +1,13 @@
 -- Bytes that are read as a block are its one spelling.
-use Rattle.std.proofs.Common.{◌≡◌, ℕ, ◌+◌, ◌^◌, ◌<◌, ◌≤◌, List, ◌++◌, length, get_or, take, drop, Ok, refl, sym, ap, subst, ◌∙◌, append_assoc, arith, inl, inr}
+use Rattle.std.proofs.Common.{◌≡◌, ℕ, ◌+◌, ◌%◌, ◌^◌, ◌<◌, ◌≤◌, List, ◌++◌, length, get_or, take, drop, Ok, refl, sym, ap, subst, ◌∙◌, append_assoc, arith, inl, inr}
 use Rattle.std.proofs.lemmas.Bool.{cases_lt}
-use Rattle.std.proofs.lemmas.Bool.Decides.{nat_tests}
 use Rattle.std.proofs.lemmas.List.{take-append-drop, length-take, length-drop, get_or-drop, get_or-take, get_or_past, drop-drop}
 use Rattle.std.proofs.lemmas.Nat.{be_bytes_4}
-use Rattle.udt_model.specs.Wire.{Packet, flags_word, flags_of, word, word_at, spelling, read, block_of, IsInRange}
+use Rattle.udt_model.specs.declared.packets.Malformed.TheVariants.{BadHandshakeLength, BadDropLength, BadAckLength}
+use Rattle.udt_model.specs.Wire.{Packet, Handshake, KeepAlive, Ack, Nak, Shutdown, Ack2, DropAsk, WireRange, ControlType, HandshakeType, KeepAliveType, AckType, NakType, ShutdownType, Ack2Type, DropAskType, NoType, flags_word, flags_of, word, word_at, number_at, shake_of, ack_of, ranges_of, spelling, read, read_losses, read_control, block_of}
+use Rattle.udt_model.proofs.WireLemmas.{read_long}
+use Rattle.udt_packet.proofs.Refusals.{by_way}
+use Rattle.std.specs.Prelude.{Option, None, Some, nat_lt}
 use Rattle.udt_packet.specs.Packets.{AreBytes, IsBlock, HasOneSpelling}
 
 -- a word makes the flags that it tells
@@ -35,7 +38,7 @@ word_at-spells place bytes are long =
     be_bytes_4 (take 4 (drop place bytes)) _ (omega (arith, length-take 4 (drop place bytes), length-drop place bytes)) (part_at place bytes are) refl
 
 -- and is below 2^32
-word_at-below : (place : ℕ) (bytes : List ℕ) → AreBytes bytes → word_at place bytes < 2 ^ 32
+pub word_at-below : (place : ℕ) (bytes : List ℕ) → AreBytes bytes → word_at place bytes < 2 ^ 32
 word_at-below place bytes are =
     omega (arith, part_at place bytes are 0, part_at place bytes are 1, part_at place bytes are 2, part_at place bytes are 3)
 
@@ -63,30 +66,41 @@ spells bytes are long =
     (word_at-spells 8 bytes are (omega arith))
     (word_at-spells 12 bytes are (omega arith))
 
--- what was read is the block of the bytes. There are enough of them, and the first bit isn't set
-read_long : (bytes : List ℕ) (packet : Packet) → read bytes ≡ Ok packet → 16 ≤ length bytes
-unfolding read
-read_long bytes packet reads = grind (arith, nat_tests)
+-- what a control packet spells is no block
+losses-no_block : (stamp dest : ℕ) (ranges : Option (List WireRange)) (packet : Packet) → IsBlock packet → read_losses stamp dest ranges ≡ Ok packet → ⊥
+losses-no_block stamp dest (Some ranges) packet is reads = let same : Nak stamp dest ranges ≡ packet = cc in subst IsBlock (sym same) is
+losses-no_block stamp dest None packet is reads = cc
 
-read_low : (bytes : List ℕ) (packet : Packet) → read bytes ≡ Ok packet → word_at 0 bytes < 2 ^ 31
-unfolding read
-read_low bytes packet reads = grind (arith, nat_tests)
+control-no_block : (type : ControlType) (info stamp dest : ℕ) (field : List ℕ) (packet : Packet) → IsBlock packet → read_control type info stamp dest field ≡ Ok packet → ⊥
+unfolding read_control
+control-no_block HandshakeType info stamp dest field packet is reads =
+    subst IsBlock (sym (read_long (nat_lt (length field) 48) BadHandshakeLength (Handshake stamp dest (shake_of field)) packet reads).1) is
+control-no_block AckType info stamp dest field packet is reads =
+    subst IsBlock (sym (read_long (nat_lt (length field) 4) BadAckLength (Ack info stamp dest (ack_of field)) packet reads).1) is
+control-no_block NakType info stamp dest field packet is reads = losses-no_block stamp dest (ranges_of field) packet is reads
+control-no_block DropAskType info stamp dest field packet is reads =
+    subst IsBlock (sym (read_long (nat_lt (length field) 8) BadDropLength (DropAsk (info % 2 ^ 29) stamp dest (number_at 0 field) (number_at 4 field)) packet reads).1) is
+control-no_block KeepAliveType info stamp dest field packet is reads = let same : KeepAlive stamp dest ≡ packet = cc in subst IsBlock (sym same) is
+control-no_block ShutdownType info stamp dest field packet is reads = let same : Shutdown stamp dest ≡ packet = cc in subst IsBlock (sym same) is
+control-no_block Ack2Type info stamp dest field packet is reads = let same : Ack2 info stamp dest ≡ packet = cc in subst IsBlock (sym same) is
+control-no_block NoType info stamp dest field packet is reads = cc
 
-read_block : (bytes : List ℕ) (packet : Packet) → read bytes ≡ Ok packet → block_of bytes ≡ packet
-unfolding read
-read_block bytes packet reads = grind (arith, nat_tests)
+-- a block that was read is that of the bytes. There are enough of them, and the first bit isn't set
+record IsBlockOf (bytes : List ℕ) (packet : Packet) : Type 0 where
+  long : 16 ≤ length bytes
+  low : word_at 0 bytes < 2 ^ 31
+  is : block_of bytes ≡ packet
+
+read_block : (bytes : List ℕ) (packet : Packet) → IsBlock packet → read bytes ≡ Ok packet → IsBlockOf bytes packet
+read_block bytes packet is_block reads =
+    by_way (IsBlockOf bytes packet) bytes (λ short is. cc) (λ long low is. record { long = long; low = low; is = cc })
+    (λ long high is. absurd (control-no_block _ _ _ _ _ packet is_block (sym is ∙ reads)))
 
 -- so the bytes are its spelling
-block_spelled : (bytes : List ℕ) (packet : Packet) → AreBytes bytes → read bytes ≡ Ok packet → bytes ≡ spelling packet
-block_spelled bytes packet are reads = sym (spells bytes are (read_long bytes packet reads)) ∙ ap spelling (read_block bytes packet reads)
-
--- and its numbers fit their places
-block_in_range : (bytes : List ℕ) (packet : Packet) → AreBytes bytes → read bytes ≡ Ok packet → IsInRange packet
-block_in_range bytes packet are reads =
-    subst IsInRange (read_block bytes packet reads) (read_low bytes packet reads, omega arith, word_at-below 8 bytes are, word_at-below 12 bytes are)
+block_spelled : (bytes : List ℕ) (packet : Packet) → AreBytes bytes → IsBlock packet → read bytes ≡ Ok packet → bytes ≡ spelling packet
+block_spelled bytes packet are is_block reads =
+    let is = read_block bytes packet is_block reads in
+    sym (spells bytes are is.long) ∙ ap spelling is.is
 
 pub one_spelling : (packet : Packet) → IsBlock packet → HasOneSpelling packet
-one_spelling packet is_block = record {
-  spelling = λ bytes are reads. block_spelled bytes packet are reads;
-  in_range = λ bytes are reads. block_in_range bytes packet are reads;
-}
+one_spelling packet is_block bytes are reads = block_spelled bytes packet are is_block reads

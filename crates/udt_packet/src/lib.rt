@@ -5,15 +5,18 @@ mod flags;
 mod laws;
 mod numbers;
 mod packet;
+mod ranges;
 mod reading;
+mod short;
 mod words;
 mod writing;
 
-pub use laws::{block_has_one_spelling, written_is_read};
+pub use laws::{block_has_one_spelling, read_is_in_range, written_is_read};
 pub use numbers::{near, seq_of};
 pub use packet::Packet;
+pub use ranges::{NakRanges, append_range};
 pub use reading::{read, target};
-pub use udt_model::{Config, Flags, Kind, Malformed};
+pub use udt_model::{AckBody, Config, Flags, Kind, Malformed, Shake};
 pub use writing::{append, size, write};
 
 #[cfg(test)]

@@ -1,8 +1,5 @@
-ghost use Rattle.udt_packet.specs.Packets.{packet_of};
-ghost use Rattle.udt_model.specs.Wire.{IsInRange};
-
 use super::*;
-use std::alloc::Global;
+use std::alloc::{AllocError, Global};
 use std::process::Abort;
 use std::test::*;
 
@@ -48,80 +45,210 @@ fn wire_numbers_name_the_offsets_near_the_base(rt: HostRuntime) {
     }
 }
 
-// The first and the last block of a message of five bytes.
-const HELL: [u8; 20] = [
-    0, 0, 0, 5, 0x80, 0, 0, 1, 0, 0, 3, 0xe8, 0, 0, 0, 2, 0x68, 0x65, 0x6c, 0x6c,
+// Packets, each as it is written: blocks; a handshake that asks, and one that answers; a
+// keep-alive; a light acknowledgement, one with the buffer, and a full one; lost numbers; a
+// shutdown; a confirmation; and a request to drop a message.
+const WRITTEN: [&[u8]; 14] = [
+    b"00000005 80000001 000003e8 00000002 68656c6c",
+    b"00000006 40000001 000003e8 00000002 6f",
+    b"00000008 e0000002 0000ea60 00000002 6d32",
+    b"80000000 00000000 00000000 00000000 00000004 00000001 00000005 00000030 00000004 00000001 00000002 00000000 0a000009 00000000 00000000 00000000",
+    b"80000000 00000000 00000bb8 00000002 00000004 00000001 00000005 00000030 00000004 ffffffff 00000003 00000000 0a000008 00000000 00000000 00000000",
+    b"80010000 00000000 00000000 00000002",
+    b"80020000 00000000 00000040 00000001 00000040",
+    b"80020000 00000003 00000000 00000001 00000007 000186a0 0000c350 00000002",
+    b"80020000 00000001 00002710 00000001 00000007 000186a0 0000c350 00000002 00000000 00000000",
+    b"80030000 00000000 00000000 00000001 00000002 80000006 0000000b 0000000e",
+    b"80030000 00000000 00000000 00000001 ffffffff 00000000 80000000 3fffffff",
+    b"80050000 00000000 000003e8 00000002",
+    b"80060000 00000001 00004e20 00000002",
+    b"80070000 00000001 0000ea60 00000002 00000005 00000007",
 ];
 
-const O: [u8; 17] = [0, 0, 0, 6, 0x40, 0, 0, 1, 0, 0, 3, 0xe8, 0, 0, 0, 2, 0x6f];
+// Other spellings, and what is written of the same packets: reserved bits and words that tell
+// nothing, bytes behind, acknowledgements of 15, 23 and 25 bytes, first bits of packet numbers, a
+// long message number, a range with equal ends, ranges in another order.
+const LENIENT: [(&[u8], &[u8]); 11] = [
+    (
+        b"80010000 00000000 00000000 00000002 00",
+        b"80010000 00000000 00000000 00000002",
+    ),
+    (
+        b"8001ffff 00000009 00000000 00000002",
+        b"80010000 00000000 00000000 00000002",
+    ),
+    (
+        b"8005abcd 00000009 000003e8 00000002 0102",
+        b"80050000 00000000 000003e8 00000002",
+    ),
+    (
+        b"80060001 00000001 00004e20 00000002 ff",
+        b"80060000 00000001 00004e20 00000002",
+    ),
+    (
+        b"80000001 00000009 00000000 00000000 00000004 00000001 80000005 00000030 00000004 00000001 00000002 00000000 0a000009 00000000 00000000 00000000 07",
+        b"80000000 00000000 00000000 00000000 00000004 00000001 00000005 00000030 00000004 00000001 00000002 00000000 0a000009 00000000 00000000 00000000",
+    ),
+    (
+        b"80020000 00000001 00002710 00000001 80000007 000186a0 0000c350 000000",
+        b"80020000 00000001 00002710 00000001 00000007",
+    ),
+    (
+        b"80020000 00000001 00002710 00000001 80000007 000186a0 0000c350 00000002 00000000 000000",
+        b"80020000 00000001 00002710 00000001 00000007 000186a0 0000c350 00000002",
+    ),
+    (
+        b"80020000 00000001 00002710 00000001 80000007 000186a0 0000c350 00000002 00000000 00000000 00",
+        b"80020000 00000001 00002710 00000001 00000007 000186a0 0000c350 00000002 00000000 00000000",
+    ),
+    (
+        b"80070000 20000001 0000ea60 00000002 80000005 80000007 00",
+        b"80070000 00000001 0000ea60 00000002 00000005 00000007",
+    ),
+    (
+        b"80030000 00000009 00000000 00000001 80000006 00000006",
+        b"80030000 00000000 00000000 00000001 00000006",
+    ),
+    (
+        b"80030000 00000000 00000000 00000001 0000000e 80000006 0000000b 0000000e",
+        b"80030000 00000000 00000000 00000001 0000000e 80000006 0000000b 0000000e",
+    ),
+];
 
-// The packet is written at the front of other bytes and behind others, and read again.
-fn goes_there_and_back(
+// Bytes that are no packet, and why.
+const REFUSED: [(&[u8], Malformed); 15] = [
+    (b"", Malformed::TooShort),
+    (b"80010000 00000000 00000000 000000", Malformed::TooShort),
+    (
+        b"80040000 00000000 00000000 00000002",
+        Malformed::UnknownType,
+    ),
+    (
+        b"80080000 00000000 00000000 00000002",
+        Malformed::UnknownType,
+    ),
+    (
+        b"ffff0000 00000000 00000000 00000002",
+        Malformed::UnknownType,
+    ),
+    (
+        b"80000000 00000000 00000000 00000000 00000004 00000001 00000005 00000030 00000004 00000001 00000002 00000000 0a000009 00000000 00000000 000000",
+        Malformed::BadHandshakeLength,
+    ),
+    (
+        b"80030000 00000000 00000000 00000001",
+        Malformed::BadNakRange,
+    ),
+    (
+        b"80030000 00000000 00000000 00000001 00000002 00",
+        Malformed::BadNakRange,
+    ),
+    (
+        b"80030000 00000000 00000000 00000001 00000002 80000006",
+        Malformed::BadNakRange,
+    ),
+    (
+        b"80030000 00000000 00000000 00000001 80000006 8000000b",
+        Malformed::BadNakRange,
+    ),
+    (
+        b"80030000 00000000 00000000 00000001 80000000 40000000",
+        Malformed::BadNakRange,
+    ),
+    (
+        b"80030000 00000000 00000000 00000001 80000006 00000005",
+        Malformed::BadNakRange,
+    ),
+    (
+        b"80070000 00000001 00000000 00000002 00000005 000000",
+        Malformed::BadDropLength,
+    ),
+    (
+        b"80020000 00000001 00000000 00000001 000000",
+        Malformed::BadAckLength,
+    ),
+    (
+        b"80020000 00000001 00000000 00000001",
+        Malformed::BadAckLength,
+    ),
+];
+
+// The bytes of hexadecimal digits, in pairs.
+fn bytes_of(alloc: Global, text: &[u8]) -> Result<Vec<u8>, AllocError> {
+    let mut bytes = Vec::new(alloc);
+    let mut high: Option<u8> = None;
+    for c in text {
+        let digit = match *c {
+            b'0'..=b'9' => *c - b'0',
+            b'a'..=b'f' => *c - b'a' + 10,
+            _ => continue,
+        };
+        match high {
+            None => high = Some(digit << 4),
+            Some(half) => {
+                bytes.push(half | digit)?;
+                high = None;
+            }
+        }
+    }
+    Ok(bytes)
+}
+
+// The bytes are read, and the packet is written at the front of other bytes and behind others.
+fn is_written_as(
     rt: &impl Abort,
     alloc: Global,
-    packet: Packet,
     bytes: &[u8],
-) -> Result<(), Fail>
-    requires { IsInRange (packet_of packet) }
-{
-    assert_eq!(rt; size(&packet), bytes.len());
-    let mut into = [0xaa; 32];
+    spelling: &[u8],
+) -> Result<(), Fail> {
+    assert_eq!(rt; target(bytes), target(spelling));
+    let packet = read(bytes).ok().ok_or("no packet")?;
+    assert_eq!(rt; size(&packet), spelling.len());
+    let mut into = [0xaa; 96];
     assert!(rt; size(&packet) < into.len());
     let end = write(&packet, &mut into);
-    assert_eq!(rt; end, bytes.len());
-    assert_eq!(rt; &into[..end], bytes);
+    assert_eq!(rt; &into[..end], spelling);
     assert_eq!(rt; into[end], 0xaa);
-    let mut list = Vec::with_capacity(alloc, 32)?;
+    let mut list = Vec::with_capacity(alloc, 96)?;
     list.push(0xbb)?;
     assert!(rt; list.len() + size(&packet) <= list.capacity());
     append(&packet, &mut list);
     assert_eq!(rt; list[0], 0xbb);
-    assert_eq!(rt; &list[1..], bytes);
-    assert_eq!(rt; read(bytes), Ok(packet));
-    assert_eq!(rt; target(bytes), Some(2));
+    assert_eq!(rt; &list[1..], spelling);
     Ok(())
 }
 
 #[test]
-fn blocks_are_written_and_read(rt: HostRuntime) -> Result<(), Fail> {
-    let flags = Flags {
-        first: true,
-        last: false,
-        order: false,
-        message: 1,
-    };
-    let packet = Packet::Block {
-        seq: 5,
-        flags,
-        stamp: 1000,
-        dest: 2,
-        bytes: b"hell",
-    };
-    goes_there_and_back(&rt, rt.alloc(), packet, &HELL)?;
-    let flags = Flags {
-        first: false,
-        last: true,
-        order: false,
-        message: 1,
-    };
-    let packet = Packet::Block {
-        seq: 6,
-        flags,
-        stamp: 1000,
-        dest: 2,
-        bytes: b"o",
-    };
-    goes_there_and_back(&rt, rt.alloc(), packet, &O)?;
-    for len in 0..16u32 {
-        assert_eq!(rt;
-            read(&O[..len as usize]),
-            Err(Malformed::TooShort),
-            "of {len}"
-        );
-        assert_eq!(rt; target(&O[..len as usize]), None, "of {len}");
+fn packets_are_read_and_written(rt: HostRuntime) -> Result<(), Fail> {
+    for text in WRITTEN {
+        let bytes = bytes_of(rt.alloc(), text)?;
+        is_written_as(&rt, rt.alloc(), &bytes, &bytes)?;
     }
-    let mut control = O;
-    control[0] = 0x80;
-    assert_eq!(rt; read(&control), Err(Malformed::UnknownType));
+    for (text, written) in LENIENT {
+        let bytes = bytes_of(rt.alloc(), text)?;
+        let spelling = bytes_of(rt.alloc(), written)?;
+        is_written_as(&rt, rt.alloc(), &bytes, &spelling)?;
+    }
+    for (text, why) in REFUSED {
+        let bytes = bytes_of(rt.alloc(), text)?;
+        assert_eq!(rt; read(&bytes).err(), Some(why));
+    }
+    Ok(())
+}
+
+#[test]
+fn lost_numbers_are_taken_in_their_order(rt: HostRuntime) -> Result<(), Fail> {
+    let mut field = Vec::with_capacity(rt.alloc(), 24)?;
+    for (first, last) in [(2, 2), (6, 11), (14, 14)] {
+        assert!(rt; first < 2_147_483_648 && field.len() + 8 <= field.capacity());
+        append_range(first, last, &mut field);
+    }
+    assert_eq!(rt; field.len(), 16);
+    let mut ranges = NakRanges::over(&field).ok_or("no ranges")?;
+    assert_eq!(rt; ranges.next(), Some((2, 2)));
+    assert_eq!(rt; ranges.next(), Some((6, 11)));
+    assert_eq!(rt; ranges.next(), Some((14, 14)));
+    assert_eq!(rt; ranges.next(), None);
+    assert!(rt; NakRanges::over(&field[..8]).is_none());
     Ok(())
 }

@@ -8,6 +8,9 @@ ghost use Rattle.udt_model.specs.Wire.{word};
 /// How many bytes stand before the bytes of a block, or the fields of a control packet.
 pub const HEADER: usize = 16;
 
+/// How many packet numbers there are, before they begin again.
+const NUMBERS: u32 = 1 << 31;
+
 /// The big-endian word at this place.
 pub fn word_at(bytes: &[u8], place: usize) -> u32
     requires { place + 4 ≤ length bytes.now }
@@ -21,9 +24,35 @@ pub fn word_at(bytes: &[u8], place: usize) -> u32
     ])
 }
 
+/// The packet number at this place, whose first bit tells nothing.
+pub fn number_at(bytes: &[u8], place: usize) -> u32
+    requires { place + 4 ≤ length bytes.now }
+    ensures { result ≡ wire.number_at place bytes.now }
+{
+    word_at(bytes, place) % NUMBERS
+}
+
+/// The bytes from this place on.
+pub fn behind(bytes: &[u8], place: usize) -> &[u8]
+    requires { place ≤ length bytes.now }
+    ensures { result.now ≡ drop place bytes.now }
+{
+    let (_, rest) = bytes.split_at(place);
+    rest
+}
+
+/// Two words, one behind the other.
+pub fn two(first: u32, second: u32) -> [u8; 8]
+    ensures { result ≡ word first ++ word second }
+{
+    let a = first.to_be_bytes();
+    let b = second.to_be_bytes();
+    [a[0], a[1], a[2], a[3], b[0], b[1], b[2], b[3]]
+}
+
 /// Four words, one behind the other.
-pub fn header(first: u32, second: u32, third: u32, fourth: u32) -> [u8; 16]
-    ensures { result ≡ word first ++ word second ++ word third ++ word fourth }
+pub fn four(first: u32, second: u32, third: u32, fourth: u32) -> [u8; 16]
+    ensures { result ≡ wire.header first second third fourth }
 {
     let a = first.to_be_bytes();
     let b = second.to_be_bytes();
@@ -46,13 +75,11 @@ pub fn put(into: &mut [u8], place: usize, bytes: &[u8]) -> usize
     end
 }
 
-/// Adds a header and the bytes behind it, within the room that there is.
-#[tactic(auto, using(std::proofs::Common::append_assoc))]
-pub fn extend(into: &mut Vec<u8>, header: &[u8], rest: &[u8])
-    requires { vec_len into.old + (length header.now + length rest.now) ≤ vec_capacity into.old }
-    ensures items { into.new.items ≡ into.old.items ++ (header.now ++ rest.now) }
+/// Adds the bytes, within the room that there is.
+pub fn extend(into: &mut Vec<u8>, bytes: &[u8])
+    requires { vec_len into.old + length bytes.now ≤ vec_capacity into.old }
+    ensures items { into.new.items ≡ into.old.items ++ bytes.now }
     ensures capacity { vec_capacity into.old ≤ vec_capacity into.new }
 {
-    let _ = into.extend_from_slice(header);
-    let _ = into.extend_from_slice(rest);
+    let _ = into.extend_from_slice(bytes);
 }

@@ -2,12 +2,77 @@
 
 ghost use Rattle.std.specs.Prelude.{◌≡◌, ◌≤◌, ◌++◌, length, drop};
 ghost use Rattle.std.specs.Vec.{vec_capacity};
-ghost use Rattle.udt_model.specs.Wire.{IsInRange};
-ghost use Rattle.udt_packet.specs.Packets.{packet_of, spelled};
+ghost use Rattle.udt_model.specs.Wire as wire;
+ghost use Rattle.udt_packet.specs.Packets.{packet_of, spelled, IsWritable};
 
 use crate::flags::flags_word;
 use crate::packet::Packet;
-use crate::words::{HEADER, extend, header, put};
+use crate::short::short_field;
+use crate::words::{HEADER, extend, four, put};
+use udt_model::{AckBody, Shake};
+
+/// The first bit of a control packet.
+const CONTROL: u32 = 1 << 31;
+
+/// The place of a control packet's type.
+const TYPE: u32 = 1 << 16;
+
+/// The four words that the packet begins with.
+fn header_of(packet: &Packet) -> [u8; 16]
+    requires { IsWritable packet.now }
+    ensures { result ≡ wire.header_of (packet_of packet.now) }
+{
+    match packet {
+        Packet::Block {
+            seq,
+            flags,
+            stamp,
+            dest,
+            ..
+        } => four(*seq, flags_word(*flags), *stamp, *dest),
+        Packet::Handshake { stamp, dest, .. } => four(CONTROL, 0, *stamp, *dest),
+        Packet::KeepAlive { stamp, dest } => four(CONTROL + TYPE, 0, *stamp, *dest),
+        Packet::Ack {
+            number,
+            stamp,
+            dest,
+            ..
+        } => four(CONTROL + 2 * TYPE, *number, *stamp, *dest),
+        Packet::Nak { stamp, dest, .. } => four(CONTROL + 3 * TYPE, 0, *stamp, *dest),
+        Packet::Shutdown { stamp, dest } => four(CONTROL + 5 * TYPE, 0, *stamp, *dest),
+        Packet::Ack2 {
+            number,
+            stamp,
+            dest,
+        } => four(CONTROL + 6 * TYPE, *number, *stamp, *dest),
+        Packet::DropAsk {
+            message,
+            stamp,
+            dest,
+            ..
+        } => four(CONTROL + 7 * TYPE, *message, *stamp, *dest),
+    }
+}
+
+/// How many bytes a handshake has behind its header.
+fn shake_size(shake: &Shake) -> usize
+    ensures value { result ≡ length (wire.shake_bytes shake.now) }
+    ensures bound { result ≤ 48 }
+{
+    let address: &[u8] = &shake.address;
+    32 + address.len()
+}
+
+/// How many bytes an acknowledgement has behind its header.
+fn ack_size(body: &AckBody) -> usize
+    ensures { result ≡ length (wire.ack_bytes body.now) }
+{
+    match body {
+        AckBody::Light { .. } => 4,
+        AckBody::Buffer { .. } => 16,
+        AckBody::Full { .. } => 24,
+    }
+}
 
 /// How many bytes spell the packet.
 #[tactic(auto, unfolding(udt_model::specs::Wire::spelling))]
@@ -16,6 +81,11 @@ pub fn size(packet: &Packet) -> usize
 {
     match packet {
         Packet::Block { bytes, .. } => HEADER + bytes.len(),
+        Packet::Handshake { shake, .. } => HEADER + shake_size(shake),
+        Packet::Ack { body, .. } => HEADER + ack_size(body),
+        Packet::Nak { ranges, .. } => HEADER + ranges.size(),
+        Packet::DropAsk { .. } => HEADER + 8,
+        _ => HEADER,
     }
 }
 
@@ -23,21 +93,15 @@ pub fn size(packet: &Packet) -> usize
 #[tactic(auto, unfolding(udt_model::specs::Wire::spelling))]
 pub fn write(packet: &Packet, into: &mut [u8]) -> usize
     requires fits { length (spelled packet.now) ≤ length into.old }
-    requires in_range { IsInRange (packet_of packet.now) }
+    requires in_range { IsWritable packet.now }
     ensures value { result ≡ length (spelled packet.now) }
     ensures after { into.new ≡ spelled packet.now ++ drop result into.old }
 {
+    let place = put(into, 0, &header_of(packet));
     match packet {
-        Packet::Block {
-            seq,
-            flags,
-            stamp,
-            dest,
-            bytes,
-        } => {
-            let place = put(into, 0, &header(*seq, flags_word(*flags), *stamp, *dest));
-            put(into, place, bytes)
-        }
+        Packet::Block { bytes, .. } => put(into, place, bytes),
+        Packet::Nak { ranges, .. } => ranges.put(into, place),
+        _ => put(into, place, short_field(packet).as_slice()),
     }
 }
 
@@ -46,23 +110,14 @@ pub fn write(packet: &Packet, into: &mut [u8]) -> usize
 #[tactic(auto, unfolding(udt_model::specs::Wire::spelling))]
 pub fn append(packet: &Packet, into: &mut Vec<u8>)
     requires room { length (into.old.items ++ spelled packet.now) ≤ vec_capacity into.old }
-    requires in_range { IsInRange (packet_of packet.now) }
+    requires in_range { IsWritable packet.now }
     ensures items { into.new.items ≡ into.old.items ++ spelled packet.now }
     ensures capacity { vec_capacity into.old ≤ vec_capacity into.new }
 {
+    extend(into, &header_of(packet));
     match packet {
-        Packet::Block {
-            seq,
-            flags,
-            stamp,
-            dest,
-            bytes,
-        } => {
-            extend(
-                into,
-                &header(*seq, flags_word(*flags), *stamp, *dest),
-                bytes,
-            )
-        }
+        Packet::Block { bytes, .. } => extend(into, bytes),
+        Packet::Nak { ranges, .. } => ranges.append(into),
+        _ => extend(into, short_field(packet).as_slice()),
     }
 }

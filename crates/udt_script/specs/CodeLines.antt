@@ -24,7 +24,10 @@ line_of (code.Pair pairing) = model.PairLine (pairing_of pairing)
 line_of (code.Send name now bytes) = model.SendLine name.now now bytes.items
 line_of (code.Recv name now room) = model.RecvLine name.now now room
 line_of (code.Pack name now) = model.PackLine name.now now
+line_of (code.Tick name now) = model.TickLine name.now now
+line_of (code.Close name now) = model.CloseLine name.now now
 line_of (code.Deliver number now) = model.DeliverLine number now
+line_of (code.Raw now from to bytes) = model.RawLine now from to bytes.items
 
 -- the numbers of a pairing are such as a pair of sockets may have
 pub record IsPairable (p : Pairing) : Type 0 where
@@ -42,4 +45,7 @@ IsInRange (code.Pair pairing) = IsPairable pairing
 IsInRange (code.Send name now bytes) = now ≤ LAST_MOMENT
 IsInRange (code.Recv name now room) = (now ≤ LAST_MOMENT) × (room ≤ 65536)
 IsInRange (code.Pack name now) = now ≤ LAST_MOMENT
+IsInRange (code.Tick name now) = now ≤ LAST_MOMENT
+IsInRange (code.Close name now) = now ≤ LAST_MOMENT
 IsInRange (code.Deliver number now) = now ≤ LAST_MOMENT
+IsInRange (code.Raw now from to bytes) = now ≤ LAST_MOMENT

@@ -1,5 +1,7 @@
 // The forms of a script's lines.
 
+use udt_model::Addr;
+
 /// Two stream sockets that are to be paired: their names, the bytes of a block, the initial number,
 /// how many blocks each keeps each way, and the offset at which both directions begin.
 #[derive(Clone, Copy, Debug, PartialEq, Eq)]
@@ -12,8 +14,9 @@ pub struct Pairing<'a> {
     pub start: u64,
 }
 
-/// What a line says: nothing, a pair of sockets, a call of a named socket, or the arrival of a
-/// datagram by the number under which it was printed. Moments are in microseconds.
+/// What a line says: nothing, a pair of sockets, a call of a named socket, the arrival of a
+/// datagram by the number under which it was printed, or that of any bytes, from any address to
+/// any. Moments are in microseconds.
 #[derive(Debug, PartialEq, Drop)]
 pub enum Line<'a> {
     Silent,
@@ -32,8 +35,22 @@ pub enum Line<'a> {
         name: &'a [u8],
         now: u64,
     },
+    Tick {
+        name: &'a [u8],
+        now: u64,
+    },
+    Close {
+        name: &'a [u8],
+        now: u64,
+    },
     Deliver {
         number: u64,
         now: u64,
+    },
+    Raw {
+        now: u64,
+        from: Addr,
+        to: Addr,
+        bytes: Vec<u8>,
     },
 }

@@ -2,7 +2,7 @@
 
 ghost use Rattle.std.specs.Prelude.{◌≡◌, ◌+◌, ◌++◌, ◌<◌, ◌^◌, take, vec_len, codes, OnOk, OnErr};
 ghost use Rattle.udt_model.specs.Addresses.{address_text};
-ghost use Rattle.udt_model.specs.Step.{Sent, Received, DidPack, DidHear};
+ghost use Rattle.udt_model.specs.Step.{Sent, Received, DidPack, DidTick, DidClose, DidHear};
 ghost use Rattle.udt_model.specs.Script.{event_text, letter_text, pair_text, refused_at, ended};
 ghost use Rattle.udt_script.specs.CodeAnswers.{read_of};
 ghost use Rattle.udt_script.specs.CodeLines.{pairing_of};
@@ -70,6 +70,24 @@ pub fn print_packed(out: &mut Vec<u8>, name: &[u8], answer: Packed) -> Result<()
         }
         Packed::Nothing => append_event(out, name, b"pack ", b"nothing"),
     }
+}
+
+/// That the socket with this name ticked.
+#[tactic(auto, unfolding(udt_model::specs::Script::event_text))]
+pub fn print_ticked(out: &mut Vec<u8>, name: &[u8]) -> Result<(), AllocError>
+    ensures ok { OnOk result (out.new.items ≡ out.old.items ++ event_text name.now DidTick) }
+    ensures err { OnErr result (take (vec_len out.old) out.new.items ≡ out.old.items) }
+{
+    append_event(out, name, b"tick", b"")
+}
+
+/// That the socket with this name was closed.
+#[tactic(auto, unfolding(udt_model::specs::Script::event_text))]
+pub fn print_closed(out: &mut Vec<u8>, name: &[u8]) -> Result<(), AllocError>
+    ensures ok { OnOk result (out.new.items ≡ out.old.items ++ event_text name.now DidClose) }
+    ensures err { OnErr result (take (vec_len out.old) out.new.items ≡ out.old.items) }
+{
+    append_event(out, name, b"close", b"")
 }
 
 /// What became of a datagram that arrived at the socket with this name.

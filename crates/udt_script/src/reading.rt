@@ -8,6 +8,7 @@ use crate::lines::{Line, Pairing};
 use crate::words::{bytes, name, number_within, words};
 use std::alloc::{AllocError, Global};
 use udt_model::{FEWEST_BLOCKS, LAST_MOMENT, LAST_START, MOST_BLOCKS, MOST_PAYLOAD};
+use udt_outside::read_addr;
 
 fn is_silent(line: &[u8]) -> bool
     ensures { result ≡ spec.is_silent line.now }
@@ -16,6 +17,14 @@ fn is_silent(line: &[u8]) -> bool
         [] => true,
         [byte, ..] => *byte == b'#',
     }
+}
+
+// A moment, in microseconds.
+fn moment(word: &[u8]) -> Option<u64>
+    ensures value { result ≡ spec.moment_of word.now }
+    ensures within { IfSome result (λ now. now ≤ LAST_MOMENT) }
+{
+    number_within(0, LAST_MOMENT, word)
 }
 
 fn pairing<'a>(
@@ -77,7 +86,7 @@ fn send_line<'a>(
     let Some(name) = name(first) else {
         return Ok(None);
     };
-    let Some(now) = number_within(0, LAST_MOMENT, now) else {
+    let Some(now) = moment(now) else {
         return Ok(None);
     };
     let Some(bytes) = bytes(alloc, word)? else {
@@ -96,7 +105,7 @@ fn recv_line<'a>(first: &'a [u8], words: &[&'a [u8]]) -> Option<Line<'a>>
         return None;
     };
     let name = name(first)?;
-    let now = number_within(0, LAST_MOMENT, now)?;
+    let now = moment(now)?;
     let room = number_within(0, 65_536, room)? as u32;
     Some(Line::Recv { name, now, room })
 }
@@ -111,8 +120,36 @@ fn pack_line<'a>(first: &'a [u8], words: &[&'a [u8]]) -> Option<Line<'a>>
         return None;
     };
     let name = name(first)?;
-    let now = number_within(0, LAST_MOMENT, now)?;
+    let now = moment(now)?;
     Some(Line::Pack { name, now })
+}
+
+#[tactic(auto, unfolding(udt_model::specs::Lines::tick_line))]
+fn tick_line<'a>(first: &'a [u8], words: &[&'a [u8]]) -> Option<Line<'a>>
+    ensures value { option_map line_of result
+        ≡ spec.tick_line first.now (map (λ word. word.now) words.now) }
+    ensures within { IfSome result IsInRange }
+{
+    let [now] = words else {
+        return None;
+    };
+    let name = name(first)?;
+    let now = moment(now)?;
+    Some(Line::Tick { name, now })
+}
+
+#[tactic(auto, unfolding(udt_model::specs::Lines::close_line))]
+fn close_line<'a>(first: &'a [u8], words: &[&'a [u8]]) -> Option<Line<'a>>
+    ensures value { option_map line_of result
+        ≡ spec.close_line first.now (map (λ word. word.now) words.now) }
+    ensures within { IfSome result IsInRange }
+{
+    let [now] = words else {
+        return None;
+    };
+    let name = name(first)?;
+    let now = moment(now)?;
+    Some(Line::Close { name, now })
 }
 
 #[tactic(auto, unfolding(udt_model::specs::Lines::deliver_line))]
@@ -125,8 +162,41 @@ fn deliver_line<'a>(number: &'a [u8], words: &[&'a [u8]]) -> Option<Line<'a>>
         return None;
     };
     let number = number_within(0, u64::MAX, number)?;
-    let now = number_within(0, LAST_MOMENT, now)?;
+    let now = moment(now)?;
     Some(Line::Deliver { number, now })
+}
+
+#[tactic(auto, unfolding(udt_model::specs::Lines::raw_line))]
+fn raw_line<'a>(
+    alloc: Global,
+    now: &'a [u8],
+    words: &[&'a [u8]],
+) -> Result<Option<Line<'a>>, AllocError>
+    ensures value { IfOk result (λ found. option_map line_of found
+        ≡ spec.raw_line now.now (map (λ word. word.now) words.now)) }
+    ensures within { IfOk result (λ found. IfSome found IsInRange) }
+{
+    let [from, to, word] = words else {
+        return Ok(None);
+    };
+    let Some(now) = moment(now) else {
+        return Ok(None);
+    };
+    let Some(from) = read_addr(from) else {
+        return Ok(None);
+    };
+    let Some(to) = read_addr(to) else {
+        return Ok(None);
+    };
+    let Some(bytes) = bytes(alloc, word)? else {
+        return Ok(None);
+    };
+    Ok(Some(Line::Raw {
+        now,
+        from,
+        to,
+        bytes,
+    }))
 }
 
 #[tactic(auto, unfolding(udt_model::specs::Lines::line_by_words))]
@@ -145,8 +215,14 @@ fn line_by_words<'a>(alloc: Global, words: &[&'a [u8]]) -> Result<Option<Line<'a
         recv_line(first, others)
     } else if *second == b"pack".as_slice() {
         pack_line(first, others)
+    } else if *second == b"tick".as_slice() {
+        tick_line(first, others)
+    } else if *second == b"close".as_slice() {
+        close_line(first, others)
     } else if *first == b"deliver".as_slice() {
         deliver_line(second, others)
+    } else if *first == b"raw".as_slice() {
+        raw_line(alloc, second, others)?
     } else if *first == b"pair".as_slice() && *second == b"stream".as_slice() {
         pair_line(others)
     } else {

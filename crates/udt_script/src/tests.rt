@@ -1,8 +1,8 @@
 // Lines as the script language shows them.
 
 use crate::{
-    Line, Pairing, print_dropped, print_heard, print_letter, print_packed, print_pair,
-    print_received, print_refused, print_sent, read_line,
+    Line, Pairing, print_closed, print_dropped, print_heard, print_letter, print_packed,
+    print_pair, print_received, print_refused, print_sent, print_ticked, read_line,
 };
 use std::alloc::AllocError;
 use std::process::Abort;
@@ -23,7 +23,11 @@ fn reads_each_form(rt: HostRuntime) {
         start: 576_460_752_303_423_488,
         ..pairing
     };
-    let lines: [(&[u8], Line); 10] = [
+    let host = Addr {
+        ip: Ip::V4(0x0a00_0001),
+        port: 9000,
+    };
+    let lines: [(&[u8], Line); 13] = [
         (b"", Line::Silent),
         (b"# pair", Line::Silent),
         (b"pair stream a b2 8956 2147483647 2", Line::Pair(pairing)),
@@ -50,6 +54,32 @@ fn reads_each_form(rt: HostRuntime) {
             Line::Pack {
                 name: b"deliver",
                 now: 7,
+            },
+        ),
+        (
+            b"raw tick 500000",
+            Line::Tick {
+                name: b"raw",
+                now: 500_000,
+            },
+        ),
+        (
+            b"a close 1000",
+            Line::Close {
+                name: b"a",
+                now: 1000,
+            },
+        ),
+        (
+            b"raw 9007199254740991 10.0.0.1:9000 [fe80::1]:65535 -",
+            Line::Raw {
+                now: 9_007_199_254_740_991,
+                from: host,
+                to: Addr {
+                    ip: Ip::V6(0xfe80_0000_0000_0000_0000_0000_0000_0001),
+                    port: 65_535,
+                },
+                bytes: Vec::new(alloc),
             },
         ),
         (
@@ -85,7 +115,7 @@ fn reads_each_form(rt: HostRuntime) {
 
 #[test]
 fn refuses_what_is_of_no_form(rt: HostRuntime) {
-    let lines: [&[u8]; 26] = [
+    let lines: [&[u8]; 31] = [
         b" ",
         b"a",
         b"a  pack 7",
@@ -105,6 +135,11 @@ fn refuses_what_is_of_no_form(rt: HostRuntime) {
         b"a send 7 fg",
         b"a send 7 ",
         b"deliver 18446744073709551616 7",
+        b"a tick",
+        b"a close 7 7",
+        b"raw 7 10.0.0.1:9000 10.0.0.2:9000",
+        b"raw 7 10.0.0.1 10.0.0.2:9000 00",
+        b"raw 7 10.0.0.1:9000 10.0.0.2:65536 00",
         b"pair stream a b 0 5 4",
         b"pair stream a b 8957 5 4",
         b"pair stream a b 4 2147483648 4",
@@ -195,6 +230,10 @@ fn prints_the_other_lines(rt: HostRuntime) {
     };
     let printed = print_pair(&mut out, &pairing, 8);
     assert_printed(&rt, &mut out, printed, b"pair left 9 right 10\n");
+    let printed = print_ticked(&mut out, b"a");
+    assert_printed(&rt, &mut out, printed, b"a tick\n");
+    let printed = print_closed(&mut out, b"b");
+    assert_printed(&rt, &mut out, printed, b"b close\n");
     let printed = print_dropped(&mut out, b"id");
     assert_printed(&rt, &mut out, printed, b"dropped id\n");
     let printed = print_refused(&mut out, 2);

@@ -134,7 +134,8 @@ fn nibble(c: u8) -> Option<u8>
 
 /// The bytes that pairs of hexadecimal digits spell.
 fn pairs(alloc: Global, word: &[u8]) -> Result<Option<Vec<u8>>, AllocError>
-    ensures { IfOk result (λ found. option_map (λ bytes. bytes.items) found ≡ spec.pairs_of word.now) }
+    ensures { IfOk result
+        (λ found. option_map (λ bytes. bytes.items) found ≡ spec.pairs_of word.now) }
 {
     let mut bytes = Vec::new(alloc);
     let mut rest = word;
@@ -156,7 +157,8 @@ fn pairs(alloc: Global, word: &[u8]) -> Result<Option<Vec<u8>>, AllocError>
 
 /// The bytes that the word spells in hexadecimal, or a dash for none.
 pub fn bytes(alloc: Global, word: &[u8]) -> Result<Option<Vec<u8>>, AllocError>
-    ensures { IfOk result (λ found. option_map (λ bytes. bytes.items) found ≡ spec.bytes_of word.now) }
+    ensures { IfOk result
+        (λ found. option_map (λ bytes. bytes.items) found ≡ spec.bytes_of word.now) }
 {
     if word.is_empty() {
         return Ok(None);

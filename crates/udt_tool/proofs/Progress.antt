@@ -6,7 +6,7 @@ use Rattle.std.specs.Prelude.{min, nat_le, Ok, Err}
 use Rattle.udt_model.specs.declared.limits.TheConstants.{LONGEST_SCRIPT}
 use Rattle.udt_model.specs.declared.scripts.ControlName.{ControlName}
 use Rattle.udt_model.specs.Script.{Played, pieces_of, line_in, played, played_from, then_played, refused_at, piece_printed, size_of}
-use Rattle.udt_tool.specs.declared.world.LineNo.TheVariants.{Refused}
+use Rattle.udt_world.specs.declared.world.LineNo.TheVariants.{Refused}
 use Rattle.udt_tool.specs.Plays.{AnswersPiece, AcceptsPiece, RefusesPiece}
 use Rattle.udt_tool.proofs.Pieces.{no_pieces}
 

@@ -1,9 +1,3 @@
-pub mod Seats
-pub mod Done
-pub mod ScriptLines
-pub mod Kept
-pub mod PrefixKept
-pub mod Worlds
 pub mod Plays
 pub mod Streamed
 pub mod Commands

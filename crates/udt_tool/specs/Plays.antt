@@ -2,9 +2,9 @@
 use Rattle.std.specs.Prelude.{◌≡◌, ℕ, List, [], ◌∷◌, ◌++◌, Option, Some, None, Result, Ok, Err}
 use Rattle.udt_model.specs.Script.{Played, piece_printed, line_in}
 use Rattle.udt_tool.specs.declared.play.Output.{Output}
-use Rattle.udt_tool.specs.declared.world.LineNo.{LineNo}
-use Rattle.udt_tool.specs.declared.world.LineNo.TheVariants.{Refused, OutOfMemory}
-use Rattle.udt_tool.specs.ScriptLines.{LosesLine}
+use Rattle.udt_world.specs.declared.world.LineNo.{LineNo}
+use Rattle.udt_world.specs.declared.world.LineNo.TheVariants.{Refused, OutOfMemory}
+use Rattle.udt_world.specs.ScriptLines.{LosesLine}
 
 -- a played script, as its definition gives it
 abbrev pub played_of : Output → Played

@@ -1,14 +1,11 @@
 //! The commands of the program, over sources and sinks of bytes.
 #![tactic(auto)]
 
-mod calls;
-mod network;
 mod offline;
 mod play;
 mod streams;
 #[cfg(test)]
 mod tests;
-mod world;
 
 pub use offline::{
     DONE, NO_COMMAND, OUT_OF_MEMORY, REFUSED, SINK_FAILED, SOURCE_FAILED, run_offline, run_plain,

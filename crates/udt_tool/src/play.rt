@@ -7,11 +7,11 @@ ghost use Rattle.udt_model.specs.declared.scripts.ControlName.TheVariants.{Nativ
 ghost use Rattle.udt_model.specs.Script.{pieces_of, line_in, played, size_of};
 ghost use Rattle.udt_tool.specs.Plays.{played_of, AnswersPiece};
 
-use crate::world::{LineNo, World};
 use std::alloc::Global;
 use udt_model::LONGEST_SCRIPT;
 use udt_outside::OutOfMemory;
 use udt_script::print_refused;
+use udt_world::{LineNo, World};
 
 /// What a script prints, and whether a line of it was refused.
 #[derive(Drop)]
@@ -63,13 +63,7 @@ fn first_piece<'a>(text: &'a [u8]) -> (&'a [u8], &'a [u8])
 }
 
 /// Plays one piece behind the lines that were accepted, of this size together.
-fn play_piece(
-    alloc: Global,
-    world: &mut World,
-    size: u64,
-    piece: &[u8],
-    out: &mut Vec<u8>,
-) -> Result<(), LineNo>
+fn play_piece(world: &mut World, size: u64, piece: &[u8], out: &mut Vec<u8>) -> Result<(), LineNo>
     requires size { ForSome world.old (λ lines. size ≡ size_of lines) }
     requires bound { size ≤ LONGEST_SCRIPT + 1 }
     requires fits { length piece.now ≤ LONGEST_SCRIPT + 1 }
@@ -78,7 +72,7 @@ fn play_piece(
     if size + piece.len() as u64 > LONGEST_SCRIPT {
         return Err(LineNo::Refused);
     }
-    world.line(alloc, line_in(piece), out)
+    world.line(line_in(piece), out)
 }
 
 /// Plays a script: the text that it prints, up to the first line that is refused.
@@ -95,7 +89,7 @@ pub fn play(alloc: Global, text: &[u8]) -> Result<Output, OutOfMemory>
     let mut size: u64 = 0;
     while rest.len() > 0 {
         let (piece, others) = first_piece(rest);
-        match play_piece(alloc, &mut world, size, piece, &mut out) {
+        match play_piece(&mut world, size, piece, &mut out) {
             Ok(()) => {}
             Err(LineNo::OutOfMemory) => return Err(OutOfMemory),
             Err(LineNo::Refused) => {

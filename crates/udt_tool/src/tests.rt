@@ -156,6 +156,148 @@ fn replays_scripts(rt: HostRuntime) {
 }
 
 #[test]
+fn replays_acknowledgement_silence_and_closing(rt: HostRuntime) {
+    let pair: &[u8] = b"pair stream a b 4 5 4\n";
+    let paired: &[u8] = b"pair a 1 b 2\n";
+    let hello: &[u8] = b"a send 1000 68656c6c6f\na pack 1000\na pack 1000\n";
+    let packed: &[u8] = b"a send 5\n\
+        a pack data\n\
+        datagram 0 10.0.0.1:9000 10.0.0.2:9000 0000000580000001000003e80000000268656c6c\n\
+        a pack data\n\
+        datagram 1 10.0.0.1:9000 10.0.0.2:9000 0000000640000001000003e8000000026f\n";
+    let acknowledges: &[u8] = b"deliver 0 2000\n\
+        deliver 1 3000\n\
+        b tick 10000\n\
+        deliver 2 20000\n\
+        raw 21000 10.0.0.2:9000 10.0.0.1:9000 8002000000000000000052080000000100000009\n\
+        raw 21000 10.0.0.2:9000 10.0.0.1:9000 8002000000000000000052080000000100000005\n\
+        b recv 21000 10\n";
+    let acknowledged: &[u8] = b"b arrive placed\n\
+        b arrive placed\n\
+        b tick\n\
+        datagram 2 10.0.0.2:9000 10.0.0.1:9000 8002000000000001000027100000000100000007000186a00000c350000000020000000000000000\n\
+        a arrive ack\n\
+        a arrive stale\n\
+        a arrive stale\n\
+        b recv 68656c6c6f\n";
+    let sends_again: &[u8] = b"a tick 499999\n\
+        a pack 499999\n\
+        a tick 500000\n\
+        a pack 500000\n";
+    let sent_again: &[u8] = b"a tick\n\
+        a pack nothing\n\
+        a tick\n\
+        a pack data\n\
+        datagram 2 10.0.0.1:9000 10.0.0.2:9000 00000005800000010007a1200000000268656c6c\n";
+    let closes: &[u8] = b"a send 0 010203\n\
+        a pack 0\n\
+        deliver 0 0\n\
+        a close 1000\n\
+        a send 1000 04\n\
+        a tick 1000\n\
+        deliver 1 2000\n\
+        b recv 3000 10\n\
+        b recv 3000 10\n";
+    let closed: &[u8] = b"a send 3\n\
+        a pack data\n\
+        datagram 0 10.0.0.1:9000 10.0.0.2:9000 00000005c00000010000000000000002010203\n\
+        b arrive placed\n\
+        a close\n\
+        a send refused 2002\n\
+        a tick\n\
+        datagram 1 10.0.0.1:9000 10.0.0.2:9000 8005000000000000000003e800000002\n\
+        b arrive shutdown\n\
+        b recv 010203\n\
+        b recv refused 2001 shutdown\n";
+    let near: &[u8] = b"pair stream a b 1 0 4 2147483658\n\
+        raw 1 10.0.0.1:9000 10.0.0.2:9000 00000009c0000001000000000000000200\n\
+        raw 1 10.0.0.1:9000 10.0.0.2:9000 40000009c0000001000000000000000200\n\
+        raw 1 10.0.0.1:9000 10.0.0.2:9000 4000000ac0000001000000000000000200\n\
+        raw 1 10.0.0.1:9000 10.0.0.2:9000 4000000bc0000001000000000000000200\n\
+        raw 1 10.0.0.1:9000 10.0.0.2:9000 0000000ac0000001000000000000000200\n";
+    let read_near: &[u8] = b"pair a 1 b 2\n\
+        b arrive below\n\
+        b arrive above\n\
+        b arrive above\n\
+        b arrive below\n\
+        b arrive placed\n";
+    let waits: &[u8] = b"pair stream a b 4 5 4\n\
+        a tick 500000\n\
+        a tick 1420000\n\
+        a tick 2800000\n\
+        a tick 4640000\n\
+        a tick 6940000\n\
+        a tick 9700000\n\
+        a tick 12920000\n\
+        a tick 16600000\n\
+        a tick 20740000\n\
+        a tick 25340000\n\
+        a tick 30400000\n\
+        a tick 35920000\n\
+        a tick 41900000\n\
+        a tick 48340000\n\
+        a tick 55240000\n\
+        a tick 62600000\n\
+        a tick 70419999\n\
+        a tick 70420000\n\
+        a recv 70420000 1\n\
+        a send 70420000 00\n";
+    let waited: &[u8] = b"pair a 1 b 2\n\
+        a tick\n\
+        datagram 0 10.0.0.1:9000 10.0.0.2:9000 80010000000000000007a12000000002\n\
+        a tick\n\
+        datagram 1 10.0.0.1:9000 10.0.0.2:9000 80010000000000000015aae000000002\n\
+        a tick\n\
+        datagram 2 10.0.0.1:9000 10.0.0.2:9000 8001000000000000002ab98000000002\n\
+        a tick\n\
+        datagram 3 10.0.0.1:9000 10.0.0.2:9000 80010000000000000046cd0000000002\n\
+        a tick\n\
+        datagram 4 10.0.0.1:9000 10.0.0.2:9000 80010000000000000069e56000000002\n\
+        a tick\n\
+        datagram 5 10.0.0.1:9000 10.0.0.2:9000 8001000000000000009402a000000002\n\
+        a tick\n\
+        datagram 6 10.0.0.1:9000 10.0.0.2:9000 800100000000000000c524c000000002\n\
+        a tick\n\
+        datagram 7 10.0.0.1:9000 10.0.0.2:9000 800100000000000000fd4bc000000002\n\
+        a tick\n\
+        datagram 8 10.0.0.1:9000 10.0.0.2:9000 8001000000000000013c77a000000002\n\
+        a tick\n\
+        datagram 9 10.0.0.1:9000 10.0.0.2:9000 80010000000000000182a86000000002\n\
+        a tick\n\
+        datagram 10 10.0.0.1:9000 10.0.0.2:9000 800100000000000001cfde0000000002\n\
+        a tick\n\
+        datagram 11 10.0.0.1:9000 10.0.0.2:9000 80010000000000000224188000000002\n\
+        a tick\n\
+        datagram 12 10.0.0.1:9000 10.0.0.2:9000 8001000000000000027f57e000000002\n\
+        a tick\n\
+        datagram 13 10.0.0.1:9000 10.0.0.2:9000 800100000000000002e19c2000000002\n\
+        a tick\n\
+        datagram 14 10.0.0.1:9000 10.0.0.2:9000 8001000000000000034ae54000000002\n\
+        a tick\n\
+        datagram 15 10.0.0.1:9000 10.0.0.2:9000 800100000000000003bb334000000002\n\
+        a tick\n\
+        a tick\n\
+        a recv refused 2001 expired\n\
+        a send refused 2001 expired\n";
+    let stories: [([&[u8]; 3], [&[u8]; 3]); 5] = [
+        ([pair, hello, acknowledges], [paired, packed, acknowledged]),
+        ([pair, hello, sends_again], [paired, packed, sent_again]),
+        ([pair, closes, b""], [paired, closed, b""]),
+        ([near, b"", b""], [read_near, b"", b""]),
+        ([waits, b"", b""], [waited, b"", b""]),
+    ];
+    let outside = Outside {
+        read_piece: 4096,
+        write_piece: 4096,
+        failing_reads: &[],
+        failing_writes: &[],
+    };
+    for (script, printed) in &stories {
+        assert_runs(&rt, rt.alloc(), outside, &["replay"], script, printed, DONE);
+    }
+}
+
+#[test]
 fn ends_early_by_faults_and_words(rt: HostRuntime) {
     let usage: &[u8] = b"usage: udt replay [CONTROL] | world N TURNS [CONTROL] \
         | pair SIZE COUNT N | recv PORT FILE COUNT | recv6 PORT FILE COUNT \

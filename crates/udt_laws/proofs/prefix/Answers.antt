@@ -1,6 +1,10 @@
--- The law is proved beside the lemmas on which it stands.
-use Rattle.udt_laws.proofs.Honest.{prefix}
+-- What is delivered and what is acknowledged are proved apart, each beside its lemmas.
+use Rattle.udt_laws.proofs.Arrived.{prefix-arrived}
+use Rattle.udt_laws.proofs.Honest.{prefix-delivered}
 use Rattle.udt_laws.proofs.prefix.Goals as goal
 
 pub returns : goal.returns
-returns c = prefix
+returns c = λ net addr socket other peer lawful honest here stream peer_is there own_is. record {
+  prefix = prefix-delivered net addr socket other peer lawful honest here peer_is there own_is;
+  acknowledged = prefix-arrived net addr socket other peer lawful honest here peer_is there own_is;
+}

@@ -5,7 +5,7 @@ use Rattle.udt_model.specs.declared.limits.TheConstants.{LONGEST_SCRIPT}
 use Rattle.udt_model.specs.declared.scripts.ControlName.TheVariants.{Native}
 use Rattle.udt_model.specs.Script.{Played, played, line_in, refused_at}
 use Rattle.udt_tool.specs.Plays.{AnswersPiece}
-use Rattle.udt_tool.specs.declared.world.LineNo.TheVariants.{Refused}
+use Rattle.udt_world.specs.declared.world.LineNo.TheVariants.{Refused}
 use Rattle.udt_tool.proofs.Progress.{starts, accepted, refused, ends, shorter_text}
 use Rattle.udt_tool.proofs.play.play.Goals as goal
 

@@ -3,10 +3,11 @@ use Rattle.std.specs.Prelude.{slice_get, vec_capacity}
 use Rattle.std.proofs.lemmas.List.Elements.{All-set}
 use Rattle.std.proofs.lemmas.Option.{slice_get_read}
 use Rattle.udt_model.specs.Receiving.{AtOffset, IsDouble, placing}
-use Rattle.udt_core.specs.declared.receiving.Cell.{Cell}
+use Rattle.udt_core.specs.declared.cell.Cell.{Cell}
 use Rattle.udt_core.specs.Cells.{IsCell}
 use Rattle.udt_core.specs.ReceiveHalf.{receiving_of}
 use Rattle.udt_core.proofs.PlaceLemmas.{placing-cell, arrival-new, arrival-double, placed-filled, same_cell, found-set}
+use Rattle.udt_core.proofs.RunLemmas.{used-set}
 use Rattle.udt_core.proofs.receiving.Receiver.on_block.Goals as goal
 use Rattle.udt_core.proofs.receiving.Receiver.on_block.Goals.{After-index}
 
@@ -111,4 +112,6 @@ invariant_of-self c =
                 }
             | inr other ↦ i.given cell other
           ];
+      run = rw f.items (used-set cells place f.block c.self.inside.run f.used i.run);
+      number = i.number;
     }

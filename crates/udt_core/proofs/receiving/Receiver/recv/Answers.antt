@@ -4,7 +4,7 @@ use Rattle.std.proofs.lemmas.List.{length-take, length-drop}
 use Rattle.udt_model.specs.declared.answers.Refusal.TheVariants as refusal
 use Rattle.udt_model.specs.State.{Receiving}
 use Rattle.udt_model.specs.Receiving.{waiting, contiguous, receive_answer, at_front}
-use Rattle.udt_core.specs.declared.receiving.Cell.{Cell}
+use Rattle.udt_core.specs.declared.cell.Cell.{Cell}
 use Rattle.udt_core.specs.Cells.{placed_from}
 use Rattle.udt_core.specs.ReceiveHalf.{receiving_of, front_of}
 use Rattle.udt_core.proofs.CellLemmas.{front-more}
@@ -131,6 +131,8 @@ loop-filled-preserved c =
         top = i.well.top;
         below = c.settle.ensures.below i.well.below;
         given = c.settle.ensures.given r.payload i.well.sound;
+        run = c.settle.ensures.run i.well.run;
+        number = i.well.number;
       };
       filled = omega (arith, count, c.loop-filled-test.true, c.loop-filled.auto.into);
       rest = drops ∙ drop_further c.loop-filled.into c.args.into.now filled n i.rest;

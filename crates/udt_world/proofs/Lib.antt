@@ -1,0 +1,4 @@
+pub mod EventLemmas
+pub mod CallLemmas
+pub mod RouteLemmas
+pub mod WorldLemmas

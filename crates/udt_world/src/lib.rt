@@ -1,0 +1,14 @@
+//! The world of a script: its sockets and the datagrams that they emitted, line by line.
+//!
+//! It does no input or output. Who owns a `World` gives it the lines one by one, and the text of
+//! each is added behind what was printed before.
+#![tactic(auto)]
+
+mod arrivals;
+mod calls;
+mod network;
+#[cfg(test)]
+mod tests;
+mod world;
+
+pub use world::{LineNo, World};
