@@ -1,161 +1,73 @@
 #!/usr/bin/env python3
-"""Gives random and mutated datagrams to the program, and compares what it answers with a second reader.
+"""Gives generated scripts to the program, and compares what it prints with a second player.
 
 usage: fuzz.py run PROGRAM [COUNT [SEED]]        plays scripts with the program, and compares what it prints
        fuzz.py cases FOLDER [COUNT [SEED]]       writes the scripts, and what they must print, into a folder
 
-Each datagram is one `raw` line of a script. What it is answered is worked out here, from the packet that the
-reader of read.py makes of its bytes: by the rules of a connected stream socket, of which this file keeps no more
-than these answers show. The reader and these rules were written from the protocol's rules and share no code with
-the program.
+Of two kinds: random and mutated datagrams, COUNT in all, each the `raw` line of one socket that also sends and
+reads; and stories, one for each 500 datagrams, of two or four sockets whose datagrams are lost, repeated, reordered
+and forged while time passes, or of one that hears nothing. What must be printed is worked out by play.py.
 """
 import os
 import random
-import struct
 import subprocess
 import sys
 
-from read import read
+from play import HOSTS, NUMBERS, PERIOD, Player, words
 
-HOSTS = ("10.0.0.1:9000", "10.0.0.2:9000")
 STRANGER = "10.0.0.9:9000"
 # (so many lines of a script print less than a mebibyte)
 LINES = 30_000
 CAPACITY = 32
 PAYLOAD = 4
-NUMBERS = 1 << 31
-
-
-def near(initial, base, number):
-    """The offset within 2^30 of the base that has this wire number, or None."""
-    ahead = (number - initial - base + (1 << 30)) % NUMBERS - (1 << 30)
-    offset = base + ahead
-    return offset if ahead > -(1 << 30) and offset >= 0 else None
-
-
-class Socket:
-    """What the answers of a connected socket show of it: b of a pair, which takes in datagrams, sends and reads."""
-
-    def __init__(self, name, own, initial, start):
-        self.name, self.own, self.initial = name, own, initial
-        self.first = self.base = self.top = self.acked = self.next = self.end = start
-        self.placed = {}
-        self.flow = CAPACITY
-        self.open = True
-
-    def send(self):
-        """Takes one block, where one is free."""
-        if not self.open:
-            return "refused 2001 shutdown"
-        if self.end - self.acked >= CAPACITY:
-            return "again"
-        self.end += 1
-        return "1"
-
-    def packs(self):
-        """Sends a block, where there is one and the windows allow it."""
-        sends = self.open and self.next < self.end and self.next - self.acked < min(self.flow, 16)
-        self.next += sends
-        return sends
-
-    def receive(self):
-        """Reads all that waits."""
-        read_now = b""
-        while self.base in self.placed:
-            read_now += self.placed.pop(self.base)
-            self.base += 1
-        if read_now:
-            return read_now.hex()
-        return "again" if self.open else "refused 2001 shutdown"
-
-    def arrive(self, sender, data):
-        """What a datagram that reaches the socket is answered."""
-        told = read(data)
-        if "malformed" in told:
-            return f"malformed {told['malformed']}"
-        kind = told["packet"]
-        if not self.open:
-            return "stale"
-        if sender != HOSTS[0] or kind != "handshake" and told["dest"] != self.own:
-            return "foreign"
-        if kind == "block":
-            return self.block(told["seq"], bytes.fromhex(told["bytes"]))
-        if kind == "ack":
-            return self.ack(told["body"])
-        if kind == "keepalive":
-            return "alive"
-        if kind == "shutdown":
-            self.open = False
-            return "shutdown"
-        return "stale"
-
-    def block(self, number, block):
-        if not 1 <= len(block) <= PAYLOAD:
-            return "badlength"
-        offset = near(self.initial, self.top, number)
-        if offset is None:
-            return "above"
-        if offset < self.base:
-            return "below"
-        if offset >= self.base + CAPACITY:
-            return "above"
-        if offset in self.placed:
-            return "double"
-        self.placed[offset] = block
-        self.top = max(self.top, offset + 1)
-        return "placed"
-
-    def ack(self, body):
-        offset = near(self.initial, self.acked, body["ack"])
-        if offset is None or not self.acked <= offset <= self.next:
-            return "stale"
-        newly = offset - self.acked
-        self.acked = offset
-        self.flow = max(2, self.flow - newly) if body["form"] == "light" else max(2, min(65536, body["buffer"]))
-        return "ack"
-
-
-def words(*numbers):
-    return struct.pack(f">{len(numbers)}I", *[it % (1 << 32) for it in numbers])
 
 
 class Script:
     """A script under way, and what it must print."""
 
     def __init__(self, chance):
-        self.chance = chance
-        self.lines, self.printed, self.datagrams = [], [], 0
-        self.pair()
+        self.chance, self.player = chance, Player()
+        self.lines, self.printed = [], []
 
-    def say(self, line, *printed):
+    def say(self, line):
         self.lines.append(line)
-        self.printed.extend(printed)
+        self.printed += self.player.line(line)
+
+    def texts(self):
+        return "\n".join(self.lines) + "\n", "\n".join(self.printed) + "\n"
+
+
+class Datagrams(Script):
+    """Datagrams of all kinds for the second socket of a pair. Another pair follows where it is shut down."""
+
+    def __init__(self, chance, count):
+        super().__init__(chance)
+        self.pair()
+        for _ in range(count):
+            if not chance.randrange(4):
+                self.say(f"{self.socket.name} {chance.choice(['send 0 aa', 'recv 0 65536', 'pack 0'])}")
+            self.datagram()
 
     def pair(self):
-        """Two new sockets, of which the second takes in what follows."""
-        own = 2 * (len([it for it in self.lines if it.startswith("pair ")]) + 1)
+        own = len(self.player.sockets) + 2
         initial = self.chance.choice([0, 5, NUMBERS - 1, self.chance.randrange(NUMBERS)])
         start = self.chance.choice([0, 0, NUMBERS - 3, (1 << 59) - 7])
-        self.socket = Socket(f"b{own}", own, initial, start)
-        self.say(f"pair stream a{own} b{own} {PAYLOAD} {initial} {CAPACITY} {start}", f"pair a{own} {own - 1} b{own} {own}")
+        self.say(f"pair stream a{own} b{own} {PAYLOAD} {initial} {CAPACITY} {start}")
+        self.socket = self.player.sockets[-1]
 
-    def call(self):
-        """Some call of the socket."""
-        s = self.socket
-        turn = self.chance.randrange(3)
-        if turn == 0:
-            self.say(f"{s.name} send 0 aa", f"{s.name} send {s.send()}")
-        elif turn == 1:
-            self.say(f"{s.name} recv 0 65536", f"{s.name} recv {s.receive()}")
-        elif s.packs():
-            number = (s.initial + s.next - 1) % NUMBERS
-            # (each block is one message of one byte, whose number is counted from 1)
-            flags = 0xC0000000 + (s.next - 1 - s.first + 1)
-            bytes_said = words(number, flags, 0, s.own - 1) + b"\xaa"
-            self.say(f"{s.name} pack 0", f"{s.name} pack data", f"datagram {self.datagrams} {HOSTS[1]} {HOSTS[0]} {bytes_said.hex()}")
-            self.datagrams += 1
-        else:
-            self.say(f"{s.name} pack 0", f"{s.name} pack nothing")
+    def datagram(self):
+        """One datagram arrives."""
+        s, chance = self.socket, self.chance
+        turn = chance.randrange(8)
+        data = chance.randbytes(chance.randrange(40)) if turn == 0 else self.likely()
+        data = self.mutated(data) if turn in (1, 2) else data
+        if turn < 3 and chance.randrange(8) and len(data) >= 16:
+            data = data[:12] + words(s.own) + data[16:]
+        sender, host = chance.choice([HOSTS[0]] * 30 + [STRANGER, HOSTS[1]]), chance.choice([HOSTS[1]] * 40 + [STRANGER])
+        self.say(f"raw 0 {sender} {host} {data.hex() or '-'}")
+        if s.phase == "broken":
+            self.say(f"{s.name} recv 0 65536")
+            self.pair()
 
     def likely(self):
         """A datagram that a peer might send: each type, with numbers at and near where the socket stands."""
@@ -210,49 +122,90 @@ class Script:
                 data += chance.randbytes(chance.randrange(1, 6))
         return bytes(data)
 
-    def datagram(self):
-        """One datagram arrives."""
-        s, chance = self.socket, self.chance
-        turn = chance.randrange(8)
-        data = chance.randbytes(chance.randrange(40)) if turn == 0 else self.likely()
-        data = self.mutated(data) if turn in (1, 2) else data
-        if turn < 3 and chance.randrange(8):
-            data = data[:12] + words(s.own) + data[16:] if len(data) >= 16 else data
-        sender, host = chance.choice([HOSTS[0]] * 30 + [STRANGER, HOSTS[1]]), chance.choice([HOSTS[1]] * 40 + [STRANGER])
-        line = f"raw 0 {sender} {host} {data.hex() or '-'}"
-        self.say(line, self.answer(s, sender, host, data))
-        if not s.open:
-            self.say(f"{s.name} recv 0 65536", f"{s.name} recv {s.receive()}")
-            self.pair()
 
-    def answer(self, s, sender, host, data):
-        if host not in HOSTS:
-            return "dropped host"
-        if len(data) < 16:
-            return "dropped short"
-        dest = struct.unpack(">I", data[12:16])[0]
-        if dest == 0:
-            return "dropped shake"
-        # (no other socket of this host is called: each earlier one is broken, and says so of all that can be read)
-        if dest > s.own or dest % 2:
-            return "dropped id"
-        if dest < s.own:
-            told = read(data)
-            return f"b{dest} arrive malformed {told['malformed']}" if "malformed" in told else f"b{dest} arrive stale"
-        return f"{s.name} arrive {s.arrive(sender, data)}"
+class Story(Script):
+    """Two or four sockets, over a network that loses, repeats, reorders and now and then forges."""
+
+    def __init__(self, chance, count):
+        super().__init__(chance)
+        self.now, self.forges = 0, chance.randrange(2)
+        # (the times between two lines: in some stories nobody is silent for long)
+        self.steps = [0, 0, 0, 1, 100, 1_000, 5_000, 10_000, 50_000, 200_000] + [500_000, 3_000_000, 60_000_000] * chance.randrange(2)
+        payload, room = chance.choice([1, 3, 4, 10]), chance.choice([2, 4, 8, 40])
+        initial = chance.choice([0, 5, NUMBERS - 1, NUMBERS - 3, chance.randrange(NUMBERS)])
+        for names in ["a b", "c d"][: chance.choice([1, 1, 2])]:
+            start = chance.choice(["", " 0", " 7", f" {NUMBERS - 2}", f" {1 << 59}"])
+            self.say(f"pair stream {names} {payload} {initial} {room}{start}")
+        for _ in range(count):
+            self.happen()
+
+    def happen(self):
+        """Time passes, and there is a call, an arrival or bytes of no socket."""
+        chance, socket = self.chance, self.chance.choice(self.player.sockets)
+        self.now += chance.choice(self.steps)
+        # (now and then a moment before the last one)
+        now = max(0, self.now - chance.choice([0] * 9 + [chance.randrange(100_000)]))
+        act = chance.choice(["send"] * 4 + ["recv"] * 3 + ["pack"] * 6 + ["tick"] * 5 + ["deliver"] * 8 + ["forge"] * self.forges)
+        if act == "send":
+            self.say(f"{socket.name} send {now} {chance.randbytes(chance.choice([0, 1, 2, 5, 9, 30])).hex() or '-'}")
+        elif act == "recv":
+            self.say(f"{socket.name} recv {now} {chance.choice([0, 1, 2, 5, 100, 65536])}")
+        elif act == "deliver":
+            self.deliver(now)
+        elif act == "forge":
+            self.forge(now, socket)
+        elif chance.randrange(500):
+            self.say(f"{socket.name} {act} {now}")
+        else:
+            self.say(f"{socket.name} close {now}")
+
+    def deliver(self, now):
+        """One of the last datagrams arrives, or one of all."""
+        sent = len(self.player.letters)
+        if sent:
+            number = self.chance.randrange(max(0, sent - 6), sent) if self.chance.randrange(5) else self.chance.randrange(sent)
+            self.say(f"deliver {number} {now}")
+
+    def forge(self, now, socket):
+        """A datagram with a bit changed, from or to elsewhere; or an acknowledgement of any offset near by."""
+        chance = self.chance
+        sender, host = chance.choice([socket.peer_host] * 9 + [STRANGER]), chance.choice([socket.host] * 9 + ["[::1]:5"])
+        if self.player.letters and chance.randrange(2):
+            data = bytearray(chance.choice(self.player.letters)[2])
+            data[chance.randrange(len(data))] ^= 1 << chance.randrange(8)
+        else:
+            number = (socket.initial + socket.acked + chance.choice([-1, 0, 1, 2, 3, 5])) % NUMBERS
+            field = [number, 5, 6, chance.choice([0, 1, 2, 3, 5, 100, 70_000]), 8, 9][: chance.choice([1, 2, 4, 5, 6])]
+            data = words(0x80020000, chance.randrange(5), 0, socket.own, *field)
+        self.say(f"raw {now} {sender} {host} {bytes(data).hex()}")
+
+
+class Silence(Script):
+    """A socket that hears nothing, with ticks about the moments at which its patience ends."""
+
+    def __init__(self, chance):
+        super().__init__(chance)
+        self.say(f"pair stream a b 4 5 {chance.choice([2, 4, 8])}")
+        a, far = self.player.sockets[0], chance.randrange(4)
+        if chance.randrange(3) == 0:
+            self.say("a send 0 0102030405")
+            self.say("a pack 0")
+        while a.phase == "connected":
+            ends = a.silent_from + max(a.silences * PERIOD, 500_000)
+            now = max(a.now, ends + chance.choice([-1, 0, 0, 0, 1, 7]))
+            if far == 0 and not chance.randrange(8):
+                now = max(a.now, a.heard + 180_000_000 + chance.choice([-1, 0, 1]))
+            self.say(f"a tick {now}")
+            self.say(chance.choice([f"a pack {now}", f"a recv {now} 1", f"a send {now} 07"]))
 
 
 def scripts(count, seed):
-    """Scripts with so many datagrams in all."""
+    """Scripts with so many datagrams in all, and stories."""
     chance = random.Random(seed)
-    while count > 0:
-        script = Script(chance)
-        for _ in range(min(count, LINES)):
-            if not chance.randrange(4):
-                script.call()
-            script.datagram()
-        count -= LINES
-        yield "\n".join(script.lines) + "\n", "\n".join(script.printed) + "\n"
+    for done in range(0, count, LINES):
+        yield Datagrams(chance, min(count - done, LINES)).texts()
+    for _ in range(count // 500):
+        yield (Story(chance, chance.choice([30, 100, 400])) if chance.randrange(8) else Silence(chance)).texts()
 
 
 def differs(said, wanted):
@@ -275,7 +228,7 @@ def main(words_given):
         ran = subprocess.run([os.path.abspath(words_given[1]), "replay"], input=script, capture_output=True, text=True)
         if ran.returncode or ran.stdout != wanted:
             sys.exit(f"part {number} of seed {seed}: status {ran.returncode}, {differs(ran.stdout, wanted)}")
-    print(f"{count} datagrams, {'no difference' if words_given[0] == 'run' else 'written'}")
+    print(f"{count} datagrams and {count // 500} stories, {'no difference' if words_given[0] == 'run' else 'written'}")
 
 
 if __name__ == "__main__":

@@ -1,0 +1,276 @@
+#!/usr/bin/env python3
+"""A second player of scripts, written from the protocol's rules and not from the code.
+
+    Player().line("pair stream a b 4 5 4") -> ["pair a 1 b 2"]
+
+As a program it plays the script of its input. It takes the lines of `replay` that are not refused, and does not
+tell a refused line from others.
+"""
+import struct
+import sys
+
+from read import read
+
+HOSTS = ("10.0.0.1:9000", "10.0.0.2:9000")
+NUMBERS = 1 << 31           # packet numbers, before they begin again
+NEAR = 1 << 30              # a number names the offset that lies less far from where its reader stands
+PACKETS = 1 << 60           # the packets that a direction may ever have
+LAST_MOMENT = (1 << 53) - 1
+ACK_INTERVAL = 10_000       # microseconds, like all times here
+RTT, VARIANCE = 100_000, 50_000
+PERIOD = 4 * RTT + VARIANCE + ACK_INTERVAL
+WINDOW = 16                 # packets that the control lets be under way
+FIRST, LAST = 1 << 31, 1 << 30
+
+
+def near(initial, base, number):
+    """The offset near the base that has this wire number, or None."""
+    ahead = (number - initial - base) % NUMBERS
+    found = [n for n in (base + ahead, base + ahead - NUMBERS) if n >= 0 and abs(n - base) < NEAR]
+    return found[0] if found else None
+
+
+def words(*numbers):
+    return struct.pack(">%dI" % len(numbers), *numbers)
+
+
+def clamped(blocks):
+    return max(2, min(65_536, blocks))
+
+
+class Socket:
+    """One socket of a pair, which is connected from its opening on."""
+
+    def __init__(self, name, own, host, peer_host, peer, payload, initial, room, start):
+        self.name, self.own, self.host, self.peer_host, self.peer = name, own, host, peer_host, peer
+        self.payload, self.initial, self.room = payload, initial, room
+        self.phase, self.cause, self.now = "connected", None, 0
+        self.heard, self.silent_from, self.silences = 0, 0, 1
+        self.acked = self.next = self.end = start
+        self.kept, self.lost, self.flow, self.message = {}, set(), clamped(room), 1
+        self.base = self.top = self.confirmed = start
+        self.placed, self.given, self.told, self.ack_due = {}, 0, None, ACK_INTERVAL
+
+    def at(self, moment):
+        """A moment never goes back."""
+        self.now = max(self.now, min(moment, LAST_MOMENT))
+
+    def cut_off(self):
+        """Why a call is refused, where the socket isn't connected."""
+        return f"refused 2001 {self.cause}" if self.phase == "broken" else "refused 2002"
+
+    def send(self, given):
+        """Takes the bytes that fit, as blocks of one message."""
+        if self.phase != "connected":
+            return self.cut_off()
+        left, free = PACKETS - self.end, self.room - (self.end - self.acked)
+        if given and left == 0:
+            return "refused 9001"
+        if given and free == 0:
+            return "again"
+        taken = given[: min(free, left) * self.payload]
+        if not taken:
+            return "0"
+        blocks = [taken[i : i + self.payload] for i in range(0, len(taken), self.payload)]
+        for i, block in enumerate(blocks):
+            flags = (FIRST if i == 0 else 0) + (LAST if i == len(blocks) - 1 else 0) + self.message
+            self.kept[self.end] = (flags, block)
+            self.end += 1
+        self.message = self.message % ((1 << 29) - 1) + 1
+        return str(len(taken))
+
+    def first_gap(self):
+        """The first offset that has not arrived."""
+        gap = self.base
+        while gap in self.placed:
+            gap += 1
+        return gap
+
+    def recv(self, room):
+        """Gives the first bytes that wait."""
+        if self.phase not in ("connected", "broken"):
+            return self.cut_off()
+        waiting = b"".join(self.placed[n] for n in range(self.base, self.first_gap()))[self.given :]
+        if room == 0:
+            return "-"
+        if not waiting:
+            return "again" if self.phase == "connected" else self.cut_off()
+        given = waiting[:room]
+        self.given += len(given)
+        while self.base in self.placed and self.given >= len(self.placed[self.base]):
+            self.given -= len(self.placed.pop(self.base))
+            self.base += 1
+        return given.hex()
+
+    def close(self):
+        self.phase = "closing" if self.phase in ("connected", "closing") else "closed"
+
+    def packet(self, first, second, *field):
+        return words(first, second, self.now % (1 << 32), self.peer, *field)
+
+    def block_out(self, offset):
+        flags, block = self.kept[offset]
+        return self.packet((self.initial + offset) % NUMBERS, flags) + block
+
+    def pack(self):
+        """The least lost block goes out first, then the next one where both windows allow it."""
+        if self.phase == "connected" and self.lost:
+            again = min(self.lost)
+            self.lost.remove(again)
+            return "data", [self.block_out(again)]
+        if self.phase == "connected" and self.next < self.end and self.next - self.acked < min(self.flow, WINDOW):
+            self.next += 1
+            return "data", [self.block_out(self.next - 1)]
+        return "nothing", []
+
+    def tick(self):
+        """What time brings: an acknowledgement, and what is done about silence."""
+        if self.phase == "closing":
+            self.phase = "closed"
+            return [self.packet(0x80050000, 0)]
+        if self.phase != "connected":
+            return []
+        return self.acknowledge() + self.watch()
+
+    def acknowledge(self):
+        if self.now < self.ack_due:
+            return []
+        self.ack_due = self.now + ACK_INTERVAL
+        gap = self.first_gap()
+        number, offset, moment = self.told or (0, None, 0)
+        if gap == self.confirmed or (gap == offset and self.now - moment < 2 * RTT):
+            return []
+        self.told = (number % (NUMBERS - 1) + 1, gap, self.now)
+        free = max(2, self.room - (gap - self.base))
+        return [self.packet(0x80020000, self.told[0], (self.initial + gap) % NUMBERS, RTT, VARIANCE, free, 0, 0)]
+
+    def watch(self):
+        if self.now < self.silent_from + max(self.silences * PERIOD, 500_000):
+            return []
+        silence = self.now - self.heard
+        if silence >= 180_000_000 or (self.silences > 16 and silence >= 3_000_000):
+            self.phase, self.cause = "broken", "expired"
+            return []
+        self.silences, self.silent_from = self.silences + 1, self.now
+        if self.next > self.acked:
+            self.lost = set(range(self.acked, self.next))
+            return []
+        return [self.packet(0x80010000, 0)]
+
+    def arrive(self, sender, data):
+        """What a datagram that reaches the socket is answered."""
+        told = read(data)
+        if "malformed" in told:
+            return f"malformed {told['malformed']}"
+        if self.phase != "connected":
+            return "stale"
+        kind = told["packet"]
+        if sender != self.peer_host or (kind != "handshake" and told["dest"] != self.own):
+            return "foreign"
+        self.heard = self.silent_from = self.now
+        self.silences = 1
+        if kind == "block":
+            return self.block_in(told["seq"], bytes.fromhex(told["bytes"]))
+        if kind == "ack":
+            return self.ack_in(told["body"])
+        if kind == "shutdown":
+            self.phase, self.cause = "broken", "shutdown"
+        return {"keepalive": "alive", "shutdown": "shutdown"}.get(kind, "stale")
+
+    def block_in(self, number, block):
+        if not 1 <= len(block) <= self.payload:
+            return "badlength"
+        offset = near(self.initial, self.top, number)
+        if offset is None or offset >= PACKETS:
+            return "above"
+        if offset < self.base:
+            return "below"
+        if offset >= self.base + self.room:
+            return "above"
+        if offset in self.placed:
+            return "double"
+        self.placed[offset] = block
+        self.top = max(self.top, offset + 1)
+        return "placed"
+
+    def ack_in(self, body):
+        offset = near(self.initial, self.acked, body["ack"])
+        if offset is None or not self.acked <= offset <= self.next:
+            return "stale"
+        newly = offset - self.acked
+        for n in range(self.acked, offset):
+            del self.kept[n]
+        self.acked = offset
+        self.lost = {n for n in self.lost if n >= offset}
+        self.flow = max(2, self.flow - newly) if body["form"] == "light" else clamped(body["buffer"])
+        return "ack"
+
+
+class Player:
+    """The sockets of a script, and the datagrams that they emitted."""
+
+    def __init__(self):
+        self.sockets, self.letters = [], []
+
+    def named(self, name):
+        return next(it for it in self.sockets if it.name == name)
+
+    def line(self, line):
+        """What a line prints, as lines."""
+        form = line.split(" ")
+        if form[0] == "pair":
+            return self.pair(form[2:4], *[int(it) for it in form[4:]])
+        if form[0] == "deliver":
+            return self.arrival(int(form[2]), *self.letters[int(form[1])])
+        if form[0] == "raw":
+            return self.arrival(int(form[1]), form[2], form[3], bytes.fromhex(form[4].replace("-", "")))
+        return self.call(self.named(form[0]), form[1], int(form[2]), form[3:])
+
+    def pair(self, names, payload, initial, room, start=0):
+        own = len(self.sockets) + 1
+        ends = [(own, HOSTS[0], HOSTS[1], own + 1), (own + 1, HOSTS[1], HOSTS[0], own)]
+        self.sockets += [Socket(name, *end, payload, initial, room, start) for name, end in zip(names, ends)]
+        return [f"pair {names[0]} {own} {names[1]} {own + 1}"]
+
+    def call(self, socket, name, moment, rest):
+        socket.at(moment)
+        outs = []
+        if name == "send":
+            answer = " " + socket.send(bytes.fromhex(rest[0].replace("-", "")))
+        elif name == "recv":
+            answer = " " + socket.recv(int(rest[0]))
+        elif name == "pack":
+            packed, outs = socket.pack()
+            answer = " " + packed
+        elif name == "tick":
+            answer, outs = "", socket.tick()
+        else:
+            answer = ""
+            socket.close()
+        return [f"{socket.name} {name}{answer}"] + [self.letter(socket, data) for data in outs]
+
+    def letter(self, socket, data):
+        self.letters.append((socket.host, socket.peer_host, data))
+        return f"datagram {len(self.letters) - 1} {socket.host} {socket.peer_host} {data.hex()}"
+
+    def arrival(self, moment, sender, host, data):
+        """A datagram goes to the socket at its host whose ID is its destination."""
+        if host not in HOSTS:
+            return ["dropped host"]
+        if len(data) < 16:
+            return ["dropped short"]
+        dest = struct.unpack(">I", data[12:16])[0]
+        if dest == 0:
+            return ["dropped shake"]
+        socket = self.sockets[dest - 1] if dest <= len(self.sockets) else None
+        if not socket or socket.host != host or socket.phase == "closed":
+            return ["dropped id"]
+        socket.at(moment)
+        return [f"{socket.name} arrive {socket.arrive(sender, data)}"]
+
+
+if __name__ == "__main__":
+    player = Player()
+    for text in sys.stdin.read().split("\n"):
+        for printed in player.line(text) if text and text[0] != "#" else []:
+            print(printed)
