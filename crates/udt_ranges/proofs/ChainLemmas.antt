@@ -1,11 +1,11 @@
 -- Links in the ring of places, and the lists of ranges that they lead through.
-use Rattle.std.proofs.Common.{◌≡◌, ◌≢◌, ℕ, zero, suc, ◌+◌, ◌-◌, ◌<◌, ◌≤◌, ◌%◌, Bool, true, false, cond, eqb, List, [], ◌∷◌, ◌++◌, length, get_or, set, refl, sym, ap, ◌∙◌, arith, length-set, append_assoc, subst, Option, Some, None}
+use Rattle.std.proofs.Common.{◌≡◌, ◌≢◌, ℕ, zero, suc, ◌+◌, ◌<◌, ◌≤◌, ◌%◌, List, [], ◌∷◌, ◌++◌, length, set, refl, sym, ap, ◌∙◌, arith, length-set, append_assoc, subst}
 use Rattle.std.proofs.lemmas.List.{get_or-set_same, get_or-set_other}
 use Rattle.std.proofs.Math.Nat.{mod-lt}
 use Rattle.udt_ranges.specs.declared.links.Range.{Range}
 use Rattle.udt_ranges.specs.declared.links.Place.{Place}
 use Rattle.udt_ranges.specs.Ranges.{Rises}
-use Rattle.udt_ranges.specs.Chains.{place_at, range_at, walk, last_first}
+use Rattle.udt_ranges.specs.Chains.{place_at, range_at, walk}
 use Rattle.udt_ranges.proofs.RisingLemmas.{NotAt, NotAt-above, mod_apart, Rises-middle}
 
 -- the ring once something was written to the place of an offset

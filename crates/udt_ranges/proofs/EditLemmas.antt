@@ -1,14 +1,13 @@
 -- What the edits do to lists of ranges.
-use Rattle.std.proofs.Common.{◌≡◌, ℕ, ◌+◌, ◌-◌, ◌*◌, ◌^◌, ◌<◌, ◌≤◌, ◌&&◌, min, leb, true, false, ltb, List, [], ◌∷◌, ◌++◌, length, filter, refl, sym, ap, subst, ◌∙◌, arith, append_assoc, length-append, append-nil, Bool, ◌||◌, cond, inl, inr, Option, Some, None}
+use Rattle.std.proofs.Common.{◌≡◌, ℕ, ◌+◌, ◌-◌, ◌*◌, ◌^◌, ◌<◌, ◌≤◌, ◌&&◌, min, leb, true, false, ltb, List, [], ◌∷◌, ◌++◌, length, filter, refl, sym, ap, subst, ◌∙◌, arith, append_assoc, append-nil, Bool, ◌||◌, cond, inl, inr, Some}
 use Rattle.std.proofs.lemmas.List.Elements.{filter-append}
-use Rattle.std.proofs.lemmas.Bool.{lt-ltb, le-ltb, or_left, or_right, cases_lt}
+use Rattle.std.proofs.lemmas.Bool.{lt-ltb, le-ltb, or_left, cases_lt}
 use Rattle.udt_model.specs.Losses.{Missing, without_missing}
 use Rattle.udt_ranges.specs.declared.links.Range.{Range}
-use Rattle.udt_ranges.specs.Ranges.{Rises, IsWithin, IsBelow, IsFrom, EndsBelow, IsMaximal, IsApart, IsNear, items_of, items_of_range, absorbed, unabsorbed, pushed, pushed_behind, reported_to, trimmed, trimmed_off, joins}
-use Rattle.udt_ranges.specs.Seats.{begins_at, ahead, through, beyond, IsSeat, before, behind}
+use Rattle.udt_ranges.specs.Ranges.{Rises, IsWithin, IsBelow, IsFrom, EndsBelow, IsMaximal, IsNear, items_of, items_of_range, absorbed, unabsorbed, pushed, pushed_behind, reported_to, trimmed, trimmed_off, joins}
+use Rattle.udt_ranges.specs.Seats.{begins_at, ahead, through, beyond, before, behind}
 use Rattle.udt_ranges.proofs.RisingLemmas.{Rises-lower, Rises-higher, Rises-middle}
-use Rattle.udt_ranges.proofs.PlaceLemmas.{whole, bounds, Bounds}
-use Rattle.udt_ranges.proofs.StepLemmas.{IsWithin-above}
+use Rattle.udt_ranges.proofs.PlaceLemmas.{whole, bounds}
 use Rattle.udt_ranges.proofs.ItemLemmas.{items_of-append, items_of-cons, items_of_range-split, filter_items, filter_all, filter_none, Rises-from, Rises-below, Rises-front, Rises-back, length-items_of, trimmed-before, trimmed-inside, trimmed-behind}
 use Rattle.udt_ranges.proofs.MaximalLemmas.{IsMaximal-front, IsMaximal-back, IsMaximal-last, IsMaximal-first, Rises-absorbed, Rises-pushed}
 

@@ -1,12 +1,12 @@
 -- The offsets of ranges, counted, divided and filtered.
-use Rattle.std.proofs.Common.{◌≡◌, ℕ, zero, suc, ◌+◌, ◌-◌, ◌<◌, ◌≤◌, Bool, true, false, cond, ltb, ◌||◌, List, [], ◌∷◌, ◌++◌, length, map, filter, refl, sym, ap, subst, ◌∙◌, arith, append_assoc, length-append, inl, inr}
+use Rattle.std.proofs.Common.{◌≡◌, ℕ, zero, suc, ◌+◌, ◌-◌, ◌<◌, ◌≤◌, Bool, true, false, ltb, List, [], ◌∷◌, ◌++◌, length, map, filter, refl, sym, ap, subst, ◌∙◌, arith, length-append, inl, inr}
 use Rattle.std.proofs.lemmas.List.{map-append}
-use Rattle.std.specs.List.{range_with_len, flat_map}
+use Rattle.std.specs.List.{range_with_len}
 use Rattle.std.proofs.lemmas.List.Concat.{flat_map-append}
 use Rattle.std.proofs.lemmas.List.FromFn.{length-map-range_with_len}
 use Rattle.std.proofs.lemmas.List.Elements.{filter-append}
 use Rattle.std.proofs.lemmas.Bool.{lt-ltb, le-ltb, cases_lt}
-use Rattle.udt_model.specs.Losses.{Missing, without_missing}
+use Rattle.udt_model.specs.Losses.{Missing}
 use Rattle.udt_ranges.specs.declared.links.Range.{Range}
 use Rattle.udt_ranges.proofs.RisingLemmas.{Rises-lower}
 use Rattle.udt_ranges.specs.Ranges.{Rises, IsFrom, EndsBelow, items_of, items_of_range, trimmed, trimmed_off}

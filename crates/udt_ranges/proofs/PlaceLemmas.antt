@@ -1,13 +1,12 @@
 -- Places in a list of ranges, and the lists before and behind them.
-use Rattle.std.proofs.Common.{◌≡◌, ℕ, ◌+◌, ◌<◌, ◌≤◌, true, List, [], ◌∷◌, ◌++◌, refl, sym, ap, subst, ◌∙◌, arith, append_assoc, drop, Option, Some, None, IsSome}
+use Rattle.std.proofs.Common.{◌≡◌, ℕ, ◌+◌, true, List, [], ◌∷◌, ◌++◌, refl, sym, ap, ◌∙◌, arith, append_assoc, drop, Option, Some, None}
 use Rattle.std.proofs.lemmas.List.{same_from_push}
-use Rattle.std.proofs.lemmas.Bool.{false≢true}
 use Rattle.udt_ranges.specs.declared.links.Range.{Range}
 use Rattle.udt_ranges.specs.Ranges.{Rises, IsWithin}
 use Rattle.udt_ranges.specs.Seats.{begins_at, ahead, through, beyond, first_of, head_of, IsSeat, before, behind}
 use Rattle.udt_ranges.proofs.RisingLemmas.{Rises-without}
 use Rattle.udt_ranges.proofs.StepLemmas.{IsWithin-above}
-use Rattle.udt_ranges.proofs.SeatLemmas.{Split, split_at, IsSplit, is_split}
+use Rattle.udt_ranges.proofs.SeatLemmas.{split_at, is_split}
 
 -- ranges within a window rise from some offset to another
 pub record Bounds (rs : List Range) : Type 0 where

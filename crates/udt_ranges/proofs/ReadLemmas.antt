@@ -1,5 +1,5 @@
 -- What is read of the links.
-use Rattle.std.proofs.Common.{◌≡◌, ◌≢◌, ℕ, zero, suc, ◌+◌, ◌-◌, ◌<◌, ◌≤◌, ◌%◌, true, cond, eqb, List, [], ◌∷◌, ◌++◌, length, get_or, refl, sym, ap, subst, ◌∙◌, arith, Option, Some, None, IsSome}
+use Rattle.std.proofs.Common.{◌≡◌, ℕ, zero, suc, ◌+◌, ◌<◌, ◌%◌, true, List, [], ◌∷◌, ◌++◌, length, get_or, refl, sym, ap, ◌∙◌, arith, Option, Some, None, IsSome}
 use Rattle.std.proofs.lemmas.List.{get_or_read}
 use Rattle.std.proofs.lemmas.Bool.{false≢true}
 use Rattle.std.proofs.Math.Nat.{mod-lt}
@@ -9,7 +9,7 @@ use Rattle.udt_ranges.specs.Ranges.{Rises, IsWithin}
 use Rattle.udt_ranges.specs.Seats.{begins_at, ahead, through, beyond, first_of}
 use Rattle.udt_ranges.specs.Chains.{place_at, range_at, walk, last_first, IsChain}
 use Rattle.udt_ranges.proofs.RisingLemmas.{Rises-middle}
-use Rattle.udt_ranges.proofs.SeatLemmas.{Split, split_at}
+use Rattle.udt_ranges.proofs.SeatLemmas.{split_at}
 use Rattle.udt_ranges.proofs.ChainLemmas.{LeadsTo, IsLinked-behind}
 use Rattle.udt_ranges.proofs.StepLemmas.{links_are, rises_are, tail_was, walk-IsWithin, last_first-least}
 

@@ -1,5 +1,5 @@
 -- A list of ranges, split at one of them.
-use Rattle.std.proofs.Common.{◌≡◌, ℕ, suc, length, length-append, ◌+◌, ◌<◌, ◌≤◌, Bool, true, false, cond, eqb, List, [], ◌∷◌, ◌++◌, refl, sym, ap, arith, ◌∙◌, Option, Some, None}
+use Rattle.std.proofs.Common.{◌≡◌, ℕ, suc, length, length-append, ◌+◌, ◌≤◌, Bool, true, false, cond, eqb, List, [], ◌∷◌, ◌++◌, refl, ap, arith}
 use Rattle.std.proofs.lemmas.Bool.{eqb-true, eq-eqb, ne_eqb, false≢true}
 use Rattle.udt_ranges.specs.declared.links.Range.{Range}
 use Rattle.udt_ranges.specs.Ranges.{Rises}

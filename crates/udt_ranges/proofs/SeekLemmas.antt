@@ -1,15 +1,15 @@
 -- What a search along the links finds.
-use Rattle.std.proofs.Common.{◌≡◌, ◌≢◌, ℕ, zero, suc, ◌+◌, ◌-◌, ◌<◌, ◌≤◌, ◌%◌, true, false, cond, eqb, List, [], ◌∷◌, ◌++◌, length, refl, sym, ap, subst, ◌∙◌, arith, append_assoc, ◌⊎◌, inl, inr}
-use Rattle.std.proofs.lemmas.Bool.{false≢true, eq-eqb}
+use Rattle.std.proofs.Common.{◌≡◌, ℕ, zero, suc, ◌+◌, ◌<◌, ◌≤◌, true, false, cond, eqb, List, [], ◌∷◌, ◌++◌, length, refl, sym, ap, subst, ◌∙◌, arith, append_assoc, ◌⊎◌, inl, inr}
+use Rattle.std.proofs.lemmas.Bool.{eq-eqb}
 use Rattle.udt_ranges.specs.declared.links.Range.{Range}
 use Rattle.udt_ranges.specs.declared.links.Place.{Place}
-use Rattle.udt_ranges.specs.Ranges.{Rises, IsWithin, IsBelow, IsFrom}
-use Rattle.udt_ranges.specs.Seats.{begins_at, ahead, through, beyond, first_of}
+use Rattle.udt_ranges.specs.Ranges.{Rises, IsBelow, IsFrom}
+use Rattle.udt_ranges.specs.Seats.{begins_at, through, beyond}
 use Rattle.udt_ranges.specs.Chains.{place_at, range_at, walk, last_first, IsChain}
 use Rattle.udt_ranges.proofs.RisingLemmas.{Rises-middle}
-use Rattle.udt_ranges.proofs.SeatLemmas.{Split, split_at, IsSplit, is_split}
-use Rattle.udt_ranges.proofs.ChainLemmas.{LeadsTo, IsLinked-behind, StartsAt, StartsAt-walk, length-walk}
-use Rattle.udt_ranges.proofs.StepLemmas.{links_are, rises_are, tail_was, walk-IsWithin, last_first-least, begins_at-middle}
+use Rattle.udt_ranges.proofs.SeatLemmas.{split_at}
+use Rattle.udt_ranges.proofs.ChainLemmas.{LeadsTo, IsLinked-behind, length-walk}
+use Rattle.udt_ranges.proofs.StepLemmas.{links_are, rises_are, tail_was, last_first-least, begins_at-middle}
 
 -- ranges up to one that begins before an offset begin before it
 pub IsBelow-through : (offset low high : ℕ) (front : List Range) (here : Range) (back : List Range) → Rises low high (front ++ here ∷ back) → here.first < offset → IsBelow offset (front ++ here ∷ [])

@@ -1,14 +1,14 @@
 -- Each step on the links keeps the chain, and does to the list of ranges what it says.
-use Rattle.std.proofs.Common.{◌≡◌, ◌≢◌, ℕ, zero, suc, ◌+◌, ◌-◌, ◌<◌, ◌≤◌, ◌%◌, Bool, true, false, cond, eqb, List, [], ◌∷◌, ◌++◌, length, set, append_assoc, drop, refl, sym, ap, subst, ◌∙◌, arith, inl, inr, length-set, length-append, ◌⊎◌}
-use Rattle.std.proofs.lemmas.Bool.{eqb-true, eq-eqb, ne_eqb, cases_eq, cond-true, cond-false}
+use Rattle.std.proofs.Common.{◌≡◌, ◌≢◌, ℕ, zero, suc, ◌+◌, ◌-◌, ◌<◌, ◌≤◌, ◌%◌, true, cond, eqb, List, [], ◌∷◌, ◌++◌, length, set, append_assoc, drop, refl, sym, ap, subst, ◌∙◌, arith, inl, inr, length-set, length-append, ◌⊎◌}
+use Rattle.std.proofs.lemmas.Bool.{eq-eqb, ne_eqb, cases_eq, cond-true, cond-false}
 use Rattle.udt_ranges.specs.declared.links.Range.{Range}
 use Rattle.udt_ranges.specs.declared.links.Place.{Place}
 use Rattle.udt_ranges.specs.Ranges.{Linked, Rises, IsWithin}
 use Rattle.udt_ranges.specs.Seats.{begins_at, ahead, through, beyond}
 use Rattle.udt_ranges.specs.Chains.{place_at, range_at, walk, last_first, IsChain}
-use Rattle.udt_ranges.proofs.RisingLemmas.{NotAt, NotAt-above, Rises-middle, Rises-lower, Rises-higher, Rises-without, length-Rises}
-use Rattle.udt_ranges.proofs.SeatLemmas.{Split, split_at, IsSplit, is_split, begins_at-insert, begins_at-cons}
-use Rattle.udt_ranges.proofs.ChainLemmas.{put_at, told, LeadsTo, IsLinked, IsLinked-cons, IsLinked-middle, IsLinked-other, IsLinked-behind, IsLinked-walk, StartsAt, StartsAt-next, StartsAt-walk, LeadsTo-walk, walk-IsLinked, linked_behind, unlinked_behind, relinked, length-walk}
+use Rattle.udt_ranges.proofs.RisingLemmas.{NotAt-above, Rises-middle, Rises-higher, Rises-without, length-Rises}
+use Rattle.udt_ranges.proofs.SeatLemmas.{split_at, begins_at-insert, begins_at-cons}
+use Rattle.udt_ranges.proofs.ChainLemmas.{put_at, LeadsTo, IsLinked, IsLinked-cons, IsLinked-behind, IsLinked-walk, StartsAt, StartsAt-next, StartsAt-walk, LeadsTo-walk, walk-IsLinked, linked_behind, unlinked_behind, relinked, length-walk}
 
 -- the chain holds, and its ranges are these
 pub record Chained (places : List Place) (head tail hint count : ℕ) (rs : List Range) : Type 0 where

@@ -1,7 +1,7 @@
 -- Rising ranges of offsets, each with its last report, and what is done to them.
-use Rattle.std.specs.Prelude.{◌≡◌, ℕ, ◌+◌, ◌-◌, ◌*◌, ◌^◌, ◌<◌, ◌≤◌, ◌==◌, ◌&&◌, Bool, true, false, min, max, List, [], ◌∷◌, ◌++◌, map, length, nat_lt, nat_le, if◌then◌else◌}
-use Rattle.std.specs.List.{filter, flat_map}
-use Rattle.udt_model.specs.Losses.{Missing, MissingRange, offsets_between}
+use Rattle.std.specs.Prelude.{◌≡◌, ℕ, ◌+◌, ◌-◌, ◌*◌, ◌^◌, ◌<◌, ◌≤◌, ◌==◌, ◌&&◌, Bool, false, min, List, [], ◌∷◌, map, nat_lt, nat_le, if◌then◌else◌}
+use Rattle.std.specs.List.{flat_map}
+use Rattle.udt_model.specs.Losses.{Missing, offsets_between}
 use Rattle.udt_ranges.specs.declared.links.Range.{Range}
 
 -- what a list of ranges is seen as: the room that its offsets have, and the ranges

@@ -1,15 +1,15 @@
 -- Packets with their reports, filtered, and as ranges again.
-use Rattle.std.proofs.Common.{◌≡◌, ◌≢◌, ℕ, zero, suc, ◌+◌, ◌-◌, ◌<◌, ◌≤◌, Bool, true, false, cond, eqb, ◌==◌, ltb, ◌||◌, ◌&&◌, List, [], ◌∷◌, ◌++◌, length, map, filter, refl, sym, ap, subst, ◌∙◌, arith, append_assoc, append-nil, length-append, inl, inr, Option, Some, None}
-use Rattle.std.specs.List.{range_with_len, list_any}
-use Rattle.std.proofs.lemmas.Bool.{lt-ltb, le-ltb, ne_eqb, eq-eqb, cases_lt, cases_order, cases_eq, or_right, and_left}
+use Rattle.std.proofs.Common.{◌≡◌, ℕ, zero, suc, ◌+◌, ◌-◌, ◌<◌, ◌≤◌, Bool, true, false, cond, eqb, ◌==◌, ltb, ◌||◌, ◌&&◌, List, [], ◌∷◌, ◌++◌, length, map, filter, refl, sym, ap, subst, ◌∙◌, arith, append-nil, inl, inr, Option, Some, None}
+use Rattle.std.specs.List.{range_with_len}
+use Rattle.std.proofs.lemmas.Bool.{lt-ltb, le-ltb, ne_eqb, eq-eqb, cases_lt, cases_order, cases_eq, or_right}
 use Rattle.udt_model.specs.Losses.{Missing, MissingRange, LostRange, after_report, reported_at, is_within, without_missing, with_missing, is_missing, missing_ranges, before_missing}
 use Rattle.udt_ranges.specs.declared.links.Range.{Range}
-use Rattle.udt_ranges.specs.Ranges.{Rises, IsWithin, IsMaximal, IsApart, joins, items_of, items_of_range}
+use Rattle.udt_ranges.specs.Ranges.{Rises, IsWithin, IsMaximal, IsApart, items_of, items_of_range}
 use Rattle.udt_ranges.specs.Offsets.{offsets_in, Rising, least}
 use Rattle.udt_ranges.proofs.RisingLemmas.{Rises-lower, Rises-higher}
 use Rattle.udt_ranges.proofs.ItemLemmas.{item_of, items_of-cons}
 use Rattle.udt_ranges.proofs.OffsetLemmas.{Rising-items}
-use Rattle.udt_rcv_loss.specs.Absent.{MissingList, IsInWindow, AllBelow, AllFrom, first_or}
+use Rattle.udt_rcv_loss.specs.Absent.{IsInWindow, AllBelow, AllFrom, first_or}
 
 -- the first offset begins the first range
 first_or-cons : (other : ℕ) (r : Range) (rs : List Range) → r.first ≤ r.last → first_or other (items_of (r ∷ rs)) ≡ r.first

@@ -1,9 +1,9 @@
 -- Ranges counted from the end of a list, and a range pushed packet by packet.
 use Rattle.std.proofs.Common.{◌≡◌, ℕ, zero, suc, ◌+◌, ◌-◌, ◌<◌, ◌≤◌, ◌++◌, Bool, true, false, cond, eqb, ◌&&◌, List, [], ◌∷◌, length, map, drop, refl, sym, ap, ◌∙◌, arith, inl, inr, append_assoc}
 use Rattle.std.specs.List.{range_with_len}
-use Rattle.std.proofs.lemmas.List.{map-append}
-use Rattle.std.proofs.lemmas.Bool.{cases_Bool, and_parts, eqb-true}
-use Rattle.udt_model.specs.Losses.{Missing, MissingRange, missing_ranges, before_missing, with_missing}
+use Rattle.std.proofs.lemmas.List.{map-append, drop_all}
+use Rattle.std.proofs.lemmas.Bool.{cases_Bool, and_parts, eqb-true, le-leb, lt-leb}
+use Rattle.udt_model.specs.Losses.{Missing, MissingRange, LostRange, missing_ranges, before_missing, with_missing, ranges_of, is_due, due_ranges, before_ranges, words_of_range, fitting_ranges}
 use Rattle.udt_ranges.proofs.ItemLemmas.{range_with_len-append}
 use Rattle.udt_rcv_loss.specs.Plain.{goes_on}
 
@@ -66,3 +66,25 @@ row_last now from to k ms le is =
     let f : from + k ≡ to = omega arith in
     append_assoc ms (map (listed now) (range_with_len from k)) (listed now to ∷ [])
     ∙ ap (λ xs. ms ++ xs) (ap (λ n. map (listed now) (range_with_len from k) ++ listed now n ∷ []) (sym f) ∙ sym (row_push now from k) ∙ ap (λ n. map (listed now) (range_with_len from n)) (sym e))
+
+-- the due runs from a packet on: one that is due goes before those behind it
+pub due-more : (now rtt : ℕ) (m : Missing) (all rest : List Missing) → all ≡ m ∷ rest → due_ranges now rtt all ≡ cond (is_due now rtt m) (before_ranges m.offset (due_ranges now rtt rest)) (due_ranges now rtt rest)
+unfolding ranges_of
+due-more now rtt m all rest is =
+    elim (cases_Bool (is_due now rtt m)) [ inl due ↦ rw (is, due) refl | inr early ↦ rw (is, early) refl ]
+
+-- all of the list is behind its end
+pub due-none : (now rtt n : ℕ) (ms : List Missing) → n ≡ length ms → due_ranges now rtt (drop n ms) ≡ []
+unfolding ranges_of
+due-none now rtt n ms is = rw (drop_all n ms (omega arith)) refl
+
+-- a range that fits, and one that doesn't
+pub fitting-fits : (left cost : ℕ) (r : LostRange) (rs : List LostRange) → cost ≡ words_of_range r → cost ≤ left → fitting_ranges left (r ∷ rs) ≡ r ∷ fitting_ranges (left - cost) rs
+unfolding fitting_ranges
+fitting-fits left cost r rs is fits =
+    rw (← is, le-leb cost left fits) refl
+
+pub fitting-ends : (left cost : ℕ) (r : LostRange) (rs : List LostRange) → cost ≡ words_of_range r → left < cost → fitting_ranges left (r ∷ rs) ≡ []
+unfolding fitting_ranges
+fitting-ends left cost r rs is ends =
+    rw (← is, lt-leb cost left ends) refl

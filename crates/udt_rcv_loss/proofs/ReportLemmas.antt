@@ -1,12 +1,12 @@
 -- The ranges of a report, and the list once it was made.
-use Rattle.std.proofs.Common.{◌≡◌, ◌≢◌, ℕ, zero, suc, ◌+◌, ◌-◌, ◌*◌, ◌^◌, ◌<◌, ◌≤◌, min, if◌then◌else◌, Bool, true, false, cond, eqb, ltb, leb, ◌||◌, ◌&&◌, List, [], ◌∷◌, ◌++◌, length, map, filter, drop, refl, sym, ap, subst, ◌∙◌, arith, append_assoc, append-nil, length-append, inl, inr, Option, Some, None, IfSome, IfNone}
+use Rattle.std.proofs.Common.{◌≡◌, ℕ, zero, suc, ◌+◌, ◌-◌, ◌^◌, ◌<◌, ◌≤◌, min, if◌then◌else◌, Bool, true, false, cond, eqb, leb, ◌||◌, ◌&&◌, List, [], ◌∷◌, ◌++◌, map, refl, sym, ap, ◌∙◌, arith, append_assoc, inl, inr, Option, Some, None, IfSome, IfNone}
 use Rattle.std.specs.List.{range_with_len, list_any}
 use Rattle.std.proofs.lemmas.Bool.{ne_eqb, eq-eqb, cases_Bool, cases_eq, cases_order, le-leb, lt-leb, and_right}
-use Rattle.udt_model.specs.Losses.{Missing, LostRange, offsets_between, ranges_of, before_ranges, is_due, due_ranges, words_of_range, fitting_ranges, is_within, reported_at, after_report}
+use Rattle.udt_model.specs.Losses.{Missing, LostRange, offsets_between, ranges_of, before_ranges, due_ranges, words_of_range, fitting_ranges, is_within, reported_at, after_report}
 use Rattle.udt_ranges.specs.declared.links.Range.{Range}
-use Rattle.udt_ranges.specs.Ranges.{Rises, IsWithin, IsFrom, EndsBelow, items_of, items_of_range, is_due_range, reported_to}
+use Rattle.udt_ranges.specs.Ranges.{Rises, IsFrom, EndsBelow, items_of, items_of_range, is_due_range, reported_to}
 use Rattle.udt_ranges.specs.Seats.{IsSeat, before, behind}
-use Rattle.udt_ranges.specs.Offsets.{offsets_in, Rising}
+use Rattle.udt_ranges.specs.Offsets.{Rising}
 use Rattle.std.proofs.lemmas.List.{map-append}
 use Rattle.udt_ranges.proofs.RisingLemmas.{Rises-middle}
 use Rattle.udt_ranges.proofs.PlaceLemmas.{whole}

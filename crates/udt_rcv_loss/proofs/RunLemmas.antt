@@ -1,9 +1,8 @@
 -- What is due in ranges, and the runs that it makes.
-use Rattle.std.proofs.Common.{◌≡◌, ◌≢◌, ℕ, zero, suc, ◌+◌, ◌-◌, ◌*◌, ◌<◌, ◌≤◌, Bool, true, false, cond, eqb, ltb, leb, ◌||◌, ◌&&◌, List, [], ◌∷◌, ◌++◌, length, map, filter, drop, refl, sym, ap, subst, ◌∙◌, arith, append_assoc, append-nil, length-append, inl, inr, Option, Some, None}
+use Rattle.std.proofs.Common.{◌≡◌, ◌≢◌, ℕ, zero, suc, ◌+◌, ◌-◌, ◌<◌, ◌≤◌, Bool, true, false, cond, eqb, List, [], ◌∷◌, ◌++◌, map, filter, drop, refl, sym, ap, subst, ◌∙◌, arith, Option, Some}
 use Rattle.std.specs.List.{range_with_len}
 use Rattle.std.proofs.lemmas.List.Elements.{filter-append}
-use Rattle.std.proofs.lemmas.Bool.{ne_eqb, eq-eqb, cases_Bool}
-use Rattle.udt_model.specs.Losses.{Missing, LostRange, offsets_between, ranges_of, before_ranges, is_due, due_ranges, words_of_range, fitting_ranges}
+use Rattle.udt_model.specs.Losses.{Missing, LostRange, offsets_between, ranges_of, before_ranges, is_due, due_ranges}
 use Rattle.udt_ranges.specs.declared.links.Range.{Range}
 use Rattle.udt_ranges.specs.Ranges.{Rises, IsWithin, IsFrom, EndsBelow, items_of, items_of_range, is_due_range}
 use Rattle.udt_ranges.specs.Seats.{IsSeat, before, behind, begins_at, through, beyond, head_of}

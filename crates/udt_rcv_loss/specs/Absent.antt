@@ -1,7 +1,7 @@
 -- The packets that a receiver waits for, and the window that they lie in.
-use Rattle.std.specs.Prelude.{◌≡◌, ℕ, ◌+◌, ◌<◌, ◌≤◌, Option, Some, None, List, [], ◌∷◌}
+use Rattle.std.specs.Prelude.{ℕ, ◌+◌, ◌<◌, ◌≤◌, List, [], ◌∷◌}
 use Rattle.udt_model.specs.Losses.{Missing}
-use Rattle.udt_ranges.specs.Offsets.{offsets_in, Rising, least}
+use Rattle.udt_ranges.specs.Offsets.{offsets_in, Rising}
 
 -- what a receiver's list is seen as: the room that its offsets have, and the packets with their reports
 pub record MissingList : Type 0 where

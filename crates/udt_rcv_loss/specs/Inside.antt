@@ -1,6 +1,4 @@
 -- How the linked ranges hold a receiver's packets, and a vector a report.
-use Rattle.std.specs.Prelude.{ℕ, ◌≤◌, List, length as len}
-use Rattle.std.specs.Vec.{vec_capacity}
 use Rattle.udt_ranges.specs.Ranges.{Linked, IsMaximal, IsWithin, items_of}
 use Rattle.udt_rcv_loss.specs.Absent.{MissingList}
 use Rattle.udt_rcv_loss.specs.declared.list.RcvLoss.TheInside.{Inside}

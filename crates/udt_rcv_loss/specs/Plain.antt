@@ -1,5 +1,5 @@
 -- How ranges are counted in a plain list of packets.
-use Rattle.std.specs.Prelude.{ℕ, ◌+◌, ◌==◌, ◌&&◌, Bool, true, false, List, [], ◌∷◌}
+use Rattle.std.specs.Prelude.{◌+◌, ◌==◌, ◌&&◌, Bool, false, List, [], ◌∷◌}
 use Rattle.udt_model.specs.Losses.{Missing}
 
 -- the first packet is followed by the next offset with the same report

@@ -1,6 +1,6 @@
 -- What is due in a list of ranges.
-use Rattle.std.specs.Prelude.{◌≡◌, ℕ, ◌+◌, ◌<◌, ◌≤◌, Option, Some, None, List, [], ◌∷◌, ◌++◌}
-use Rattle.udt_model.specs.Losses.{LostRange, due_ranges, fitting_ranges}
+use Rattle.std.specs.Prelude.{◌≡◌, ℕ, ◌+◌, ◌<◌, ◌≤◌, Option, Some, List, [], ◌∷◌, ◌++◌}
+use Rattle.udt_model.specs.Losses.{LostRange, due_ranges}
 use Rattle.udt_ranges.specs.declared.links.Range.{Range}
 use Rattle.udt_ranges.specs.Ranges.{IsFrom, EndsBelow, items_of}
 use Rattle.udt_ranges.specs.Seats.{before, behind, beyond, IsSeat}

@@ -117,7 +117,7 @@ impl Both {
         self.linked.due(now, rtt, words, &mut self.into);
         let mut same = self.into.len() == plain.len();
         for (i, run) in plain.iter().enumerate() {
-            same = same && i < self.into.len() && self.into.get(i) == *run;
+            same = same && i < self.into.len() && self.into.get(i) == (run.first, run.last);
         }
         Ok(same)
     }

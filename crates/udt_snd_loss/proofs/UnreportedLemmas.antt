@@ -1,14 +1,11 @@
 -- Offsets without reports, and the ranges that they make.
-use Rattle.std.proofs.Common.{◌≡◌, ◌≢◌, ℕ, zero, suc, ◌+◌, ◌-◌, ◌<◌, ◌≤◌, Bool, true, false, cond, eqb, ltb, leb, ◌||◌, ◌&&◌, List, [], ◌∷◌, ◌++◌, length, map, filter, drop, refl, sym, ap, subst, ◌∙◌, arith, append_assoc, length-append, inl, inr, Option, Some, None}
+use Rattle.std.proofs.Common.{◌≡◌, ℕ, zero, suc, ◌+◌, ◌-◌, Bool, true, false, cond, List, [], ◌∷◌, ◌++◌, map, filter, refl, sym, ap, subst, ◌∙◌, arith}
 use Rattle.std.specs.List.{range_with_len}
-use Rattle.std.proofs.lemmas.List.{map-append, length-map}
-use Rattle.std.proofs.lemmas.List.Elements.{filter_agree}
-use Rattle.std.proofs.lemmas.Bool.{lt-ltb, le-ltb, le-leb, lt-leb, ne_eqb, eq-eqb, cases_lt, false≢true, or_right}
-use Rattle.udt_model.specs.Losses.{Missing, LostRange, offsets_between, ranges_of, before_ranges, with_range, from_offset, without_range, without_missing}
+use Rattle.std.proofs.lemmas.Bool.{eq-eqb, false≢true}
+use Rattle.udt_model.specs.Losses.{Missing, LostRange, ranges_of}
 use Rattle.udt_ranges.specs.declared.links.Range.{Range}
-use Rattle.udt_ranges.specs.Ranges.{Rises, IsFrom, IsMaximal, IsApart, joins, items_of, items_of_range}
-use Rattle.udt_ranges.specs.Seats.{first_of}
-use Rattle.udt_ranges.proofs.ItemLemmas.{item_of, items_of-cons, IsFrom-Rises}
+use Rattle.udt_ranges.specs.Ranges.{Rises, IsMaximal, IsApart, joins, items_of, items_of_range}
+use Rattle.udt_ranges.proofs.ItemLemmas.{item_of, items_of-cons}
 use Rattle.udt_ranges.specs.Offsets.{offsets_in}
 use Rattle.udt_ranges.proofs.OffsetLemmas.{Gap, ranges_of-row, offsets_in-append, offsets_in-range}
 use Rattle.udt_snd_loss.specs.Inside.{Unreported}

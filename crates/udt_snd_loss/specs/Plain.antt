@@ -1,5 +1,5 @@
 -- How ranges are counted in a plain list of offsets.
-use Rattle.std.specs.Prelude.{ℕ, ◌+◌, ◌==◌, Bool, true, false, List, [], ◌∷◌}
+use Rattle.std.specs.Prelude.{ℕ, ◌+◌, ◌==◌, Bool, false, List, [], ◌∷◌}
 
 -- the first offset is followed by the next one
 abbrev pub goes_on : List ℕ → Bool

@@ -1,10 +1,9 @@
-use Rattle.std.proofs.Common.{◌≡◌, ℕ, ◌+◌, ◌-◌, ◌<◌, ◌≤◌, ◌++◌, ◌∷◌, [], length, length-append, refl, sym, ap, subst, ◌∙◌, arith, append_assoc, append-nil, Option, Some, None, IfSome}
-use Rattle.udt_model.specs.Losses.{LostRange, due_ranges, fitting_ranges}
-use Rattle.udt_ranges.specs.Ranges.{IsFrom, EndsBelow, items_of}
-use Rattle.udt_ranges.specs.Seats.{IsSeat, before, behind, beyond}
-use Rattle.udt_ranges.proofs.PlaceLemmas.{whole}
-use Rattle.udt_rcv_loss.specs.Runs.{AllBy, IsTaken, ends_of_run}
-use Rattle.udt_rcv_loss.proofs.ReportLemmas.{taken_is, fitting-none, fitting-some, fitting-over, AllBy-push, AllBy-nil}
+use Rattle.std.proofs.Common.{◌≡◌, ◌+◌, ◌-◌, ◌++◌, ◌∷◌, [], length-append, sym, ap, subst, ◌∙◌, arith, append_assoc, append-nil, IfSome}
+use Rattle.udt_model.specs.Losses.{due_ranges, fitting_ranges}
+use Rattle.udt_ranges.specs.Ranges.{IsFrom, items_of}
+use Rattle.udt_ranges.specs.Seats.{behind, beyond}
+use Rattle.udt_rcv_loss.specs.Runs.{ends_of_run}
+use Rattle.udt_rcv_loss.proofs.ReportLemmas.{taken_is, fitting-none, fitting-some, fitting-over, AllBy-push}
 use Rattle.udt_rcv_loss.proofs.due.choose.Goals as goal
 
 -- nothing more is due

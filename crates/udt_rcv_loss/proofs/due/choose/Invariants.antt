@@ -1,4 +1,4 @@
-use Rattle.std.proofs.Common.{◌≡◌, ℕ, ◌+◌, ◌≤◌, ◌++◌, [], length, IfSome, IfNone}
+use Rattle.std.proofs.Common.{◌≡◌, ◌+◌, ◌≤◌, ◌++◌, [], length, IfSome, IfNone}
 use Rattle.udt_model.specs.Losses.{due_ranges, fitting_ranges}
 use Rattle.udt_ranges.specs.Ranges.{IsFrom, EndsBelow, items_of}
 use Rattle.udt_ranges.specs.Seats.{IsSeat, before, behind}

@@ -1,9 +1,8 @@
-use Rattle.std.proofs.Common.{◌≡◌, ℕ, ◌+◌, ◌-◌, ◌<◌, ◌≤◌, ◌∷◌, [], false, length, refl, sym, ap, subst, ◌∙◌, arith, Some}
+use Rattle.std.proofs.Common.{◌∷◌, length, sym, ap, ◌∙◌, arith}
 use Rattle.udt_model.specs.Losses.{ranges_of, due_ranges}
-use Rattle.udt_ranges.specs.Ranges.{Rises, IsFrom, items_of}
-use Rattle.udt_ranges.specs.Seats.{beyond, behind}
+use Rattle.udt_ranges.specs.Ranges.{items_of}
+use Rattle.udt_ranges.specs.Seats.{behind}
 use Rattle.udt_ranges.proofs.PlaceLemmas.{head_none}
-use Rattle.udt_rcv_loss.specs.Runs.{IsNextRun}
 use Rattle.udt_rcv_loss.proofs.RunLemmas.{due_in-not, next_cut, first_from, rest_from, due_none}
 use Rattle.udt_rcv_loss.proofs.due.next_run.Goals as goal
 

@@ -1,4 +1,4 @@
-use Rattle.std.proofs.Common.{◌≡◌, ℕ, ◌≤◌, length}
+use Rattle.std.proofs.Common.{◌≡◌, ℕ, length}
 use Rattle.udt_model.specs.Losses.{due_ranges}
 use Rattle.udt_ranges.specs.Ranges.{IsFrom, items_of}
 use Rattle.udt_ranges.specs.Seats.{IsSeat, behind}

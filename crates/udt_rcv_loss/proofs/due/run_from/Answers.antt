@@ -1,11 +1,9 @@
-use Rattle.std.proofs.Common.{◌≡◌, ℕ, ◌+◌, ◌-◌, ◌<◌, ◌≤◌, ◌++◌, ◌∷◌, [], false, length, refl, sym, ap, subst, ◌∙◌, arith, append_assoc, Some}
-use Rattle.udt_model.specs.Losses.{offsets_between, ranges_of, due_ranges}
-use Rattle.udt_ranges.specs.Ranges.{Rises, IsFrom, items_of}
-use Rattle.udt_ranges.specs.Seats.{beyond, behind}
-use Rattle.udt_ranges.specs.Offsets.{Rising}
+use Rattle.std.proofs.Common.{◌≡◌, ◌+◌, ◌≤◌, ◌++◌, length, sym, ap, ◌∙◌, arith, append_assoc, Some}
+use Rattle.udt_model.specs.Losses.{offsets_between, ranges_of}
+use Rattle.udt_ranges.specs.Ranges.{items_of}
+use Rattle.udt_ranges.specs.Seats.{beyond}
 use Rattle.udt_ranges.proofs.PlaceLemmas.{head_none}
-use Rattle.udt_ranges.proofs.OffsetLemmas.{Gap}
-use Rattle.udt_rcv_loss.proofs.RunLemmas.{due_in, due_in-due, due_in-not, run_ends, offsets_between-join, next_cut, first_from, Gap-none, Gap-not, Gap-apart}
+use Rattle.udt_rcv_loss.proofs.RunLemmas.{due_in, due_in-due, run_ends, offsets_between-join, next_cut, first_from, Gap-none, Gap-not, Gap-apart}
 use Rattle.udt_rcv_loss.proofs.due.run_from.Goals as goal
 
 pub run-init : goal.run-init

@@ -1,4 +1,4 @@
-use Rattle.std.proofs.Common.{◌≡◌, ◌≤◌, sym, ap, ◌∙◌, arith}
+use Rattle.std.proofs.Common.{ap, arith}
 use Rattle.udt_rcv_loss.specs.Absent.{AllBelow, AllFrom}
 use Rattle.udt_rcv_loss.proofs.tests.linked_ranges_hold_what_a_plain_vector_does.Goals as goal
 

@@ -1,4 +1,4 @@
-use Rattle.std.proofs.Common.{◌≡◌, ◌≤◌, [], sym, ap, subst, ◌∙◌, arith}
+use Rattle.std.proofs.Common.{sym, subst, arith}
 use Rattle.udt_model.specs.Losses.{with_missing}
 use Rattle.udt_rcv_loss.specs.Absent.{AllBelow}
 use Rattle.udt_rcv_loss.proofs.MissingLemmas.{AllBelow-with, AllBelow-higher}

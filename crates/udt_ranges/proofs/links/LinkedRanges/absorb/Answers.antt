@@ -1,6 +1,4 @@
-use Rattle.std.proofs.Common.{◌≡◌, ℕ, ◌+◌, ◌-◌, ◌<◌, ◌≤◌, ◌++◌, ◌∷◌, [], true, drop, refl, sym, ap, subst, ◌∙◌, arith, append_assoc, Some, None}
-use Rattle.udt_ranges.specs.declared.links.Range.{Range}
-use Rattle.udt_ranges.specs.Seats.{begins_at, IsSeat, before, behind, ahead, through, beyond}
+use Rattle.std.proofs.Common.{refl, sym, ◌∙◌, arith}
 use Rattle.udt_ranges.specs.Ranges.{IsFrom, absorbed, unabsorbed}
 use Rattle.udt_ranges.proofs.PlaceLemmas.{head_none, head_some}
 use Rattle.udt_ranges.proofs.links.LinkedRanges.absorb.Goals as goal

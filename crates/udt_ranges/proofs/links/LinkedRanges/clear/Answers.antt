@@ -1,7 +1,7 @@
-use Rattle.std.proofs.Common.{◌≡◌, ℕ, ◌+◌, ◌-◌, ◌<◌, ◌≤◌, ltb, length, filter, true, refl, sym, ap, subst, ◌∙◌, arith}
+use Rattle.std.proofs.Common.{◌≡◌, ◌+◌, ltb, length, filter, sym, ap, ◌∙◌, arith}
 use Rattle.std.proofs.lemmas.Bool.{lt-ltb}
-use Rattle.udt_ranges.specs.Ranges.{Rises, IsFrom, IsMaximal, IsWithin, items_of, trimmed, trimmed_off}
-use Rattle.udt_ranges.specs.Seats.{IsSeat, before, behind}
+use Rattle.udt_ranges.specs.Ranges.{items_of}
+use Rattle.udt_ranges.specs.Seats.{before, behind}
 use Rattle.udt_ranges.proofs.PlaceLemmas.{whole, bounds}
 use Rattle.udt_ranges.proofs.ItemLemmas.{Rises-back, Rises-from, Rises-trimmed, IsFrom-trimmed, filter-trimmed, length-trimmed, filter_all}
 use Rattle.udt_ranges.proofs.MaximalLemmas.{IsMaximal-trimmed}

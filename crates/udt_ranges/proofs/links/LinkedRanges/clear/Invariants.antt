@@ -1,5 +1,5 @@
-use Rattle.std.proofs.Common.{◌≡◌, ℕ, ◌+◌, ◌-◌, ◌<◌, ◌≤◌, ltb, length, filter}
-use Rattle.udt_ranges.specs.Ranges.{Rises, IsMaximal, IsWithin, items_of}
+use Rattle.std.proofs.Common.{◌≡◌, ℕ, ◌+◌, ltb, length, filter}
+use Rattle.udt_ranges.specs.Ranges.{Rises, IsMaximal, items_of}
 use Rattle.udt_ranges.specs.Seats.{IsSeat, before, behind}
 use Rattle.udt_ranges.proofs.links.LinkedRanges.clear.Given as goal
 

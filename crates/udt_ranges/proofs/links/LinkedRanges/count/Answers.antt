@@ -1,4 +1,4 @@
-use Rattle.std.proofs.Common.{◌≡◌, ◌<◌, ℕ, ◌%◌, ◌++◌, ◌∷◌, true, cond, eqb, [], length, arith, ap, sym, refl, ◌∙◌, length-set, inl, inr}
+use Rattle.std.proofs.Common.{sym}
 use Rattle.udt_ranges.proofs.ChainLemmas.{length-walk}
 use Rattle.udt_ranges.proofs.StepLemmas.{walk-IsWithin}
 use Rattle.udt_ranges.proofs.links.LinkedRanges.count.Goals as goal

@@ -1,9 +1,7 @@
-use Rattle.std.proofs.Common.{◌≡◌, ℕ, ◌+◌, ◌-◌, ◌<◌, ◌≤◌, ◌++◌, ◌∷◌, ltb, length, filter, refl, sym, ap, subst, ◌∙◌, arith, append_assoc, length-append}
-use Rattle.udt_model.specs.Losses.{without_missing}
-use Rattle.udt_ranges.specs.declared.links.Range.{Range}
-use Rattle.udt_ranges.specs.Ranges.{Rises, IsNear, IsFrom, EndsBelow, IsMaximal, IsWithin, items_of, items_of_range, absorbed, unabsorbed, pushed}
-use Rattle.udt_ranges.specs.Seats.{IsSeat, before, behind}
-use Rattle.udt_ranges.proofs.PlaceLemmas.{whole, bounds}
+use Rattle.std.proofs.Common.{◌≡◌, ◌++◌, sym, ap, ◌∙◌, arith, length-append}
+use Rattle.udt_ranges.specs.Ranges.{items_of}
+use Rattle.udt_ranges.specs.Seats.{before, behind}
+use Rattle.udt_ranges.proofs.PlaceLemmas.{whole}
 use Rattle.udt_ranges.proofs.ItemLemmas.{items_of-append}
 use Rattle.udt_ranges.proofs.MaximalLemmas.{IsMaximal-gap}
 use Rattle.udt_ranges.proofs.EditLemmas.{cut_items, Rises-swap}

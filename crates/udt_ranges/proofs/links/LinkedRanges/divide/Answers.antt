@@ -1,7 +1,7 @@
-use Rattle.std.proofs.Common.{◌≡◌, ℕ, ◌+◌, ◌-◌, ◌<◌, ◌≤◌, ◌++◌, ◌∷◌, [], true, drop, refl, sym, ap, subst, ◌∙◌, arith, append_assoc, Some, None}
+use Rattle.std.proofs.Common.{◌≡◌, ◌-◌, ◌++◌, ◌∷◌, [], sym, ap, subst, ◌∙◌, arith, append_assoc, Some}
 use Rattle.udt_ranges.specs.declared.links.Range.{Range}
-use Rattle.udt_ranges.specs.Seats.{begins_at, IsSeat, before, behind, ahead, through, beyond}
-use Rattle.udt_ranges.specs.Ranges.{Rises, IsWithin, IsBelow, IsFrom, EndsBelow, IsMaximal, items_of}
+use Rattle.udt_ranges.specs.Seats.{ahead, through, beyond}
+use Rattle.udt_ranges.specs.Ranges.{IsWithin, IsFrom, EndsBelow, IsMaximal, items_of}
 use Rattle.udt_ranges.proofs.PlaceLemmas.{whole, bounds}
 use Rattle.udt_ranges.proofs.MaximalLemmas.{IsMaximal-front, IsMaximal-back}
 use Rattle.udt_ranges.proofs.EditLemmas.{reading, IsBelow-last, EndsBelow-front, EndsBelow-push, IsWithin-lower, IsWithin-parts, Rises-parts, items_of-parts, IsMaximal-parts}

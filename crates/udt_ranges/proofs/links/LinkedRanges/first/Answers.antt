@@ -1,4 +1,3 @@
-use Rattle.std.proofs.Common.{◌≡◌, ◌<◌, ℕ, ◌%◌, ◌++◌, ◌∷◌, true, cond, eqb, [], length, arith, ap, sym, refl, ◌∙◌, length-set, inl, inr}
 use Rattle.udt_ranges.proofs.StepLemmas.{walk-IsWithin}
 use Rattle.udt_ranges.proofs.ReadLemmas.{first_none, first_some}
 use Rattle.udt_ranges.proofs.links.LinkedRanges.first.Goals as goal

@@ -1,8 +1,6 @@
-use Rattle.std.proofs.Common.{◌≡◌, ℕ, ◌+◌, ◌-◌, ◌<◌, ◌≤◌, ◌++◌, ◌∷◌, ltb, length, filter, refl, sym, ap, subst, ◌∙◌, arith, append_assoc, length-append}
-use Rattle.udt_model.specs.Losses.{without_missing}
-use Rattle.udt_ranges.specs.declared.links.Range.{Range}
-use Rattle.udt_ranges.specs.Ranges.{Rises, IsNear, IsFrom, EndsBelow, IsMaximal, IsWithin, items_of, items_of_range, absorbed, unabsorbed, pushed}
-use Rattle.udt_ranges.specs.Seats.{IsSeat, before, behind}
+use Rattle.std.proofs.Common.{◌≡◌, ◌≤◌, ◌++◌, ◌∷◌, sym, ap, ◌∙◌, arith, append_assoc, length-append}
+use Rattle.udt_ranges.specs.Ranges.{Rises, IsNear, IsWithin, items_of, items_of_range, absorbed, unabsorbed, pushed}
+use Rattle.udt_ranges.specs.Seats.{before, behind}
 use Rattle.udt_ranges.proofs.PlaceLemmas.{whole, bounds}
 use Rattle.udt_ranges.proofs.RisingLemmas.{Rises-middle}
 use Rattle.udt_ranges.proofs.ItemLemmas.{items_of-append, Rises-below, Rises-front}

@@ -1,6 +1,6 @@
-use Rattle.std.proofs.Common.{◌≡◌, ◌<◌, ℕ, ◌++◌, ◌∷◌, [], drop, arith, ap, sym, refl, ◌∙◌, Some}
-use Rattle.udt_ranges.specs.Seats.{IsSeat, before, behind, through, beyond}
-use Rattle.udt_ranges.proofs.PlaceLemmas.{kept, whole, IsWithin-drop}
+use Rattle.std.proofs.Common.{◌∷◌, Some}
+use Rattle.udt_ranges.specs.Seats.{beyond}
+use Rattle.udt_ranges.proofs.PlaceLemmas.{kept}
 use Rattle.udt_ranges.proofs.links.LinkedRanges.link.Goals as goal
 
 pub returns-in-Some-clause-seat : goal.returns-in-Some-clause-seat

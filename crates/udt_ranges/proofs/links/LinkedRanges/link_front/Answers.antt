@@ -1,5 +1,4 @@
-use Rattle.std.proofs.Common.{◌≡◌, ◌<◌, ◌%◌, cond, eqb, [], length, arith, ap, ◌∙◌, length-set, inl, inr}
-use Rattle.udt_ranges.specs.Ranges.{IsWithin, Rises}
+use Rattle.std.proofs.Common.{◌≡◌, ◌%◌, [], length, arith, ap, ◌∙◌, length-set, inl, inr}
 use Rattle.udt_ranges.proofs.ChainLemmas.{length-walk}
 use Rattle.udt_ranges.proofs.StepLemmas.{front_linked, length-IsWithin, window-some, seen_as, tail_is}
 use Rattle.udt_ranges.proofs.links.LinkedRanges.link_front.Goals as goal

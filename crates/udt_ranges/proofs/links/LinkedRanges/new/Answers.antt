@@ -1,4 +1,4 @@
-use Rattle.std.proofs.Common.{◌≡◌, ◌<◌, ℕ, ◌%◌, ◌++◌, ◌∷◌, true, cond, eqb, [], length, arith, ap, sym, refl, ◌∙◌, length-set, inl, inr}
+use Rattle.std.proofs.Common.{arith, refl}
 use Rattle.udt_ranges.specs.Ranges.{Rises}
 use Rattle.udt_ranges.specs.Chains.{walk}
 use Rattle.udt_ranges.proofs.StepLemmas.{seen_as}

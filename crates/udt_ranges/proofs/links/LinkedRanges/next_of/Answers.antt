@@ -1,5 +1,4 @@
-use Rattle.std.proofs.Common.{◌≡◌, ◌<◌, ℕ, ◌%◌, ◌++◌, ◌∷◌, true, cond, eqb, [], length, arith, ap, sym, refl, ◌∙◌, length-set, inl, inr}
-use Rattle.udt_ranges.specs.Seats.{begins_at, behind, first_of, IsSeat}
+use Rattle.std.proofs.Common.{◌≡◌, ◌%◌, length, arith, ap, ◌∙◌}
 use Rattle.udt_ranges.proofs.StepLemmas.{walk-IsWithin}
 use Rattle.udt_ranges.proofs.ReadLemmas.{begins-some, none_behind, next_behind, place_at-read}
 use Rattle.udt_ranges.proofs.links.LinkedRanges.next_of.Goals as goal

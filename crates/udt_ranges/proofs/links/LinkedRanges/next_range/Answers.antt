@@ -1,5 +1,3 @@
-use Rattle.std.proofs.Common.{◌≡◌, ap, sym, ◌∙◌, Some}
-use Rattle.udt_ranges.specs.Seats.{begins_at, behind, head_of, first_of}
 use Rattle.udt_ranges.proofs.PlaceLemmas.{found}
 use Rattle.udt_ranges.proofs.links.LinkedRanges.next_range.Goals as goal
 

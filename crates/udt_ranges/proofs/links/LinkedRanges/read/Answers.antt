@@ -1,4 +1,4 @@
-use Rattle.std.proofs.Common.{◌≡◌, ◌<◌, ℕ, ◌%◌, ◌++◌, ◌∷◌, true, cond, eqb, [], length, arith, ap, sym, refl, ◌∙◌, length-set, inl, inr}
+use Rattle.std.proofs.Common.{◌≡◌, ◌%◌, length, arith, ap, ◌∙◌}
 use Rattle.udt_ranges.specs.Chains.{range_at}
 use Rattle.udt_ranges.proofs.StepLemmas.{walk-IsWithin}
 use Rattle.udt_ranges.proofs.ReadLemmas.{begins-some, read_is, place_at-read}

@@ -1,10 +1,10 @@
-use Rattle.std.proofs.Common.{◌≡◌, ℕ, ◌+◌, ◌-◌, ◌<◌, ◌≤◌, ◌++◌, ◌∷◌, [], length, map, drop, refl, sym, ap, subst, ◌∙◌, arith, append_assoc, append-nil}
+use Rattle.std.proofs.Common.{◌≡◌, ◌++◌, ◌∷◌, [], length, map, drop, refl, sym, ap, subst, ◌∙◌, arith, append_assoc, append-nil}
 use Rattle.udt_ranges.specs.declared.links.Range.{Range}
-use Rattle.udt_ranges.specs.Ranges.{Rises, IsMaximal, IsWithin, EndsBelow, items_of, items_of_range, reported_to, pushed}
-use Rattle.udt_ranges.specs.Seats.{IsSeat, before, behind}
+use Rattle.udt_ranges.specs.Ranges.{IsMaximal, items_of, items_of_range, reported_to, pushed}
+use Rattle.udt_ranges.specs.Seats.{before, behind}
 use Rattle.udt_ranges.proofs.RisingLemmas.{Rises-middle}
 use Rattle.udt_ranges.proofs.PlaceLemmas.{whole, bounds, head_none, head_some}
-use Rattle.udt_ranges.proofs.ItemLemmas.{items_of-cons, items_of-append, Rises-front, Rises-below}
+use Rattle.udt_ranges.proofs.ItemLemmas.{items_of-cons, Rises-front, Rises-below}
 use Rattle.udt_ranges.proofs.MaximalLemmas.{items_of-pushed, IsMaximal-pushed}
 use Rattle.udt_ranges.proofs.EditLemmas.{reported-ends, IsWithin-retold, IsWithin-pushed, EndsBelow-front}
 use Rattle.udt_ranges.proofs.links.LinkedRanges.report.Goals as goal

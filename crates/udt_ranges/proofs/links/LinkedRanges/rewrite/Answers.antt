@@ -1,4 +1,4 @@
-use Rattle.std.proofs.Common.{◌≡◌, ◌<◌, ℕ, ◌%◌, ◌++◌, ◌∷◌, true, cond, eqb, [], length, arith, ap, sym, refl, ◌∙◌, length-set, inl, inr}
+use Rattle.std.proofs.Common.{◌≡◌, ◌%◌, length, arith, ap, refl, ◌∙◌, length-set}
 use Rattle.udt_ranges.proofs.StepLemmas.{walk-IsWithin, rewritten, seen_as}
 use Rattle.udt_ranges.proofs.ReadLemmas.{begins-some, place_at-read}
 use Rattle.udt_ranges.proofs.links.LinkedRanges.rewrite.Goals as goal

@@ -1,7 +1,7 @@
-use Rattle.std.proofs.Common.{◌≡◌, ◌<◌, ℕ, ◌%◌, ◌++◌, ◌∷◌, true, cond, eqb, [], length, arith, ap, sym, refl, ◌∙◌, inl, inr}
-use Rattle.udt_ranges.specs.Seats.{begins_at, IsSeat, before, behind}
-use Rattle.udt_ranges.specs.Ranges.{IsBelow, IsFrom}
-use Rattle.udt_ranges.specs.Chains.{walk, place_at}
+use Rattle.std.proofs.Common.{◌≡◌, ◌<◌, ◌%◌, true, length, arith, ap, refl, ◌∙◌, inl, inr}
+use Rattle.udt_ranges.specs.Seats.{begins_at}
+use Rattle.udt_ranges.specs.Ranges.{IsBelow}
+use Rattle.udt_ranges.specs.Chains.{walk}
 use Rattle.udt_ranges.proofs.StepLemmas.{walk-IsWithin}
 use Rattle.udt_ranges.proofs.SeekLemmas.{from_head, from_none, head_begins, tail_begins, leads_on, below_through, from_beyond}
 use Rattle.udt_ranges.proofs.ReadLemmas.{counted-some, place_at-read}

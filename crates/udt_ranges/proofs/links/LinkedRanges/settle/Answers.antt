@@ -1,7 +1,6 @@
-use Rattle.std.proofs.Common.{◌≡◌, ℕ, ◌+◌, ◌-◌, ◌<◌, ◌≤◌, ◌++◌, ◌∷◌, [], true, drop, refl, sym, ap, subst, ◌∙◌, arith, append_assoc, Some, None}
-use Rattle.udt_ranges.specs.declared.links.Range.{Range}
-use Rattle.udt_ranges.specs.Seats.{begins_at, IsSeat, before, behind, ahead, through, beyond}
-use Rattle.udt_ranges.specs.Ranges.{IsWithin, pushed}
+use Rattle.std.proofs.Common.{◌≡◌, ◌++◌, ◌∷◌, [], true, refl, sym, ap, subst, ◌∙◌, arith, Some, None}
+use Rattle.udt_ranges.specs.Seats.{begins_at, before, behind, ahead, through, beyond}
+use Rattle.udt_ranges.specs.Ranges.{IsWithin}
 use Rattle.udt_ranges.proofs.SeatLemmas.{is_split}
 use Rattle.udt_ranges.proofs.PlaceLemmas.{whole, bounds}
 use Rattle.udt_ranges.proofs.MaximalLemmas.{pushed-joined, pushed-apart}

@@ -1,5 +1,5 @@
-use Rattle.std.proofs.Common.{◌≡◌, ◌++◌, ◌∷◌, [], true, refl, ap, ◌∙◌}
-use Rattle.udt_ranges.specs.Seats.{begins_at, ahead, through, beyond}
+use Rattle.std.proofs.Common.{◌++◌, ◌∷◌, refl}
+use Rattle.udt_ranges.specs.Seats.{ahead, beyond}
 use Rattle.udt_ranges.proofs.SeatLemmas.{is_split}
 use Rattle.udt_ranges.proofs.PlaceLemmas.{bounds}
 use Rattle.udt_ranges.proofs.links.LinkedRanges.tell.Goals as goal

@@ -1,7 +1,7 @@
-use Rattle.std.proofs.Common.{◌≡◌, ℕ, ◌+◌, ◌-◌, ◌<◌, ◌≤◌, ◌++◌, ◌∷◌, [], true, drop, refl, sym, ap, subst, ◌∙◌, arith, append_assoc, Some, None}
+use Rattle.std.proofs.Common.{◌≡◌, ◌+◌, ◌++◌, ◌∷◌, drop, refl, sym, ap, ◌∙◌, arith}
 use Rattle.udt_ranges.specs.declared.links.Range.{Range}
-use Rattle.udt_ranges.specs.Seats.{begins_at, IsSeat, before, behind, ahead, through, beyond}
-use Rattle.udt_ranges.specs.Ranges.{Rises, IsWithin, trimmed, trimmed_off}
+use Rattle.udt_ranges.specs.Seats.{before, behind}
+use Rattle.udt_ranges.specs.Ranges.{trimmed, trimmed_off}
 use Rattle.udt_ranges.proofs.PlaceLemmas.{whole, bounds, head_none, head_some, IsWithin-without}
 use Rattle.udt_ranges.proofs.RisingLemmas.{Rises-middle}
 use Rattle.udt_ranges.proofs.ItemLemmas.{trimmed-before, trimmed-inside, trimmed-behind}

@@ -1,5 +1,5 @@
-use Rattle.std.proofs.Common.{◌≡◌, ◌<◌, ℕ, ◌++◌, ◌∷◌, [], drop, arith, ap, sym, refl, ◌∙◌, Some}
-use Rattle.udt_ranges.specs.Seats.{IsSeat, before, behind, through, beyond}
+use Rattle.std.proofs.Common.{drop, Some}
+use Rattle.udt_ranges.specs.Seats.{through, beyond}
 use Rattle.udt_ranges.proofs.PlaceLemmas.{kept, whole, IsWithin-drop}
 use Rattle.udt_ranges.proofs.links.LinkedRanges.unlink.Goals as goal
 

@@ -1,6 +1,5 @@
-use Rattle.std.proofs.Common.{◌≡◌, ◌<◌, ℕ, ◌%◌, ◌++◌, ◌∷◌, true, cond, eqb, [], length, arith, ap, sym, refl, ◌∙◌, length-set, inl, inr}
+use Rattle.std.proofs.Common.{◌≡◌, ◌%◌, length, arith, ap, ◌∙◌, length-set}
 use Rattle.udt_ranges.specs.Chains.{walk}
-use Rattle.udt_ranges.specs.Seats.{beyond}
 use Rattle.udt_ranges.proofs.SeatLemmas.{length-beyond}
 use Rattle.udt_ranges.proofs.ChainLemmas.{length-walk}
 use Rattle.udt_ranges.proofs.StepLemmas.{behind_unlinked, walk-IsWithin, seen_as}

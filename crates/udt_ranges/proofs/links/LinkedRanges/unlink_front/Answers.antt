@@ -1,4 +1,4 @@
-use Rattle.std.proofs.Common.{◌≡◌, ◌<◌, ℕ, ◌%◌, ◌++◌, ◌∷◌, true, cond, eqb, [], length, arith, ap, sym, refl, ◌∙◌, length-set, inl, inr}
+use Rattle.std.proofs.Common.{◌≡◌, ◌%◌, length, arith, ap, refl, ◌∙◌}
 use Rattle.udt_ranges.proofs.StepLemmas.{front_unlinked, seen_as}
 use Rattle.udt_ranges.proofs.ReadLemmas.{some_first, counted-some, place_at-read}
 use Rattle.udt_ranges.proofs.links.LinkedRanges.unlink_front.Goals as goal

@@ -1,6 +1,5 @@
-use Rattle.std.proofs.Common.{◌≡◌, refl, sym, ap, ◌∙◌}
-use Rattle.udt_model.specs.Losses.{report, fitting_ranges, due_ranges, after_report}
-use Rattle.udt_ranges.specs.Ranges.{items_of}
+use Rattle.std.proofs.Common.{refl}
+use Rattle.udt_model.specs.Losses.{report}
 use Rattle.udt_ranges.proofs.PlaceLemmas.{bounds}
 use Rattle.udt_rcv_loss.proofs.ReportLemmas.{reported_is, reported_none}
 use Rattle.udt_rcv_loss.proofs.list.RcvLoss.due.Goals as goal

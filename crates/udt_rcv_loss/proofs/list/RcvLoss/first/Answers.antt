@@ -1,8 +1,4 @@
-use Rattle.std.proofs.Common.{◌≡◌, ℕ, ◌+◌, ◌-◌, ◌<◌, ◌≤◌, [], length, map, refl, sym, ap, subst, ◌∙◌, arith}
-use Rattle.udt_model.specs.Losses.{with_missing, without_missing, is_missing, missing_ranges}
-use Rattle.udt_ranges.specs.Ranges.{Rises, IsWithin, IsMaximal, items_of}
-use Rattle.udt_rcv_loss.specs.Absent.{MissingList, IsInWindow}
-use Rattle.udt_rcv_loss.specs.Inside.{IsMissingList}
+use Rattle.std.proofs.Common.{◌∙◌}
 use Rattle.udt_ranges.proofs.PlaceLemmas.{bounds}
 use Rattle.udt_ranges.proofs.OffsetLemmas.{least-items}
 use Rattle.udt_rcv_loss.proofs.MissingLemmas.{IsInWindow-items}

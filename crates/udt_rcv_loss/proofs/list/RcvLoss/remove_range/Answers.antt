@@ -1,8 +1,4 @@
-use Rattle.std.proofs.Common.{◌≡◌, ℕ, ◌+◌, ◌-◌, ◌<◌, ◌≤◌, [], length, map, refl, sym, ap, subst, ◌∙◌, arith}
-use Rattle.udt_model.specs.Losses.{with_missing, without_missing, is_missing, missing_ranges}
-use Rattle.udt_ranges.specs.Ranges.{Rises, IsWithin, IsMaximal, items_of}
-use Rattle.udt_rcv_loss.specs.Absent.{MissingList, IsInWindow}
-use Rattle.udt_rcv_loss.specs.Inside.{IsMissingList}
+use Rattle.std.proofs.Common.{refl}
 use Rattle.udt_rcv_loss.proofs.MissingLemmas.{without_none}
 use Rattle.udt_rcv_loss.proofs.list.RcvLoss.remove_range.Goals as goal
 

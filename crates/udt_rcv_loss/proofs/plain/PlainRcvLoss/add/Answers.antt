@@ -1,4 +1,4 @@
-use Rattle.std.proofs.Common.{◌≡◌, ◌+◌, ◌-◌, ◌≤◌, ◌++◌, ◌∷◌, [], map, sym, ap, ◌∙◌, arith, append_assoc, refl}
+use Rattle.std.proofs.Common.{◌+◌, ◌++◌, ◌∷◌, [], map, sym, ap, ◌∙◌, arith, append_assoc, refl}
 use Rattle.std.specs.List.{range_with_len}
 use Rattle.udt_rcv_loss.proofs.PlainLemmas.{listed, row_push, row_last}
 use Rattle.udt_rcv_loss.proofs.plain.PlainRcvLoss.add.Goals as goal

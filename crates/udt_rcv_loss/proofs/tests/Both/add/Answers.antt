@@ -1,6 +1,6 @@
-use Rattle.std.proofs.Common.{◌≡◌, ◌+◌, ◌<◌, ◌≤◌, refl, sym, ap, subst, ◌∙◌, arith}
-use Rattle.udt_rcv_loss.specs.Absent.{AllBelow, AllFrom, first_or}
-use Rattle.udt_rcv_loss.proofs.MissingLemmas.{AllBelow-higher, AllBelow-with, AllBelow-without, AllBelow-report, AllBelow-least, AllFrom-with, AllFrom-without, AllFrom-report, AllFrom-least, AllFrom-none, first_or-from, none_first}
+use Rattle.std.proofs.Common.{◌+◌, sym, ap, subst, ◌∙◌, arith}
+use Rattle.udt_rcv_loss.specs.Absent.{AllBelow, AllFrom}
+use Rattle.udt_rcv_loss.proofs.MissingLemmas.{AllBelow-higher, AllBelow-with, AllFrom-with, first_or-from}
 use Rattle.udt_rcv_loss.proofs.tests.Both.add.Goals as goal
 
 pub add-requires-then-to-clause-above : goal.add-requires-then-to-clause-above

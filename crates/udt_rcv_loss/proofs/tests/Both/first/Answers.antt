@@ -1,5 +1,4 @@
-use Rattle.std.proofs.Common.{◌≡◌, ◌+◌, ◌<◌, ◌≤◌, refl, sym, ap, subst, ◌∙◌, arith}
-use Rattle.udt_rcv_loss.specs.Absent.{AllBelow, AllFrom}
+use Rattle.std.proofs.Common.{arith}
 use Rattle.udt_rcv_loss.proofs.MissingLemmas.{AllBelow-least, AllFrom-least, AllFrom-none, none_first}
 use Rattle.udt_rcv_loss.proofs.tests.Both.first.Goals as goal
 

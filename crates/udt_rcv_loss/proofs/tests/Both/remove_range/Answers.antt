@@ -1,6 +1,6 @@
-use Rattle.std.proofs.Common.{◌≡◌, ◌+◌, ◌<◌, ◌≤◌, refl, sym, ap, subst, ◌∙◌, arith}
-use Rattle.udt_rcv_loss.specs.Absent.{AllBelow, AllFrom, first_or}
-use Rattle.udt_rcv_loss.proofs.MissingLemmas.{AllBelow-higher, AllBelow-with, AllBelow-without, AllBelow-report, AllBelow-least, AllFrom-with, AllFrom-without, AllFrom-report, AllFrom-least, AllFrom-none, first_or-from, none_first}
+use Rattle.std.proofs.Common.{◌+◌, sym, ap, subst, ◌∙◌}
+use Rattle.udt_rcv_loss.specs.Absent.{AllBelow, AllFrom}
+use Rattle.udt_rcv_loss.proofs.MissingLemmas.{AllBelow-without, AllFrom-without}
 use Rattle.udt_rcv_loss.proofs.tests.Both.remove_range.Goals as goal
 
 pub invariant_of-self-2 : goal.invariant_of-self-2

@@ -1,10 +1,7 @@
-use Rattle.std.proofs.Common.{◌≡◌, ℕ, ◌+◌, ◌-◌, ◌<◌, ◌≤◌, ltb, ◌||◌, ◌++◌, [], length, map, filter, drop, refl, sym, ap, subst, ◌∙◌, arith, length-append, Some, None}
-use Rattle.std.proofs.lemmas.List.{length-map}
-use Rattle.udt_model.specs.Losses.{Missing, with_range, from_offset, without_range, without_missing, offsets_between}
-use Rattle.udt_ranges.specs.Ranges.{Rises, IsMaximal, items_of, items_of_range}
-use Rattle.udt_ranges.specs.Offsets.{offsets_in, Rising, least}
-use Rattle.udt_snd_loss.specs.Lost.{LossList}
-use Rattle.udt_snd_loss.specs.Inside.{Unreported, IsLossList}
+use Rattle.std.proofs.Common.{◌≡◌, ◌+◌, ◌<◌, refl, ap, subst, ◌∙◌, arith}
+use Rattle.udt_model.specs.Losses.{from_offset}
+use Rattle.udt_ranges.specs.Ranges.{items_of}
+use Rattle.udt_ranges.specs.Offsets.{offsets_in, Rising}
 use Rattle.udt_ranges.proofs.OffsetLemmas.{from_offset-zero, from_offset-twice, from_offset-without, Rising-from_offset, Rising-items, IsFrom-offsets}
 use Rattle.udt_ranges.proofs.RisingLemmas.{Rises-higher}
 use Rattle.udt_ranges.proofs.ItemLemmas.{Rises-from}

@@ -1,10 +1,5 @@
-use Rattle.std.proofs.Common.{◌≡◌, ℕ, ◌+◌, ◌-◌, ◌<◌, ◌≤◌, ltb, ◌||◌, ◌++◌, [], length, map, filter, drop, refl, sym, ap, subst, ◌∙◌, arith, length-append, Some, None}
+use Rattle.std.proofs.Common.{◌+◌, length, sym, ap, ◌∙◌}
 use Rattle.std.proofs.lemmas.List.{length-map}
-use Rattle.udt_model.specs.Losses.{Missing, with_range, from_offset, without_range, without_missing, offsets_between}
-use Rattle.udt_ranges.specs.Ranges.{Rises, IsMaximal, items_of, items_of_range}
-use Rattle.udt_ranges.specs.Offsets.{offsets_in, Rising, least}
-use Rattle.udt_snd_loss.specs.Lost.{LossList}
-use Rattle.udt_snd_loss.specs.Inside.{Unreported, IsLossList}
 use Rattle.udt_snd_loss.proofs.UnreportedLemmas.{ranges_of-items, ends_of}
 use Rattle.udt_snd_loss.proofs.list.SndLoss.ranges.Goals as goal
 

@@ -1,10 +1,8 @@
-use Rattle.std.proofs.Common.{List, ◌≡◌, ℕ, ◌+◌, ◌-◌, ◌<◌, ◌≤◌, ltb, ◌||◌, ◌++◌, [], length, map, filter, drop, refl, sym, ap, subst, ◌∙◌, arith, length-append, Some, None}
-use Rattle.std.proofs.lemmas.List.{length-map}
-use Rattle.udt_model.specs.Losses.{Missing, with_range, from_offset, without_range, without_missing, offsets_between}
-use Rattle.udt_ranges.specs.Ranges.{Rises, IsMaximal, items_of, items_of_range}
-use Rattle.udt_ranges.specs.Offsets.{offsets_in, Rising, least}
-use Rattle.udt_snd_loss.specs.Lost.{LossList}
-use Rattle.udt_snd_loss.specs.Inside.{Unreported, IsLossList}
+use Rattle.std.proofs.Common.{List, ◌≡◌, ℕ, ◌+◌, ltb, ◌||◌, refl, arith}
+use Rattle.udt_model.specs.Losses.{Missing, without_range, without_missing}
+use Rattle.udt_ranges.specs.Ranges.{items_of}
+use Rattle.udt_ranges.specs.Offsets.{offsets_in}
+use Rattle.udt_snd_loss.specs.Inside.{Unreported}
 use Rattle.udt_ranges.proofs.OffsetLemmas.{offsets_in-filter, without_none}
 use Rattle.udt_snd_loss.proofs.UnreportedLemmas.{Unreported-filter}
 use Rattle.udt_snd_loss.proofs.list.SndLoss.remove.Goals as goal
