@@ -1,10 +1,9 @@
 -- What was received, by the parts that hold it.
-use Rattle.std.proofs.Common.{◌≡◌, ℕ, zero, suc, ◌+◌, ◌-◌, ◌<◌, ◌≤◌, max, Bool, true, false, cond, ◌&&◌, eqb, ltb, leb, List, [], ◌∷◌, ◌++◌, length, take, drop, set, Some, refl, ap, ◌∙◌, sym, arith, inl, inr}
+use Rattle.std.proofs.Common.{◌≡◌, ℕ, zero, suc, ◌+◌, ◌-◌, ◌<◌, ◌≤◌, Bool, true, false, cond, ◌&&◌, eqb, ltb, leb, List, [], ◌∷◌, ◌++◌, length, take, drop, set, Some, refl, ap, ◌∙◌, sym, arith, inl, inr}
 use Rattle.std.specs.Prelude.{All, slice_get}
 use Rattle.std.proofs.lemmas.Bool.{cases_lt, false≢true, lt-ltb, le-ltb, le-leb, lt-leb, ne_eqb}
-use Rattle.std.proofs.lemmas.List.{length-set, length-drop, take-set-le, drop-set-lt, drop-drop, take-append-drop, drop-append-le, take-append-le, take_at}
-use Rattle.std.proofs.lemmas.List.Elements.{All-nil, All-head, All-drop}
-use Rattle.std.proofs.lemmas.Option.{slice_get_within}
+use Rattle.std.proofs.lemmas.List.{length-set, length-drop, take-set-le, take-append-drop, drop-append-le, take-append-le, take_at}
+use Rattle.std.proofs.lemmas.List.Elements.{All-nil, All-head}
 use Rattle.udt_model.specs.ReceiveBlocks.{ReceiveBlocks, waiting_of, beginning, begins_at, given_after, with_consumed, after_consuming}
 use Rattle.udt_rcv_buffer.specs.declared.marks.Marks.{Marks}
 use Rattle.udt_rcv_buffer.specs.declared.buffer.RcvBuffer.TheInside.{Inside}
@@ -15,7 +14,7 @@ use Rattle.udt_rcv_buffer.specs.Marked.{IsMarked, EndsRun}
 use Rattle.udt_rcv_buffer.specs.Buffers.{received_of, IsReceived}
 use Rattle.udt_ring.proofs.JoinedLemmas.{joined-append, joined-take_le}
 use Rattle.udt_rcv_buffer.proofs.MarkLemmas.{used_at, given_within}
-use Rattle.udt_rcv_buffer.proofs.PlacedLemmas.{bytes_from-run, beginning-settled, placed_from-consumed, consume_none}
+use Rattle.udt_rcv_buffer.proofs.PlacedLemmas.{bytes_from-run, beginning-settled, placed_from-consumed}
 
 -- ---- nothing was received
 
@@ -24,15 +23,17 @@ none_settled [] unused = refl
 none_settled (part ∷ parts) unused =
     record { block = λ used. absurd (false≢true (sym (All-head IsUnused part parts unused) ∙ used)); none = λ _. refl }
 
-pub none_marked : (marks : Marks) (parts : List (Part Head)) → All IsUnused parts → marks.run ≡ 0 → marks.bytes ≡ 0 → marks.top ≡ 0 → IsMarked marks parts
-none_marked marks parts unused run bytes top = record {
+pub none_marked : (marks : Marks) (parts : List (Part Head)) → marks.run ≡ 0 → marks.bytes ≡ 0 → IsMarked marks parts
+none_marked marks parts run bytes = record {
   within = omega (arith, run);
   used = rw run (All-nil IsUsed);
   bytes = rw (run, bytes) refl;
-  top = omega (arith, top);
-  run_top = omega (arith, run);
-  unused = rw top unused;
 }
+
+-- the first part isn't used either
+pub none_first : (parts : List (Part Head)) → All IsUnused parts → EndsRun 0 parts
+none_first [] unused part found = absurd cc
+none_first (first ∷ parts) unused part found = let same : first ≡ part = cc in rw (← same) (All-head IsUnused first parts unused)
 
 -- ---- the bytes that wait
 
@@ -71,23 +72,13 @@ behind_run marks parts place part m found unused = elim (cases_lt place marks.ru
 ]
 
 pub placed_marked : (marks new : Marks) (parts : List (Part Head)) (place : ℕ) (part with : Part Head) → IsMarked marks parts → slice_get parts place ≡ Some part → part.head.used ≡ false
-    → new.run ≡ marks.run → new.bytes ≡ marks.bytes → new.top ≡ max marks.top (place + 1) → IsMarked new (set parts place with)
-placed_marked marks new parts place part with m found unused run bytes top =
-    let within = slice_get_within parts place part found in
-    let behind = behind_run marks parts place part m found unused in
-    let len = length-set parts place with in
-    let same = take-set-le marks.run parts place with behind in
-    let past : drop (max marks.top (place + 1)) (set parts place with) ≡ drop (max marks.top (place + 1)) parts = drop-set-lt (max marks.top (place + 1)) parts place with (omega arith) in
-    let more : marks.top + (max marks.top (place + 1) - marks.top) ≡ max marks.top (place + 1) = omega arith in
-    let rest : All IsUnused (drop (max marks.top (place + 1)) parts) =
-    rw (drop-drop (max marks.top (place + 1) - marks.top) marks.top parts, more) at (All-drop IsUnused (max marks.top (place + 1) - marks.top) (drop marks.top parts) m.unused) in
+    → new.run ≡ marks.run → new.bytes ≡ marks.bytes → IsMarked new (set parts place with)
+placed_marked marks new parts place part with m found unused run bytes =
+    let same = take-set-le marks.run parts place with (behind_run marks parts place part m found unused) in
     record {
-      within = omega (arith, run, len, m.within);
+      within = omega (arith, run, length-set parts place with, m.within);
       used = rw (run, same) m.used;
       bytes = rw (run, bytes, same) m.bytes;
-      top = omega (arith, top, len, within, m.top);
-      run_top = omega (arith, run, top, m.run_top);
-      unused = rw (top, past) rest;
     }
 
 -- what was given stays so
@@ -115,34 +106,23 @@ consumed_settled given at (suc count) parts behind settled = behind_first (consu
 
 -- no more was given than is there then
 pub consumed_given : (given at count : ℕ) (parts : List (Part Head)) (marks : Marks) → IsSettled given parts
-    → marks.given ≡ cond (eqb at 0 && ltb 0 count) 0 given → IsMarked marks (consume_parts at count parts) → EndsRun marks.run (consume_parts at count parts) → marks.given ≤ marks.bytes
-consumed_given given zero zero parts marks settled is m ends =
-    let none : consume_parts 0 0 parts ≡ parts = consume_none 0 parts in
-    let same : marks.given ≡ given = is in
-    given_within marks (consume_parts 0 0 parts) m ends (rw (none, same) settled)
-consumed_given given zero (suc count) parts marks settled is m ends = let none : marks.given ≡ 0 = rw (lt-ltb 0 (suc count) (omega arith)) at is in omega (arith, none)
+    → marks.given ≡ cond (eqb at 0) 0 given → IsMarked marks (consume_parts at count parts) → EndsRun marks.run (consume_parts at count parts) → marks.given ≤ marks.bytes
+consumed_given given zero count parts marks settled is m ends = omega (arith, is)
 consumed_given given (suc at) count parts marks settled is m ends =
     let same : marks.given ≡ given = rw (ne_eqb (suc at) 0 (λ e. absurd (omega (arith, e)))) at is in
     given_within marks (consume_parts (suc at) count parts) m ends (rw same (consumed_settled given (suc at) count parts (omega arith) settled))
 
 -- how many bytes of the first block were given then
-given_same : (base given at count : ℕ) → cond (eqb at 0 && ltb 0 count) 0 given ≡ cond (leb (base + at) base && ltb base (base + at + count)) 0 given
-given_same base given zero zero =
-    let e : base + 0 + 0 ≡ base = omega arith in
-    rw (e, le-ltb base base (omega arith), and_false (leb (base + 0) base)) refl
-  where
-    and_false : (b : Bool) → (b && false) ≡ false
-    and_false true = refl
-    and_false false = refl
-given_same base given zero (suc count) = rw (lt-ltb 0 (suc count) (omega arith), le-leb (base + 0) base (omega arith), lt-ltb base (base + 0 + suc count) (omega arith)) refl
-given_same base given (suc at) count = rw (ne_eqb (suc at) 0 (λ e. absurd (omega (arith, e))), lt-leb (base + suc at) base (omega arith)) refl
+given_same : (base given at count : ℕ) → 0 < count → cond (eqb at 0) 0 given ≡ cond (leb (base + at) base && ltb base (base + at + count)) 0 given
+given_same base given zero count some = rw (le-leb (base + 0) base (omega arith), lt-ltb base (base + 0 + count) (omega (arith, some))) refl
+given_same base given (suc at) count some = rw (ne_eqb (suc at) 0 (λ e. absurd (omega (arith, e))), lt-leb (base + suc at) base (omega arith)) refl
 
 -- where the received blocks begin once parts are consumed
-pub consumed_beginning : (r : ReceiveBlocks) (at count : ℕ) (parts : List (Part Head)) (given : ℕ) → r.placed ≡ placed_from r.base parts → at + count ≤ length parts
-    → given ≡ cond (eqb at 0 && ltb 0 count) 0 r.given
+pub consumed_beginning : (r : ReceiveBlocks) (at count : ℕ) (parts : List (Part Head)) (given : ℕ) → r.placed ≡ placed_from r.base parts → 0 < count → at + count ≤ length parts
+    → given ≡ cond (eqb at 0) 0 r.given
     → after_consuming r (r.base + at) count ≡ begins_at r (beginning r.base given (placed_from r.base (consume_parts at count parts)))
-consumed_beginning r at count parts given placed within is =
-    rw (is, given_same r.base r.given at count, placed, placed_from-consumed r.base at count parts within) refl
+consumed_beginning r at count parts given placed some within is =
+    rw (is, given_same r.base r.given at count some, placed, placed_from-consumed r.base at count parts within) refl
 
 -- where nothing is consumed, all stays
 pub nothing_consumed : (r : ReceiveBlocks) (from : ℕ) (parts : List (Part Head)) → r.placed ≡ placed_from r.base parts → r.base ≤ from → IsSettled r.given parts

@@ -1,9 +1,9 @@
 -- What is kept in mind of parts, when parts change.
-use Rattle.std.proofs.Common.{◌≡◌, ℕ, zero, suc, ◌+◌, ◌-◌, ◌<◌, ◌≤◌, max, Bool, not, true, false, cond, List, [], ◌∷◌, ◌++◌, length, take, drop, set, get_or, ltb, Some, refl, ap, ◌∙◌, sym, arith, inl, inr}
+use Rattle.std.proofs.Common.{◌≡◌, ℕ, zero, suc, ◌+◌, ◌-◌, ◌<◌, ◌≤◌, Bool, not, true, false, cond, List, [], ◌∷◌, ◌++◌, length, take, drop, set, get_or, ltb, Some, refl, ap, ◌∙◌, sym, arith, inl, inr}
 use Rattle.std.specs.Prelude.{All, slice_get}
 use Rattle.std.proofs.lemmas.Bool.{cases_lt, lt-ltb, le-ltb, false≢true}
-use Rattle.std.proofs.lemmas.List.{length-set, length-append, take-set-le, drop-set-lt, drop-drop, drop-append-le, take-append-le}
-use Rattle.std.proofs.lemmas.List.Elements.{All-tail, All-get_or, All-more, All-set, All-drop, All-push}
+use Rattle.std.proofs.lemmas.List.{length-set, length-append, take-set-le, take-append-le}
+use Rattle.std.proofs.lemmas.List.Elements.{All-tail, All-get_or, All-more, All-set}
 use Rattle.std.proofs.lemmas.Option.{slice_get_within, get_or_from_slice_get}
 use Rattle.udt_rcv_buffer.specs.declared.marks.Marks.{Marks}
 use Rattle.udt_rcv_buffer.specs.declared.head.Head.{Head}
@@ -11,7 +11,7 @@ use Rattle.udt_ring.specs.Parts.{Part, turned, joined}
 use Rattle.udt_rcv_buffer.specs.PlacedParts.{consumed_part, IsUsed, IsUnused, IsSettled}
 use Rattle.udt_rcv_buffer.specs.Marked.{IsMarked, EndsRun}
 use Rattle.udt_ring.proofs.JoinedLemmas.{joined_more, joined-set}
-use Rattle.udt_ring.proofs.TurnLemmas.{slice_get-drop, slice_get-take}
+use Rattle.udt_ring.proofs.TurnLemmas.{slice_get-take}
 
 -- a part of the run is used
 pub used_at : (parts : List (Part Head)) (run i : ℕ) (part : Part Head) → All IsUsed (take run parts) → i < run → slice_get parts i ≡ Some part → part.head.used ≡ true
@@ -19,14 +19,6 @@ used_at parts run i part used lt found =
     let there : slice_get (take run parts) i ≡ Some part = slice_get-take run i parts lt ∙ found in
     let within = slice_get_within (take run parts) i part there in
     rw (get_or_from_slice_get (take run parts) i part part there) at (All-get_or IsUsed (take run parts) i part within used)
-
--- a part behind the top isn't
-pub unused_at : (parts : List (Part Head)) (top i : ℕ) (part : Part Head) → All IsUnused (drop top parts) → top ≤ i → slice_get parts i ≡ Some part → part.head.used ≡ false
-unused_at parts top i part unused le found =
-    let place : top + (i - top) ≡ i = omega (arith, le) in
-    let there : slice_get (drop top parts) (i - top) ≡ Some part = slice_get-drop top (i - top) parts ∙ ap (slice_get parts) place ∙ found in
-    let within = slice_get_within (drop top parts) (i - top) part there in
-    rw (get_or_from_slice_get (drop top parts) (i - top) part part there) at (All-get_or IsUnused (drop top parts) (i - top) part within unused)
 
 -- ---- the run
 
@@ -39,24 +31,17 @@ take-set-lt (suc n) (suc i) (y ∷ xs) x lt = rw (take-set-lt n i xs x (omega (a
 -- ---- the run grows
 
 pub grown : (marks new : Marks) (parts : List (Part Head)) (part : Part Head) → IsMarked marks parts → slice_get parts marks.run ≡ Some part → part.head.used ≡ true
-    → new.run ≡ marks.run + 1 → new.bytes ≡ marks.bytes + length part.bytes → new.top ≡ marks.top → IsMarked new parts
-grown marks new parts part m found used run bytes top =
+    → new.run ≡ marks.run + 1 → new.bytes ≡ marks.bytes + length part.bytes → IsMarked new parts
+grown marks new parts part m found used run bytes =
     let within = slice_get_within parts marks.run part found in
     let here : IsUsed (get_or parts marks.run part) = rw (get_or_from_slice_get parts marks.run part part found) used in
     let all : All IsUsed (take (marks.run + 1) parts) = All-more IsUsed parts marks.run part within m.used here in
     let len : length (joined (take (marks.run + 1) parts)) ≡ length (joined (take marks.run parts)) + length part.bytes =
     rw (joined_more parts marks.run part found) (length-append (joined (take marks.run parts)) part.bytes) in
-    let below : marks.run < marks.top = elim (cases_lt marks.run marks.top) [
-      | inl lt ↦ lt
-      | inr past ↦ absurd (false≢true (sym (unused_at parts marks.top marks.run part m.unused past found) ∙ used))
-    ] in
     record {
       within = omega (arith, run, within);
       used = rw run all;
       bytes = rw (run, bytes) (omega (arith, len, m.bytes));
-      top = omega (arith, top, m.top);
-      run_top = omega (arith, run, below, top);
-      unused = rw top m.unused;
     }
 
 -- ---- a part is consumed
@@ -68,15 +53,9 @@ bytes_within marks parts i part m lt found =
     omega (arith, joined-set (take marks.run parts) i part consumed_part there, m.bytes)
 
 pub consumed : (marks new : Marks) (parts : List (Part Head)) (i : ℕ) (part : Part Head) → IsMarked marks parts → slice_get parts i ≡ Some part
-    → new.run ≡ marks.run → new.bytes ≡ cond (ltb i marks.run) (marks.bytes - length part.bytes) marks.bytes → new.top ≡ max marks.top (i + 1)
-    → IsMarked new (set parts i consumed_part)
-consumed marks new parts i part m found run bytes top =
-    let within = slice_get_within parts i part found in
+    → new.run ≡ marks.run → new.bytes ≡ cond (ltb i marks.run) (marks.bytes - length part.bytes) marks.bytes → IsMarked new (set parts i consumed_part)
+consumed marks new parts i part m found run bytes =
     let len = length-set parts i consumed_part in
-    let past : drop (max marks.top (i + 1)) (set parts i consumed_part) ≡ drop (max marks.top (i + 1)) parts = drop-set-lt (max marks.top (i + 1)) parts i consumed_part (omega arith) in
-    let more : marks.top + (max marks.top (i + 1) - marks.top) ≡ max marks.top (i + 1) = omega arith in
-    let unused : All IsUnused (drop (max marks.top (i + 1)) parts) =
-    rw (drop-drop (max marks.top (i + 1) - marks.top) marks.top parts, more) at (All-drop IsUnused (max marks.top (i + 1) - marks.top) (drop marks.top parts) m.unused) in
     let front = elim (cases_lt i marks.run) as (λ _. All IsUsed (take marks.run (set parts i consumed_part)) × (new.bytes ≡ length (joined (take marks.run (set parts i consumed_part))))) [
       | inl lt ↦
           let there : slice_get (take marks.run parts) i ≡ Some part = slice_get-take marks.run i parts lt ∙ found in
@@ -93,32 +72,24 @@ consumed marks new parts i part m found run bytes top =
       within = omega (arith, len, run, m.within);
       used = rw run front.0;
       bytes = rw run front.1;
-      top = omega (arith, top, len, within, m.top);
-      run_top = omega (arith, run, top, m.run_top);
-      unused = rw (top, past) unused;
     }
 
 -- ---- the first part is freed
 
-pub freed : (marks new : Marks) (part empty : Part Head) (parts : List (Part Head)) → IsMarked marks (part ∷ parts) → 0 < marks.run → empty.head.used ≡ false
-    → new.run ≡ marks.run - 1 → new.bytes ≡ marks.bytes - length part.bytes → new.top ≡ marks.top - 1 → IsMarked new (parts ++ empty ∷ [])
-freed marks new part empty parts m some unused run bytes top = freed_at new.run new.top (omega (arith, run, some)) (omega (arith, top, some, m.run_top)) (refl, refl)
+pub freed : (marks new : Marks) (part empty : Part Head) (parts : List (Part Head)) → IsMarked marks (part ∷ parts) → 0 < marks.run
+    → new.run ≡ marks.run - 1 → new.bytes ≡ marks.bytes - length part.bytes → IsMarked new (parts ++ empty ∷ [])
+freed marks new part empty parts m some run bytes = freed_at new.run (omega (arith, run, some)) refl
   where
-    freed_at : (r t : ℕ) → marks.run ≡ suc r → marks.top ≡ suc t → (new.run ≡ r) × (new.top ≡ t) → IsMarked new (parts ++ empty ∷ [])
-    freed_at r t is_run is_top same =
+    freed_at : (r : ℕ) → marks.run ≡ suc r → new.run ≡ r → IsMarked new (parts ++ empty ∷ [])
+    freed_at r is_run same =
         let len : length (parts ++ empty ∷ []) ≡ length parts + 1 = length-append parts (empty ∷ []) in
         let within : r ≤ length parts = omega (arith, m.within, is_run) in
-        let top_within : t ≤ length parts = omega (arith, m.top, is_top) in
         let all : All IsUsed (part ∷ take r parts) = rw is_run at m.used in
         let sum : marks.bytes ≡ length (joined (part ∷ take r parts)) = rw is_run at m.bytes in
-        let back : All IsUnused (drop t parts) = rw is_top at m.unused in
         record {
-          within = omega (arith, same.0, within, len);
-          used = rw (same.0, take-append-le r parts (empty ∷ []) within) (All-tail IsUsed part (take r parts) all);
-          bytes = rw (same.0, take-append-le r parts (empty ∷ []) within) (omega (arith, bytes, sum, length-append part.bytes (joined (take r parts))));
-          top = omega (arith, same.1, top_within, len);
-          run_top = omega (arith, same.0, same.1, is_run, is_top, m.run_top);
-          unused = rw (same.1, drop-append-le t parts (empty ∷ []) top_within) (All-push IsUnused (drop t parts) empty back unused);
+          within = omega (arith, same, within, len);
+          used = rw (same, take-append-le r parts (empty ∷ []) within) (All-tail IsUsed part (take r parts) all);
+          bytes = rw (same, take-append-le r parts (empty ∷ []) within) (omega (arith, bytes, sum, length-append part.bytes (joined (take r parts))));
         }
 
 -- what ends the run still ends it

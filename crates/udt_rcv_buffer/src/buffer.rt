@@ -12,6 +12,7 @@ use crate::messages::next_message;
 use std::alloc::Global;
 use std::marker::Model;
 use udt_model::Flags;
+use udt_ranges::{LinkedRanges, Range};
 use udt_ring::Ring;
 
 /// The blocks of a receiver, from their arrival until their bytes are read. It takes all its memory
@@ -24,6 +25,8 @@ pub struct RcvBuffer {
     ring: Ring<Head>,
     base: u64,
     marks: Marks,
+    // the offsets of all parts that are used
+    taken: LinkedRanges,
 }
 
 impl Model for RcvBuffer {
@@ -63,12 +66,13 @@ impl RcvBuffer {
             given: 0,
             run: 0,
             bytes: 0,
-            top: 0,
         };
+        let taken = LinkedRanges::new(alloc, blocks)?;
         Ok(RcvBuffer {
             ring,
             base: start,
             marks,
+            taken,
         })
     }
 
@@ -98,8 +102,13 @@ impl RcvBuffer {
             flags,
         };
         self.ring.put(place, head, bytes);
-        self.marks.top = self.marks.top.max(place + 1);
         self.marks.extend(&self.ring);
+        self.taken.insert(Range {
+            first: offset,
+            last: offset,
+            reported: 0,
+            wait: 0,
+        });
         Placed::New
     }
 
@@ -115,7 +124,8 @@ impl RcvBuffer {
         let count = into.len().min(self.marks.bytes - self.marks.given);
         copy_out(&self.ring, 0, self.marks.given, count, into);
         self.marks.given += count;
-        self.marks.settle(&mut self.ring, &mut self.base);
+        self.marks
+            .settle(&mut self.ring, &mut self.taken, &mut self.base);
         count
     }
 
@@ -126,16 +136,23 @@ impl RcvBuffer {
         ensures next { self.new ≡ after_read_message self.old (length into.old) }
         ensures kept { KeepsRoom self.old self.new }
     {
-        let Some(found) = next_message(&self.ring, self.marks.top) else {
+        let Some(found) = next_message(&self.ring, &self.taken, self.base) else {
             return Got::Nothing;
         };
         if found.len > into.len() {
             return Got::TooLarge(found.len);
         }
         copy_out(&self.ring, found.first, 0, found.len, into);
-        self.marks.consume(&mut self.ring, found.first, found.count);
+        self.marks.consume(
+            &mut self.ring,
+            &mut self.taken,
+            self.base,
+            found.first,
+            found.count,
+        );
         self.marks.extend(&self.ring);
-        self.marks.settle(&mut self.ring, &mut self.base);
+        self.marks
+            .settle(&mut self.ring, &mut self.taken, &mut self.base);
         Got::Whole(found.len)
     }
 
@@ -152,9 +169,11 @@ impl RcvBuffer {
         }
         let place = (from - self.base) as usize;
         let count = (last - from) as usize + 1;
-        self.marks.consume(&mut self.ring, place, count);
+        self.marks
+            .consume(&mut self.ring, &mut self.taken, self.base, place, count);
         self.marks.extend(&self.ring);
-        self.marks.settle(&mut self.ring, &mut self.base);
+        self.marks
+            .settle(&mut self.ring, &mut self.taken, &mut self.base);
     }
 
     /// How many bytes wait to be read.
@@ -168,7 +187,7 @@ impl RcvBuffer {
     pub fn readable(&self) -> bool
         ensures { IsTrue result ↔ IsSome (next_of self.now) }
     {
-        next_message(&self.ring, self.marks.top).is_some()
+        next_message(&self.ring, &self.taken, self.base).is_some()
     }
 
     /// The first offset that isn't consumed.

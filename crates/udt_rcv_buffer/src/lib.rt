@@ -26,3 +26,9 @@ impl From<AllocError> for OutOfMemory {
         OutOfMemory
     }
 }
+
+impl From<udt_ranges::OutOfMemory> for OutOfMemory {
+    fn from(_error: udt_ranges::OutOfMemory) -> Self {
+        OutOfMemory
+    }
+}

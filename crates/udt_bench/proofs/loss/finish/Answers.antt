@@ -1,4 +1,4 @@
-use Rattle.std.proofs.Common.{◌<◌, length, ap, subst, sym, ◌∙◌, arith}
+use Rattle.std.proofs.Common.{length, ap, arith}
 use Rattle.udt_rcv_loss.proofs.MissingLemmas.{length-without_first}
 use Rattle.udt_bench.proofs.loss.finish.Goals as goal
 

@@ -1,4 +1,4 @@
-use Rattle.std.proofs.Common.{◌≡◌, ◌+◌, ◌<◌, ◌≤◌, [], refl, sym, ap, subst, ◌∙◌, arith}
+use Rattle.std.proofs.Common.{◌+◌, sym, ap, subst, ◌∙◌, arith}
 use Rattle.udt_rcv_loss.specs.Absent.{AllBelow, AllFrom, first_or}
 use Rattle.udt_rcv_loss.proofs.MissingLemmas.{AllFrom-with, AllBelow-with, AllBelow-higher, first_or-from}
 use Rattle.udt_bench.proofs.loss.miss.Goals as goal

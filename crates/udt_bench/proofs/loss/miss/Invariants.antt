@@ -1,4 +1,4 @@
-use Rattle.std.proofs.Common.{◌≡◌, ◌+◌, ◌≤◌}
+use Rattle.std.proofs.Common.{◌≡◌, ◌≤◌}
 use Rattle.udt_rcv_loss.specs.Absent.{AllBelow, AllFrom}
 use Rattle.udt_bench.proofs.loss.miss.Given as goal
 

@@ -1,12 +1,19 @@
-use Rattle.std.proofs.Common.{◌≡◌, ℕ, true, Some}
+use Rattle.std.proofs.Common.{◌≡◌, true, length}
 use Rattle.udt_model.specs.ReceiveBlocks.{message_from}
-use Rattle.udt_rcv_buffer.specs.declared.messages.Begun.{Begun}
+use Rattle.udt_ranges.specs.Seats.{IsSeat, behind}
 use Rattle.udt_rcv_buffer.specs.PlacedParts.{placed_from}
-use Rattle.udt_rcv_buffer.specs.Messages.{sought, IsBegun}
+use Rattle.udt_rcv_buffer.specs.Taken.{IsAhead}
+use Rattle.udt_rcv_buffer.specs.Messages.{sought, MayHaveBegun}
 use Rattle.udt_rcv_buffer.proofs.messages.next_message.Given as goal
 
-abbrev pub invariant-loop-i : goal.invariant-loop-i
-invariant-loop-i l = record {
-  begun : (b : Begun) → l.begun ≡ Some b → IsBegun l.i l.ring.list b;
-  next : (base : ℕ) → message_from base true (placed_from base l.ring.list) ≡ sought base l.i l.gapless l.begun l.ring.list;
+-- the ranges behind the seat are ahead, and the search goes on at their parts
+abbrev pub invariant-loop-range : goal.invariant-loop-range
+invariant-loop-range l = record {
+  seat : IsSeat l.seat l.taken.ranges;
+  ahead : IsAhead (behind l.seat l.taken.ranges) l.base l.at l.ring.list;
+  begun : MayHaveBegun l.begun l.at l.ring.list;
+  next : message_from l.base true (placed_from l.base l.ring.list) ≡ sought l.base l.at l.gapless l.begun l.ring.list;
 }
+
+abbrev pub decreases-loop-range : goal.decreases-loop-range
+decreases-loop-range l = length (behind l.seat l.taken.ranges)

@@ -14,8 +14,8 @@ pub loop-self-preserved : goal.loop-self-preserved
 loop-self-preserved c =
     let i = c.loop-self.invariant in
     record {
-      marked = grown c.loop-self.self _ c.args.ring.now.list _ i.marked c.part.ensures.value (is_true c.part.result.0.used c.if-not-head.false) refl refl refl;
-      kept = record { given = i.kept.given; top = i.kept.top };
+      marked = grown c.loop-self.self _ c.args.ring.now.list _ i.marked c.part.ensures.value (is_true c.part.result.0.used c.if-not-head.false) refl refl;
+      kept = i.kept;
     }
 
 pub returns-after-loop-self-clause-run : goal.returns-after-loop-self-clause-run

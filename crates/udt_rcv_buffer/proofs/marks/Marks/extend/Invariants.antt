@@ -1,11 +1,11 @@
-use Rattle.std.proofs.Common.{◌-◌, length}
-use Rattle.udt_rcv_buffer.specs.Marked.{IsMarked, ChangesRun}
+use Rattle.std.proofs.Common.{◌≡◌, ◌-◌, length}
+use Rattle.udt_rcv_buffer.specs.Marked.{IsMarked}
 use Rattle.udt_rcv_buffer.proofs.marks.Marks.extend.Given as goal
 
 abbrev pub invariant-loop-self : goal.invariant-loop-self
 invariant-loop-self l = record {
   marked : IsMarked l.self l.ring.list;
-  kept : ChangesRun l.fn.self l.self;
+  kept : l.self.given ≡ l.fn.self.given;
 }
 
 abbrev pub decreases-loop-self : goal.decreases-loop-self

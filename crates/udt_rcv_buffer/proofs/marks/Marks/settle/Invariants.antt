@@ -11,7 +11,8 @@ invariant-loop-len l = record {
   marked : IsMarked l.self l.ring.list;
   run : EndsRun l.self.run l.ring.list;
   given : l.self.given ≤ l.self.bytes;
-  limit : l.base + l.self.top ≤ 2 ^ 62;
+  limit : l.base + l.self.run ≤ 2 ^ 62;
+  later : l.fn.base ≤ l.base;
   len : length l.ring.list ≡ length l.fn.ring.list;
   room : l.ring.room ≡ l.fn.ring.room;
 }

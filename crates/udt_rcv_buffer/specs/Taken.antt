@@ -1,0 +1,36 @@
+-- The offsets that are taken, as ranges hold them.
+use Rattle.std.specs.Prelude.{◌≡◌, ℕ, ◌+◌, ◌^◌, ◌<◌, ◌≤◌, List, length, map, slice_get, Some}
+use Rattle.udt_model.specs.Losses.{Missing, is_missing}
+use Rattle.udt_model.specs.ReceiveBlocks.{PlacedBlock, is_taken}
+use Rattle.udt_ranges.specs.declared.links.Range.{Range}
+use Rattle.udt_ranges.specs.Ranges.{Linked, Rises, IsMaximal, items_of}
+use Rattle.udt_rcv_buffer.specs.declared.head.Head.{Head}
+use Rattle.udt_ring.specs.Parts.{Part}
+use Rattle.udt_rcv_buffer.specs.PlacedParts.{placed_from, IsUsed}
+
+-- the offsets of blocks, none of which was ever reported
+abbrev pub taken_of : List PlacedBlock → List Missing
+taken_of placed = map (λ block. record { offset = block.offset; reported = 0; wait = 0 }) placed
+
+-- the ranges hold the offsets of the used parts and no others, of parts that begin at this offset
+pub record HoldsTaken (l : Linked) (base : ℕ) (parts : List (Part Head)) : Type 0 where
+  -- there is room for the offset of each part
+  pub window : l.window ≡ length parts
+  -- consecutive offsets are in one range
+  pub maximal : IsMaximal l.ranges
+  -- the ranges rise, among the offsets of the parts and below what an offset may be
+  pub rises : Rises base (base + length parts) l.ranges
+  pub limit : Rises base (2 ^ 62) l.ranges
+  -- their offsets are those of the used parts, in order
+  pub items : items_of l.ranges ≡ taken_of (placed_from base parts)
+
+-- all parts from one place up to another are used
+abbrev pub AreUsed : ℕ → ℕ → List (Part Head) → Type 0
+AreUsed from to parts = (place : ℕ) (part : Part Head) → from ≤ place → place < to → slice_get parts place ≡ Some part → IsUsed part
+
+-- behind the parts up to this place these ranges hold what is taken, as far as there are parts
+pub record IsAhead (ranges : List Range) (base at : ℕ) (parts : List (Part Head)) : Type 0 where
+  pub within : at ≤ length parts
+  pub rises : Rises (base + at) (base + length parts) ranges
+  pub limit : Rises (base + at) (2 ^ 62) ranges
+  pub rest : (offset : ℕ) → base + at ≤ offset → is_missing offset (items_of ranges) ≡ is_taken offset (placed_from base parts)
