@@ -4,9 +4,10 @@
 usage: fuzz.py run PROGRAM [COUNT [SEED]]        plays scripts with the program, and compares what it prints
        fuzz.py cases FOLDER [COUNT [SEED]]       writes the scripts, and what they must print, into a folder
 
-Of two kinds: random and mutated datagrams, COUNT in all, each the `raw` line of one socket that also sends and
+Of three kinds: random and mutated datagrams, COUNT in all, each the `raw` line of one socket that also sends and
 reads; and stories, one for each 500 datagrams, of two or four sockets whose datagrams are lost, repeated, reordered
-and forged while time passes, or of one that hears nothing. What must be printed is worked out by play.py.
+and forged while time passes, or of one that hears nothing; and as many scripts of lines at the edges of their forms.
+What must be printed is worked out by play.py.
 """
 import os
 import random
@@ -30,8 +31,11 @@ class Script:
         self.lines, self.printed = [], []
 
     def say(self, line):
+        """One more line, and whether it is accepted."""
         self.lines.append(line)
-        self.printed += self.player.line(line)
+        printed = self.player.line(line)
+        self.printed += [f"line {len(self.lines)} refused"] if printed is None else printed
+        return printed is not None
 
     def texts(self):
         return "\n".join(self.lines) + "\n", "\n".join(self.printed) + "\n"
@@ -199,12 +203,55 @@ class Silence(Script):
             self.say(chance.choice([f"a pack {now}", f"a recv {now} 1", f"a send {now} 07"]))
 
 
+class Spelling(Script):
+    """Lines at the edges of their forms, up to the first one that is refused."""
+
+    NUMBERS = ["0", "1", "2", "01", "-1", "+1", "1.", "", "255", "256", "8956", "8957", "65535", "65536", "65537",
+               "2147483647", "2147483648", str(1 << 59), str((1 << 59) + 1), str((1 << 53) - 1), str(1 << 53),
+               str(1 << 64), "9" * 40]
+    NAMES = ["a", "b", "c1", "raw", "pair", "tick", "deliver", "stream", "send", "a" * 16, "a" * 17, "1a", "A", "a_b", "é", ""]
+    BYTES = ["-", "", "00", "0", "0g", "FF", "ff00", "--", "-00"]
+    ADDRESSES = ["10.0.0.1:9000", "10.0.0.2:9000", "10.0.0.1:0", "10.0.0.1:65536", "10.0.0.256:1", "10.0.0:1", "10.0.0.01:1",
+                 "1.2.3.4", "[::]:1", "[::1]:09", "[1:2:3:4:5:6:7:8]:1", "[1:2:3:4:5:6:7::]:1", "[1:2:3:4:5:6:7:8::]:1",
+                 "[1::2::3]:1", "[::1.2.3.4]:1", "[:::]:1", "[:1]:1", "[1:]:1", "[FfFf::0]:65535", "[12345::]:1", "[]:1", "::1:1"]
+
+    def __init__(self, chance):
+        super().__init__(chance)
+        self.say(f"pair stream a {chance.choice(['b', 'raw', 'pair', 'deliver', 'tick'])} 4 5 4")
+        while self.say(self.edge() if len(self.lines) < 30 else "."):
+            pass
+
+    def edge(self):
+        """A line, now and then with words of a kind that is likely to be refused."""
+        chance = self.chance
+        names = [it.name for it in self.player.sockets]
+        pick = lambda good, edges: chance.choice(edges) if not chance.randrange(8) else chance.choice(good)
+        number = lambda *good: pick(list(good), self.NUMBERS)
+        name, now, told = pick(names, self.NAMES), number("0", "5", "77"), pick(["00ff", "-", "aa"], self.BYTES)
+        line = chance.choice([
+            lambda: ["pair", pick(["stream"], ["message", "Stream", ""]), pick(["x", "y", "z1", "stream"], self.NAMES), pick(["u", "v", "w0"], self.NAMES),
+                     number("4", "8956"), number("5", "2147483647"), number("2", "4", "9")] + chance.choice([[], [number("0", str(1 << 59))]]),
+            lambda: [name, "send", now, told],
+            lambda: [name, "recv", now, number("0", "9", "65536")],
+            lambda: [name, "pack", now],
+            lambda: [name, "tick", now],
+            lambda: [name, "close", now],
+            lambda: ["deliver", number("0"), now],
+            lambda: ["raw", now, pick(self.ADDRESSES[:2], self.ADDRESSES), pick(self.ADDRESSES[:2], self.ADDRESSES), told],
+            lambda: [pick(["", "#", "# a send", "#a"], [" ", " #", "a", "a send", "send", "\t", "a jump 5"])],
+        ])()
+        text = " ".join(line)
+        changed = chance.randrange(40)
+        return {0: text + " ", 1: " " + text, 2: text.replace(" ", "  ", 1), 3: text + " 0", 4: text.upper(), 5: text + "\r"}.get(changed, text)
+
+
 def scripts(count, seed):
     """Scripts with so many datagrams in all, and stories."""
     chance = random.Random(seed)
     for done in range(0, count, LINES):
         yield Datagrams(chance, min(count - done, LINES)).texts()
     for _ in range(count // 500):
+        yield Spelling(chance).texts()
         yield (Story(chance, chance.choice([30, 100, 400])) if chance.randrange(8) else Silence(chance)).texts()
 
 
@@ -225,8 +272,9 @@ def main(words_given):
             open(path, "w").write(script)
             open(f"{path}.stdout", "w").write(wanted)
             continue
-        ran = subprocess.run([os.path.abspath(words_given[1]), "replay"], input=script, capture_output=True, text=True)
-        if ran.returncode or ran.stdout != wanted:
+        ran = subprocess.run([os.path.abspath(words_given[1]), "replay"], input=script.encode(), capture_output=True)
+        ran.stdout, status = ran.stdout.decode(), 2 if wanted.endswith(" refused\n") else 0
+        if ran.returncode != status or ran.stdout != wanted:
             sys.exit(f"part {number} of seed {seed}: status {ran.returncode}, {differs(ran.stdout, wanted)}")
     print(f"{count} datagrams and {count // 500} stories, {'no difference' if words_given[0] == 'run' else 'written'}")
 

@@ -1,11 +1,11 @@
 #!/usr/bin/env python3
 """A second player of scripts, written from the protocol's rules and not from the code.
 
-    Player().line("pair stream a b 4 5 4") -> ["pair a 1 b 2"]
+    Player().line("pair stream a b 4 5 4") -> ["pair a 1 b 2"], or None where the line is refused
 
-As a program it plays the script of its input. It takes the lines of `replay` that are not refused, and does not
-tell a refused line from others.
+As a program it plays the script of its input, as `replay` does.
 """
+import re
 import struct
 import sys
 
@@ -21,6 +21,8 @@ RTT, VARIANCE = 100_000, 50_000
 PERIOD = 4 * RTT + VARIANCE + ACK_INTERVAL
 WINDOW = 16                 # packets that the control lets be under way
 FIRST, LAST = 1 << 31, 1 << 30
+MOST_SOCKETS = 1_024
+LONGEST_LINE = 65_536
 
 
 def near(initial, base, number):
@@ -206,39 +208,97 @@ class Socket:
         return "ack"
 
 
+def number_in(word, least, most):
+    """The number that a word spells, where it lies in a range."""
+    return int(word) if re.fullmatch("0|[1-9][0-9]*", word) and least <= int(word) <= most else None
+
+
+def moment_in(word):
+    return number_in(word, 0, LAST_MOMENT)
+
+
+def bytes_in(word):
+    """The bytes that a word spells: pairs of small digits, or a dash for none."""
+    return bytes.fromhex(word.replace("-", "")) if re.fullmatch("-|([0-9a-f]{2})+", word) else None
+
+
+def is_address(word):
+    """Whether a word spells an address and a port."""
+    v4, v6 = re.fullmatch(r"([0-9.]+):([0-9]+)", word), re.fullmatch(r"\[([0-9a-fA-F:]+)\]:([0-9]+)", word)
+    if not (v4 or v6) or number_in((v4 or v6)[2], 0, 65_535) is None:
+        return False
+    if v4:
+        parts = v4[1].split(".")
+        return len(parts) == 4 and all(number_in(it, 0, 255) is not None for it in parts)
+    groups = lambda text: text.split(":") if text else []
+    halves = [groups(it) for it in v6[1].split("::")]
+    told = [it for half in halves for it in half]
+    if len(halves) > 2 or not all(re.fullmatch("[0-9a-fA-F]{1,4}", it) for it in told):
+        return False
+    return len(told) == 8 if len(halves) == 1 else len(told) < 8
+
+
 class Player:
     """The sockets of a script, and the datagrams that they emitted."""
 
     def __init__(self):
-        self.sockets, self.letters = [], []
-
-    def named(self, name):
-        return next(it for it in self.sockets if it.name == name)
+        self.sockets, self.named, self.letters = [], {}, []
 
     def line(self, line):
-        """What a line prints, as lines."""
+        """What a line prints, as lines. None where it is refused."""
+        if line == "" or line[0] == "#":
+            return [] if len(line) <= LONGEST_LINE else None
         form = line.split(" ")
-        if form[0] == "pair":
-            return self.pair(form[2:4], *[int(it) for it in form[4:]])
-        if form[0] == "deliver":
-            return self.arrival(int(form[2]), *self.letters[int(form[1])])
-        if form[0] == "raw":
-            return self.arrival(int(form[1]), form[2], form[3], bytes.fromhex(form[4].replace("-", "")))
-        return self.call(self.named(form[0]), form[1], int(form[2]), form[3:])
+        if len(line) > LONGEST_LINE or len(form) < 3:
+            return None
+        if form[1] in ("send", "recv", "pack", "tick", "close"):
+            return self.call_line(*form)
+        by_first = {"pair": self.pair_line, "deliver": self.deliver_line, "raw": self.raw_line}
+        return by_first[form[0]](*form[1:]) if form[0] in by_first else None
+
+    def pair_line(self, kind, *rest):
+        if kind != "stream" or len(rest) not in (5, 6):
+            return None
+        ranges = [(1, 8_956), (0, NUMBERS - 1), (2, 65_536), (0, 1 << 59)]
+        values = [number_in(word, *within) for word, within in zip(rest[2:], ranges)]
+        new = [it for it in rest[:2] if re.fullmatch("[a-z][a-z0-9]{0,15}", it) and it not in self.named]
+        if None in values or len(set(new)) < 2 or len(self.sockets) + 2 > MOST_SOCKETS:
+            return None
+        return self.pair(rest[:2], *values)
+
+    def call_line(self, name, call, moment, *rest):
+        read_rest = {"send": [bytes_in], "recv": [lambda word: number_in(word, 0, 65_536)]}.get(call, [])
+        if len(rest) != len(read_rest) or name not in self.named or moment_in(moment) is None:
+            return None
+        values = [read_word(word) for read_word, word in zip(read_rest, rest)]
+        return None if None in values else self.call(self.named[name], call, int(moment), *values)
+
+    def deliver_line(self, number, moment, *rest):
+        if rest or number_in(number, 0, len(self.letters) - 1) is None or moment_in(moment) is None:
+            return None
+        return self.arrival(int(moment), *self.letters[int(number)])
+
+    def raw_line(self, moment, *rest):
+        if len(rest) != 3 or moment_in(moment) is None or not (is_address(rest[0]) and is_address(rest[1])):
+            return None
+        data = bytes_in(rest[2])
+        return None if data is None else self.arrival(int(moment), rest[0], rest[1], data)
 
     def pair(self, names, payload, initial, room, start=0):
         own = len(self.sockets) + 1
         ends = [(own, HOSTS[0], HOSTS[1], own + 1), (own + 1, HOSTS[1], HOSTS[0], own)]
-        self.sockets += [Socket(name, *end, payload, initial, room, start) for name, end in zip(names, ends)]
+        for name, end in zip(names, ends):
+            self.named[name] = Socket(name, *end, payload, initial, room, start)
+            self.sockets.append(self.named[name])
         return [f"pair {names[0]} {own} {names[1]} {own + 1}"]
 
-    def call(self, socket, name, moment, rest):
+    def call(self, socket, name, moment, *values):
         socket.at(moment)
         outs = []
         if name == "send":
-            answer = " " + socket.send(bytes.fromhex(rest[0].replace("-", "")))
+            answer = " " + socket.send(*values)
         elif name == "recv":
-            answer = " " + socket.recv(int(rest[0]))
+            answer = " " + socket.recv(*values)
         elif name == "pack":
             packed, outs = socket.pack()
             answer = " " + packed
@@ -269,8 +329,17 @@ class Player:
         return [f"{socket.name} arrive {socket.arrive(sender, data)}"]
 
 
-if __name__ == "__main__":
+def main():
     player = Player()
-    for text in sys.stdin.read().split("\n"):
-        for printed in player.line(text) if text and text[0] != "#" else []:
-            print(printed)
+    lines = sys.stdin.read().split("\n")
+    for number, line in enumerate(lines[:-1] if lines[-1] == "" else lines, 1):
+        printed = player.line(line)
+        if printed is None:
+            print(f"line {number} refused")
+            sys.exit(2)
+        for text in printed:
+            print(text)
+
+
+if __name__ == "__main__":
+    main()
