@@ -276,7 +276,7 @@ def main(words_given):
         ran.stdout, status = ran.stdout.decode(), 2 if wanted.endswith(" refused\n") else 0
         if ran.returncode != status or ran.stdout != wanted:
             sys.exit(f"part {number} of seed {seed}: status {ran.returncode}, {differs(ran.stdout, wanted)}")
-    print(f"{count} datagrams and {count // 500} stories, {'no difference' if words_given[0] == 'run' else 'written'}")
+    print(f"{count} datagrams, {count // 500} stories, as many scripts of edges: {'no difference' if words_given[0] == 'run' else 'written'}")
 
 
 if __name__ == "__main__":
