@@ -306,6 +306,8 @@ fn silence_is_answered_sixteen_times(rt: HostRuntime) -> Result<(), Fail> {
         (70_420_000, Deed::Reads(8, Err(lost)), None),
     ];
     play(&rt, &mut quiet, THERE.addr, &mut outs, &end);
+    // what the socket is ready for is no event
+    assert_eq!(rt; quiet.count(), 36);
     Ok(())
 }
 

@@ -3,6 +3,8 @@
 
 mod edits;
 mod links;
+#[cfg(test)]
+mod tests;
 
 pub use links::{LinkedRanges, Range};
 use std::alloc::AllocError;
