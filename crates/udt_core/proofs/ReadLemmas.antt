@@ -5,11 +5,11 @@ use Rattle.std.proofs.lemmas.Bool.{ne_eqb, cases_Bool}
 use Rattle.std.proofs.lemmas.List.{append-nil, take_at, take_all, drop_at, drop-drop, take-append-drop, drop-append-le, take-append-le, length-append, length-drop, length-take}
 use Rattle.udt_model.specs.declared.answers.Refusal.TheVariants as refusal
 use Rattle.udt_model.specs.State.{Receiving}
-use Rattle.udt_model.specs.Receiving.{contiguous, waiting, receive_answer, after_receive, front_after, at_front}
+use Rattle.udt_model.specs.Receiving.{contiguous, waiting, receive_answer, after_receive, Front, front_after, at_front}
 use Rattle.udt_core.specs.declared.cell.Cell.{Cell}
 use Rattle.udt_core.specs.declared.receiving.Receiver.TheInside.{Inside}
 use Rattle.udt_core.specs.Cells.{IsGivenOf, placed_from}
-use Rattle.udt_core.specs.ReceiveHalf.{receiving_of, front_of}
+use Rattle.udt_core.specs.ReceiveHalf.{receiving_of}
 use Rattle.udt_core.proofs.SettleLemmas.{front_stays}
 use Rattle.udt_core.proofs.CellLemmas.{contiguous-used, contiguous-unused}
 
@@ -68,7 +68,11 @@ answer_read r room filled into rest some waits split within len done =
     ]) in
     rw (some, not_none, taken) refl
 
--- and the half stands where the reading ended
+-- where the half stands
+abbrev pub front_of : Inside → Front
+front_of r = record { base = r.base; given = r.given; placed = placed_from r.base r.cells.items }
+
+-- and it stands where the reading ended
 pub after_reading : (r : Receiving) (room filled : ℕ) (into : List ℕ) (now : Inside) → receive_answer r room ≡ Ok (take filled into) → filled ≤ length into
     → front_after r.base (r.given + filled) r.placed ≡ front_of now → at_front r (front_of now) ≡ receiving_of now
     → after_receive r room ≡ receiving_of now

@@ -3,7 +3,6 @@ use Rattle.std.specs.Prelude.{◌≡◌, ◌<◌, ◌≤◌, All, Option, Some, 
 use Rattle.std.specs.VecDeque.{deque_len}
 use Rattle.udt_model.specs.declared.limits.TheConstants.{MOST_PAYLOAD, MOST_BLOCKS, PACKET_LIMIT, LAST_ACK_NUMBER}
 use Rattle.udt_model.specs.State.{FullAck, Receiving}
-use Rattle.udt_model.specs.Receiving.{Front}
 use Rattle.udt_core.specs.declared.receiving.LastAck.{LastAck}
 use Rattle.udt_core.specs.declared.receiving.Receiver.TheInside.{Inside}
 use Rattle.udt_core.specs.Cells.{IsCell, IsGivenOf, AreBelow, AreUsed, placed_from}
@@ -43,7 +42,3 @@ pub record IsReceiver (r : Inside) : Type 0 where
   pub run : AreUsed r.run r.cells.items
   -- acknowledgements are counted within their numbers
   pub number : IfSome r.last_ack (λ ack. ack.number ≤ LAST_ACK_NUMBER)
-
--- where it stands
-abbrev pub front_of : Inside → Front
-front_of r = record { base = r.base; given = r.given; placed = placed_from r.base r.cells.items }

@@ -17,8 +17,15 @@ use Rattle.udt_ring.specs.Parts.{Part}
 use Rattle.udt_ring.proofs.TurnLemmas.{slice_get-drop}
 use Rattle.udt_rcv_buffer.specs.declared.head.Head.{Head}
 use Rattle.udt_rcv_buffer.specs.PlacedParts.{placed_from, IsUsed, IsUnused}
-use Rattle.udt_rcv_buffer.specs.Taken.{taken_of, HoldsTaken, IsAhead}
+use Rattle.udt_rcv_buffer.specs.Taken.{taken_of, HoldsTaken}
 use Rattle.udt_rcv_buffer.proofs.PlacedLemmas.{is_taken-part}
+
+-- behind the parts up to this place these ranges hold what is taken, as far as there are parts
+pub record IsAhead (ranges : List Range) (base at : ℕ) (parts : List (Part Head)) : Type 0 where
+  pub within : at ≤ length parts
+  pub rises : Rises (base + at) (base + length parts) ranges
+  pub limit : Rises (base + at) (2 ^ 62) ranges
+  pub rest : (offset : ℕ) → base + at ≤ offset → is_missing offset (items_of ranges) ≡ is_taken offset (placed_from base parts)
 
 -- ---- which offsets ranges hold
 

@@ -1,8 +1,7 @@
 -- The offsets that are taken, as ranges hold them.
 use Rattle.std.specs.Prelude.{◌≡◌, ℕ, ◌+◌, ◌^◌, ◌<◌, ◌≤◌, List, length, map, slice_get, Some}
-use Rattle.udt_model.specs.Losses.{Missing, is_missing}
-use Rattle.udt_model.specs.ReceiveBlocks.{PlacedBlock, is_taken}
-use Rattle.udt_ranges.specs.declared.links.Range.{Range}
+use Rattle.udt_model.specs.Losses.{Missing}
+use Rattle.udt_model.specs.ReceiveBlocks.{PlacedBlock}
 use Rattle.udt_ranges.specs.Ranges.{Linked, Rises, IsMaximal, items_of}
 use Rattle.udt_rcv_buffer.specs.declared.head.Head.{Head}
 use Rattle.udt_ring.specs.Parts.{Part}
@@ -27,10 +26,3 @@ pub record HoldsTaken (l : Linked) (base : ℕ) (parts : List (Part Head)) : Typ
 -- all parts from one place up to another are used
 abbrev pub AreUsed : ℕ → ℕ → List (Part Head) → Type 0
 AreUsed from to parts = (place : ℕ) (part : Part Head) → from ≤ place → place < to → slice_get parts place ≡ Some part → IsUsed part
-
--- behind the parts up to this place these ranges hold what is taken, as far as there are parts
-pub record IsAhead (ranges : List Range) (base at : ℕ) (parts : List (Part Head)) : Type 0 where
-  pub within : at ≤ length parts
-  pub rises : Rises (base + at) (base + length parts) ranges
-  pub limit : Rises (base + at) (2 ^ 62) ranges
-  pub rest : (offset : ℕ) → base + at ≤ offset → is_missing offset (items_of ranges) ≡ is_taken offset (placed_from base parts)

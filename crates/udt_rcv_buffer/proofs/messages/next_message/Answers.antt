@@ -5,9 +5,8 @@ use Rattle.udt_ranges.specs.Seats.{behind, beyond, begins_at}
 use Rattle.udt_ranges.proofs.PlaceLemmas.{head_none, head_some}
 use Rattle.udt_rcv_buffer.specs.PlacedParts.{placed_from}
 use Rattle.udt_rcv_buffer.specs.Messages.{sought, MayHaveBegun}
-use Rattle.udt_rcv_buffer.specs.Taken.{IsAhead}
 use Rattle.udt_rcv_buffer.proofs.WalkLemmas.{sought-gap, sought-past}
-use Rattle.udt_rcv_buffer.proofs.AheadLemmas.{ahead_first, ahead_none, next_seat, range_bounds, range_gap, range_used, range_next}
+use Rattle.udt_rcv_buffer.proofs.AheadLemmas.{IsAhead, ahead_first, ahead_none, next_seat, range_bounds, range_gap, range_used, range_next}
 use Rattle.udt_rcv_buffer.proofs.messages.next_message.Goals as goal
 use Rattle.udt_rcv_buffer.proofs.messages.next_message.Goals.{In-Some, Joined-at-first, then-at-first, else-at-first}
 

@@ -2,7 +2,7 @@ use Rattle.std.proofs.Common.{◌≡◌, true, length}
 use Rattle.udt_model.specs.ReceiveBlocks.{message_from}
 use Rattle.udt_ranges.specs.Seats.{IsSeat, behind}
 use Rattle.udt_rcv_buffer.specs.PlacedParts.{placed_from}
-use Rattle.udt_rcv_buffer.specs.Taken.{IsAhead}
+use Rattle.udt_rcv_buffer.proofs.AheadLemmas.{IsAhead}
 use Rattle.udt_rcv_buffer.specs.Messages.{sought, MayHaveBegun}
 use Rattle.udt_rcv_buffer.proofs.messages.next_message.Given as goal
 

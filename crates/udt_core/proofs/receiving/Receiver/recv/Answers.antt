@@ -6,10 +6,10 @@ use Rattle.udt_model.specs.State.{Receiving}
 use Rattle.udt_model.specs.Receiving.{waiting, contiguous, receive_answer, at_front}
 use Rattle.udt_core.specs.declared.cell.Cell.{Cell}
 use Rattle.udt_core.specs.Cells.{placed_from}
-use Rattle.udt_core.specs.ReceiveHalf.{receiving_of, front_of}
+use Rattle.udt_core.specs.ReceiveHalf.{receiving_of}
 use Rattle.udt_core.proofs.CellLemmas.{front-more}
 use Rattle.udt_core.proofs.SettleLemmas.{front_stays}
-use Rattle.udt_core.proofs.ReadLemmas.{first_of, found_first, waits_not, waits_some, contiguous_first, answer_again, after_again, after_none, answer_read, after_reading, waiting_more, filled_take, filled_drop, drop_further}
+use Rattle.udt_core.proofs.ReadLemmas.{first_of, found_first, waits_not, waits_some, contiguous_first, answer_again, after_again, after_none, answer_read, after_reading, waiting_more, filled_take, filled_drop, drop_further, front_of}
 use Rattle.udt_core.proofs.receiving.Receiver.recv.Goals as goal
 use Rattle.udt_core.proofs.receiving.Receiver.recv.Goals.{After-index, After-index-in-loop-filled-2, Else-not-waits}
 

@@ -1,6 +1,7 @@
 use Rattle.std.proofs.Common.{◌≡◌, ◌+◌, ◌-◌, ◌≤◌, ◌++◌, length, take, drop}
 use Rattle.udt_model.specs.Receiving.{waiting, front_after, at_front}
-use Rattle.udt_core.specs.ReceiveHalf.{receiving_of, front_of, IsReceiver}
+use Rattle.udt_core.specs.ReceiveHalf.{receiving_of, IsReceiver}
+use Rattle.udt_core.proofs.ReadLemmas.{front_of}
 use Rattle.udt_core.proofs.receiving.Receiver.recv.Given as goal
 
 abbrev pub invariant-loop-filled : goal.invariant-loop-filled
