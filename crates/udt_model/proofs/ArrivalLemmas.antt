@@ -1,4 +1,4 @@
--- What an arrival may do: it emits nothing, and either it passes by, or it is a sign of the peer, which may carry a
+-- What an arrival may do: it emits nothing, and either it passes by, or it is an arrival from the peer, which may carry a
 -- block, an acknowledgement or the end.
 use Rattle.std.proofs.Common.{◌≡◌, ℕ, true, false, List, [], Ok, Err, refl, subst}
 use Rattle.std.specs.Prelude.{Result, ◌==◌, if◌then◌else◌}
@@ -14,10 +14,12 @@ use Rattle.udt_model.specs.declared.packets.Flags.{Flags}
 use Rattle.udt_model.specs.declared.packets.Malformed.{Malformed}
 use Rattle.udt_model.specs.Addresses.{same_addr}
 use Rattle.udt_model.specs.Wire.{Packet, Block, Handshake, KeepAlive, Ack, Nak, Shutdown, Ack2, DropAsk}
-use Rattle.udt_model.specs.State.{Counters, State}
+use Rattle.udt_model.specs.State.{State}
+use Rattle.udt_model.specs.declared.sockets.Counters.{Counters}
 use Rattle.udt_model.specs.Sending.{Acking, Acks, IsStale, acking, acked_number, after_ack}
 use Rattle.udt_model.specs.Receiving.{placing, after_arrival}
-use Rattle.udt_model.specs.Step.{Outcome, answered, DidHear, count_stale, count_placing, count_control, heard_of, count_foreign, has_bad_length, heard_now, acked_as, on_block, on_own, on_connected, is_own, packet_in, on_read}
+use Rattle.udt_model.specs.Events.{Outcome, answered, DidHear}
+use Rattle.udt_model.specs.Arrivals.{count_stale, count_placing, count_control, heard_of, count_foreign, has_bad_length, heard_now, acked_as, on_block, on_own, on_connected, is_own, packet_in, on_read}
 use Rattle.udt_model.proofs.AddressLemmas.{same_addr-is}
 
 -- what has to be shown of the outcomes that an arrival may have, so that it holds of each arrival
@@ -25,7 +27,7 @@ pub record OfArrivals (s : State) (from : Addr) (result : Result Packet Malforme
   -- it changes nothing but a count
   pub passed : (counters : Counters) (answer : Heard) → (answer ≡ heard.Placed → ⊥)
       → P (answered (record s { counters = counters }) (DidHear answer))
-  -- it is a sign of the peer, and no more
+  -- it is an arrival from the peer, and no more
   pub noticed : (counters : Counters) (answer : Heard) → (answer ≡ heard.Placed → ⊥) → s.phase ≡ phase.Connected
       → P (answered (record (heard_now s) { counters = counters }) (DidHear answer))
   -- it carries a block
@@ -50,7 +52,7 @@ module _ (s : State) (from : Addr) (result : Result Packet Malformed) (P : Outco
   block-shows : (number : ℕ) (flags : Flags) (stamp dest : ℕ) (bytes : List ℕ) → from ≡ s.peer.addr → dest ≡ s.own
       → result ≡ Ok (Block number flags stamp dest bytes) → P (on_block (heard_now s) number flags bytes)
   block-shows number flags stamp dest bytes sender own is =
-      let told = subst (λ (id : ℕ). result ≡ Ok (Block number flags stamp id bytes)) own is in
+      let ack_emitted = subst (λ (id : ℕ). result ≡ Ok (Block number flags stamp id bytes)) own is in
       elim (has_bad_length s.receiving bytes) as (λ bad. P (
       if bad
       then answered (record (heard_now s) { counters = count_stale s.counters }) (DidHear heard.BadLength)
@@ -61,14 +63,14 @@ module _ (s : State) (from : Addr) (result : Result Packet Malformed) (P : Outco
       })
       (DidHear (heard_of (placing s.receiving number))))) [
         | true ↦ cases.noticed (count_stale s.counters) heard.BadLength (λ same. cc) connected
-        | false ↦ cases.brought number flags stamp bytes connected sender told
+        | false ↦ cases.brought number flags stamp bytes connected sender ack_emitted
       ]
 
   ack-shows : (number stamp dest : ℕ) (body : AckBody) (a : Acking) → from ≡ s.peer.addr → dest ≡ s.own
       → result ≡ Ok (Ack number stamp dest body) → acking s.sending (acked_number body) ≡ a → P (acked_as (heard_now s) body a)
   ack-shows number stamp dest body (Acks offset) sender own is acks =
-      let told = subst (λ (id : ℕ). result ≡ Ok (Ack number stamp id body)) own is in
-      cases.acknowledged number stamp body offset connected sender told acks
+      let ack_emitted = subst (λ (id : ℕ). result ≡ Ok (Ack number stamp id body)) own is in
+      cases.acknowledged number stamp body offset connected sender ack_emitted acks
   ack-shows number stamp dest body IsStale sender own is acks = cases.noticed (count_stale s.counters) heard.Stale (λ same. cc) connected
 
   own-shows : (packet : Packet) → result ≡ Ok packet → is_own s from packet ≡ true → P (on_own (heard_now s) packet)

@@ -1,26 +1,33 @@
--- What a socket emits: blocks, acknowledgements, signs of life and a shutdown, each at a moment of its history.
+-- What a socket emits: blocks, acknowledgements, keep-alives and a shutdown, each at a moment of its history.
 use Rattle.std.proofs.Common.{◌≡◌, ℕ, List, [], ◌∷◌, ◌++◌, refl, ap, sym, subst, inl, inr, arith}
 use Rattle.std.specs.List.{Contains}
 use Rattle.std.proofs.lemmas.List.Elements.{Contains-append_cases, Contains-push_cases}
 use Rattle.udt_model.specs.declared.answers.Phase.{Phase}
 use Rattle.udt_model.specs.declared.answers.Phase.TheVariants as phase
 use Rattle.udt_model.specs.Wire.{KeepAlive, Shutdown, read}
-use Rattle.udt_model.specs.State.{KeptBlock, FullAck, State, Datagram}
-use Rattle.udt_model.specs.Sending.{Packing, Waits, SendsAgain, Sends, Idles, packing}
-use Rattle.udt_model.specs.Receiving.{Telling, IsEarly, IsKnown, Tells, telling}
-use Rattle.udt_model.specs.Step.{Act, Send, Recv, Pack, Tick, Close, Arrive, Event, Silence, IsShort, Breaks, Resends, Signs, silence, round_trip, told, signed, stamp_of, to_peer, block_datagram, ack_packet, at_moment, send_in, recv_in, packed_as, pack_in, tick_in, on_read, on_act, step}
+use Rattle.udt_model.specs.State.{KeptBlock, State, Datagram}
+use Rattle.udt_model.specs.declared.sockets.SentAck.{SentAck}
+use Rattle.udt_model.specs.Sending.{Packing, Waits, Retransmits, Sends, Idles, packing}
+use Rattle.udt_model.specs.Receiving.{AckOutcome, IsEarly, IsKnown, EmitsAck, ack_outcome}
+use Rattle.udt_model.specs.declared.sockets.ExpOutcome.{ExpOutcome}
+use Rattle.udt_model.specs.declared.sockets.ExpOutcome.TheVariants as exp
+use Rattle.udt_model.specs.Step.{on_act, step}
+use Rattle.udt_model.specs.Events.{Act, Send, Recv, Pack, Tick, Close, Arrive, Event, at_moment}
+use Rattle.udt_model.specs.Ticks.{exp_outcome, round_trip, ack_emitted, keep_alives, ack_packet, tick_in}
+use Rattle.udt_model.specs.Calls.{stamp_of, to_peer, block_datagram, send_in, recv_in, packed_as, pack_in}
+use Rattle.udt_model.specs.Arrivals.{on_read}
 use Rattle.udt_model.specs.History.{Item, after_items, AreLegal}
-use Rattle.udt_model.specs.Records.{Emission, named_by_packing, named_by_pack, named_by_telling, named_by_silence, named_by_tick, named_by_act, named, with_offsets, emitted_by}
+use Rattle.udt_model.specs.Emissions.{Emission, named_by_packing, named_by_pack, named_by_ack, named_by_exp, named_by_tick, named_by_act, named, with_offsets, emitted_by}
 
--- what a socket in this state emits: a new block, a lost one again, an acknowledgement, a sign of life, or the end
+-- what a socket in this state emits: a new block, a lost one again, an acknowledgement, a keep-alive, or the end
 pub data Emitting (s : State) (emission : Emission) : Type 0 where
   NewBlock : (block : KeptBlock) → s.phase ≡ phase.Connected → packing s.sending s.last ≡ Sends block
       → emission ≡ record { datagram = block_datagram s s.sending.next block; offsets = s.sending.next ∷ [] } → Emitting s emission
-  LostBlock : (offset : ℕ) → (block : KeptBlock) → s.phase ≡ phase.Connected → packing s.sending s.last ≡ SendsAgain offset block
+  LostBlock : (offset : ℕ) → (block : KeptBlock) → s.phase ≡ phase.Connected → packing s.sending s.last ≡ Retransmits offset block
       → emission ≡ record { datagram = block_datagram s offset block; offsets = offset ∷ [] } → Emitting s emission
-  Acknowledgement : (ack : FullAck) → s.phase ≡ phase.Connected → telling s.receiving s.last round_trip.rtt ≡ Tells ack
+  Acknowledgement : (ack : SentAck) → s.phase ≡ phase.Connected → ack_outcome s.receiving s.last round_trip.rtt ≡ EmitsAck ack
       → emission ≡ record { datagram = to_peer s (ack_packet s ack); offsets = ack.offset ∷ [] } → Emitting s emission
-  SignOfLife : s.phase ≡ phase.Connected → emission ≡ record { datagram = to_peer s (KeepAlive (stamp_of s) s.peer.id); offsets = [] }
+  SendsKeepAlive : s.phase ≡ phase.Connected → emission ≡ record { datagram = to_peer s (KeepAlive (stamp_of s) s.peer.id); offsets = [] }
       → Emitting s emission
   TheEnd : s.phase ≡ phase.Closing → emission ≡ record { datagram = to_peer s (Shutdown (stamp_of s) s.peer.id); offsets = [] }
       → Emitting s emission
@@ -52,7 +59,7 @@ both-emitting s first second one two emission among = elim (Contains-append_case
 packed-emitting : (s : State) (p : Packing) → s.phase ≡ phase.Connected → packing s.sending s.last ≡ p
     → AllEmitting s (with_offsets (packed_as s p).outs (named_by_packing s p))
 packed-emitting s (Waits until) connected is = none-emitting s [] refl
-packed-emitting s (SendsAgain offset block) connected is = one-emitting s _ (λ emission same. LostBlock offset block connected is same)
+packed-emitting s (Retransmits offset block) connected is = one-emitting s _ (λ emission same. LostBlock offset block connected is same)
 packed-emitting s (Sends block) connected is = one-emitting s _ (λ emission same. NewBlock block connected is same)
 packed-emitting s Idles connected is = none-emitting s [] refl
 
@@ -62,22 +69,22 @@ pack-emitting s (phase.Broken why) is = none-emitting s [] refl
 pack-emitting s phase.Closing is = none-emitting s [] refl
 pack-emitting s phase.Closed is = none-emitting s [] refl
 
-signed-emitting : (s : State) (silence : Silence) → s.phase ≡ phase.Connected → AllEmitting s (with_offsets (signed s silence) (named_by_silence silence))
-signed-emitting s IsShort connected = none-emitting s [] refl
-signed-emitting s Breaks connected = none-emitting s [] refl
-signed-emitting s Resends connected = none-emitting s [] refl
-signed-emitting s Signs connected = one-emitting s _ (λ emission same. SignOfLife connected same)
+keep_alives-emitting : (s : State) (what : ExpOutcome) → s.phase ≡ phase.Connected → AllEmitting s (with_offsets (keep_alives s what) (named_by_exp what))
+keep_alives-emitting s exp.NotDue connected = none-emitting s [] refl
+keep_alives-emitting s exp.Breaks connected = none-emitting s [] refl
+keep_alives-emitting s exp.LosesAll connected = none-emitting s [] refl
+keep_alives-emitting s exp.KeepsAlive connected = one-emitting s _ (λ emission same. SendsKeepAlive connected same)
 
-told-emitting : (s : State) (t : Telling) (silence : Silence) → s.phase ≡ phase.Connected → telling s.receiving s.last round_trip.rtt ≡ t
-    → AllEmitting s (with_offsets (told s t ++ signed s silence) (named_by_telling t ++ named_by_silence silence))
-told-emitting s IsEarly silence connected is = signed-emitting s silence connected
-told-emitting s IsKnown silence connected is = signed-emitting s silence connected
-told-emitting s (Tells ack) silence connected is =
+ack_emitted-emitting : (s : State) (t : AckOutcome) (what : ExpOutcome) → s.phase ≡ phase.Connected → ack_outcome s.receiving s.last round_trip.rtt ≡ t
+    → AllEmitting s (with_offsets (ack_emitted s t ++ keep_alives s what) (named_by_ack t ++ named_by_exp what))
+ack_emitted-emitting s IsEarly what connected is = keep_alives-emitting s what connected
+ack_emitted-emitting s IsKnown what connected is = keep_alives-emitting s what connected
+ack_emitted-emitting s (EmitsAck ack) what connected is =
     both-emitting s (record { datagram = to_peer s (ack_packet s ack); offsets = ack.offset ∷ [] } ∷ []) _
-    (one-emitting s _ (λ emission same. Acknowledgement ack connected is same)) (signed-emitting s silence connected)
+    (one-emitting s _ (λ emission same. Acknowledgement ack connected is same)) (keep_alives-emitting s what connected)
 
 tick-emitting : (s : State) (phase : Phase) → s.phase ≡ phase → AllEmitting s (with_offsets (tick_in s phase).outs (named_by_tick s phase))
-tick-emitting s phase.Connected is = told-emitting s (telling s.receiving s.last round_trip.rtt) (silence s) is refl
+tick-emitting s phase.Connected is = ack_emitted-emitting s (ack_outcome s.receiving s.last round_trip.rtt) (exp_outcome s) is refl
 tick-emitting s (phase.Broken why) is = none-emitting s [] refl
 tick-emitting s phase.Closing is = one-emitting s _ (λ emission same. TheEnd is same)
 tick-emitting s phase.Closed is = none-emitting s [] refl
@@ -102,7 +109,7 @@ step-emitting s event emission among = act-emitting (at_moment s event.now) even
 
 -- ---- histories
 
--- the item of these with which this was emitted, and those before and behind it
+-- the item of these with which this was emitted, and those before and after it
 pub record IsEmittedAt (s : State) (items : List Item) (emission : Emission) : Type 0 where
   pub front : List Item
   pub item : Item

@@ -1,12 +1,12 @@
--- What the halves of a socket never change: the initial number, the payload and the blocks.
+-- What the halves of a socket never change: the initial sequence number, the payload and the blocks.
 use Rattle.std.proofs.Common.{◌≡◌, ℕ, zero, suc, List, Ok, Err, refl, ◌∙◌}
 use Rattle.std.specs.Prelude.{Result, length}
 use Rattle.udt_model.specs.declared.answers.Refusal.{Refusal}
 use Rattle.udt_model.specs.declared.packets.AckBody.{AckBody}
 use Rattle.udt_model.specs.declared.packets.Flags.{Flags}
 use Rattle.udt_model.specs.State.{Sending, Receiving}
-use Rattle.udt_model.specs.Sending.{send_answer, after_answer, after_send, Packing, Waits, SendsAgain, Sends, Idles, packing, after_packing, after_pack, Acking, Acks, IsStale, acking, acked_number, after_acking, after_ack, after_timeout, sending_closed}
-use Rattle.udt_model.specs.Receiving.{Placing, AtOffset, IsDouble, IsBelow, IsAbove, placing, after_placing, after_arrival, receive_answer, after_receive_answer, after_receive, Telling, IsEarly, IsKnown, Tells, telling, after_telling, after_tell, receiving_closed}
+use Rattle.udt_model.specs.Sending.{send_answer, after_answer, after_send, Packing, Waits, Retransmits, Sends, Idles, packing, after_packing, after_pack, Acking, Acks, IsStale, acking, acked_number, after_acking, after_ack, after_timeout, sending_closed}
+use Rattle.udt_model.specs.Receiving.{Placing, AtOffset, IsDouble, IsBelow, IsAbove, placing, after_placing, after_arrival, receive_answer, after_receive_answer, after_receive, AckOutcome, IsEarly, IsKnown, EmitsAck, ack_outcome, after_ack_outcome, after_ack_timer, receiving_closed}
 
 pub record KeepsSending (s t : Sending) : Type 0 where
   pub isn : t.isn ≡ s.isn
@@ -51,7 +51,7 @@ after_send-keeps s bytes = answer-keeps s bytes (send_answer s (length bytes))
 
 packing-keeps : (s : Sending) (now : ℕ) (p : Packing) → KeepsSending s (after_packing s now p)
 packing-keeps s now (Waits until) = record { isn = refl; payload = refl; blocks = refl }
-packing-keeps s now (SendsAgain offset block) = record { isn = refl; payload = refl; blocks = refl }
+packing-keeps s now (Retransmits offset block) = record { isn = refl; payload = refl; blocks = refl }
 packing-keeps s now (Sends block) = record { isn = refl; payload = refl; blocks = refl }
 packing-keeps s now Idles = record { isn = refl; payload = refl; blocks = refl }
 
@@ -95,14 +95,14 @@ pub after_arrival-keeps : (r : Receiving) (number : ℕ) (flags : Flags) (bytes 
 unfolding after_arrival
 after_arrival-keeps r number flags bytes = placing-keeps r flags bytes (placing r number)
 
-telling-keeps : (r : Receiving) (now : ℕ) (t : Telling) → KeepsReceiving r (after_telling r now t)
-telling-keeps r now IsEarly = record { isn = refl; payload = refl; blocks = refl }
-telling-keeps r now IsKnown = record { isn = refl; payload = refl; blocks = refl }
-telling-keeps r now (Tells ack) = record { isn = refl; payload = refl; blocks = refl }
+ack_outcome-keeps : (r : Receiving) (now : ℕ) (t : AckOutcome) → KeepsReceiving r (after_ack_outcome r now t)
+ack_outcome-keeps r now IsEarly = record { isn = refl; payload = refl; blocks = refl }
+ack_outcome-keeps r now IsKnown = record { isn = refl; payload = refl; blocks = refl }
+ack_outcome-keeps r now (EmitsAck ack) = record { isn = refl; payload = refl; blocks = refl }
 
-pub after_tell-keeps : (r : Receiving) (now rtt : ℕ) → KeepsReceiving r (after_tell r now rtt)
-unfolding after_tell
-after_tell-keeps r now rtt = telling-keeps r now (telling r now rtt)
+pub after_ack_timer-keeps : (r : Receiving) (now rtt : ℕ) → KeepsReceiving r (after_ack_timer r now rtt)
+unfolding after_ack_timer
+after_ack_timer-keeps r now rtt = ack_outcome-keeps r now (ack_outcome r now rtt)
 
 pub receiving_closed-keeps : (r : Receiving) → KeepsReceiving r (receiving_closed r)
 unfolding receiving_closed

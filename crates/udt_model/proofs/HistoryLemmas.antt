@@ -2,7 +2,8 @@
 use Rattle.std.proofs.Common.{◌≡◌, ℕ, List, [], ◌∷◌, ◌++◌, refl, ap, ◌∙◌, sym}
 use Rattle.std.proofs.lemmas.List.{append_assoc}
 use Rattle.udt_model.specs.State.{State}
-use Rattle.udt_model.specs.Step.{Event, step}
+use Rattle.udt_model.specs.Step.{step}
+use Rattle.udt_model.specs.Events.{Event}
 use Rattle.udt_model.specs.History.{Item, History, after_items, state_of, AreLegal, IsLegal, happened, taken_by, given_by, accepted_by, delivered_by}
 
 -- the state after joined items is that after the second ones, from the state after the first ones

@@ -8,7 +8,7 @@ use Rattle.udt_model.specs.Wire.{WireRange, word, range_bytes, ranges_bytes, IsR
 abbrev ends : ℕ → ℕ → WireRange
 ends first last = record { first = first; last = last }
 
--- a word that was written reads as itself, and behind it stand the words of the rest
+-- a word that was written reads as itself, and after it stand the words of the rest
 pub words-word : (number : ℕ) (rest : List ℕ) → number < 2 ^ 32 → words_of (word number ++ rest) ≡ number ∷ words_of rest
 unfolding words_of
 words-word number rest fits = ap (λ (w : ℕ). w ∷ words_of rest) (from_be_bytes-to_be_bytes_4 number fits)

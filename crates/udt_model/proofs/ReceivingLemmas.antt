@@ -10,7 +10,7 @@ use Rattle.std.proofs.Math.Seq.{take-append-add}
 use Rattle.udt_model.specs.State.{PlacedBlock, Receiving}
 use Rattle.udt_model.specs.Numbers.{near}
 use Rattle.udt_model.specs.Receiving.{AtOffset, is_placed, placing_at, placing_near, placing, with_block, contiguous, Front, front_after}
-use Rattle.udt_model.specs.Records.{IsPrefix}
+use Rattle.udt_model.specs.Emissions.{IsPrefix}
 
 -- ---- placed blocks
 

@@ -6,18 +6,23 @@ use Rattle.udt_model.specs.declared.answers.Phase.TheVariants as phase
 use Rattle.udt_model.specs.declared.packets.Flags.{Flags}
 use Rattle.udt_model.specs.Wire.{Block, read}
 use Rattle.udt_model.specs.State.{Receiving, State}
-use Rattle.udt_model.specs.Sending.{Packing, Waits, SendsAgain, Sends, Idles, packing}
-use Rattle.udt_model.specs.Receiving.{after_arrival, after_receive, after_tell, receiving_closed}
-use Rattle.udt_model.specs.Step.{Act, Send, Recv, Pack, Tick, Close, Arrive, Event, Silence, IsShort, Breaks, Resends, Signs, silence, round_trip, after_silence, after_told, send_in, recv_in, pack_in, tick_in, packed_as, at_moment, on_act, step}
+use Rattle.udt_model.specs.Sending.{Packing, Waits, Retransmits, Sends, Idles, packing}
+use Rattle.udt_model.specs.Receiving.{after_arrival, after_receive, after_ack_timer, receiving_closed}
+use Rattle.udt_model.specs.declared.sockets.ExpOutcome.{ExpOutcome}
+use Rattle.udt_model.specs.declared.sockets.ExpOutcome.TheVariants as exp
+use Rattle.udt_model.specs.Step.{on_act, step}
+use Rattle.udt_model.specs.Events.{Act, Send, Recv, Pack, Tick, Close, Arrive, Event, at_moment}
+use Rattle.udt_model.specs.Ticks.{exp_outcome, round_trip, after_exp, after_ack_tick, tick_in}
+use Rattle.udt_model.specs.Calls.{send_in, recv_in, pack_in, packed_as}
 use Rattle.udt_model.proofs.ArrivalLemmas.{arrival-shows}
 
 -- what has to be shown of the half after each kind of event, so that it holds after this one
 pub record OfReceiving (s : State) (act : Act) (Q : Receiving → Type 0) : Type 0 where
   pub stays : Q s.receiving
   pub reads : (room : ℕ) → Q (after_receive s.receiving room)
-  pub brings : (from : Addr) (raw : List ℕ) (number : ℕ) (flags : Flags) (stamp : ℕ) (bytes : List ℕ) → act ≡ Arrive from raw
+  pub carries : (from : Addr) (raw : List ℕ) (number : ℕ) (flags : Flags) (stamp : ℕ) (bytes : List ℕ) → act ≡ Arrive from raw
       → from ≡ s.peer.addr → read raw ≡ Ok (Block number flags stamp s.own bytes) → Q (after_arrival s.receiving number flags bytes)
-  pub tells : (now : ℕ) → Q (after_tell s.receiving now round_trip.rtt)
+  pub tells : (now : ℕ) → Q (after_ack_timer s.receiving now round_trip.rtt)
   pub closes : Q (receiving_closed s.receiving)
 
 module _ (s : State) (Q : Receiving → Type 0) where
@@ -35,7 +40,7 @@ module _ (s : State) (Q : Receiving → Type 0) where
 
   packed-shows : (p : Packing) → Q s.receiving → Q (packed_as s p).after.receiving
   packed-shows (Waits until) stays = stays
-  packed-shows (SendsAgain offset block) stays = stays
+  packed-shows (Retransmits offset block) stays = stays
   packed-shows (Sends block) stays = stays
   packed-shows Idles stays = stays
 
@@ -45,14 +50,14 @@ module _ (s : State) (Q : Receiving → Type 0) where
   pack-shows phase.Closing stays = stays
   pack-shows phase.Closed stays = stays
 
-  silence-shows : (silence : Silence) → Q (after_told s).receiving → Q (after_silence (after_told s) silence).receiving
-  silence-shows IsShort told = told
-  silence-shows Breaks told = told
-  silence-shows Resends told = told
-  silence-shows Signs told = told
+  exp-shows : (what : ExpOutcome) → Q (after_ack_tick s).receiving → Q (after_exp (after_ack_tick s) what).receiving
+  exp-shows exp.NotDue ack_emitted = ack_emitted
+  exp-shows exp.Breaks ack_emitted = ack_emitted
+  exp-shows exp.LosesAll ack_emitted = ack_emitted
+  exp-shows exp.KeepsAlive ack_emitted = ack_emitted
 
-  tick-shows : (phase : Phase) → Q s.receiving → Q (after_tell s.receiving s.last round_trip.rtt) → Q (tick_in s phase).after.receiving
-  tick-shows phase.Connected stays tells = silence-shows (silence s) tells
+  tick-shows : (phase : Phase) → Q s.receiving → Q (after_ack_timer s.receiving s.last round_trip.rtt) → Q (tick_in s phase).after.receiving
+  tick-shows phase.Connected stays tells = exp-shows (exp_outcome s) tells
   tick-shows (phase.Broken why) stays tells = stays
   tick-shows phase.Closing stays tells = stays
   tick-shows phase.Closed stays tells = stays
@@ -66,7 +71,7 @@ module _ (s : State) (Q : Receiving → Type 0) where
   act-shows (Arrive from bytes) cases = arrival-shows s from (λ outcome. Q outcome.after.receiving) (read bytes) (record {
     passed = λ counters answer differs. cases.stays;
     noticed = λ counters answer differs connected. cases.stays;
-    brought = λ number flags stamp payload connected sender is. cases.brings from bytes number flags stamp payload refl sender is;
+    brought = λ number flags stamp payload connected sender is. cases.carries from bytes number flags stamp payload refl sender is;
     acknowledged = λ number stamp body offset connected sender is acks. cases.stays;
     ended = λ connected. cases.stays;
   })
@@ -77,7 +82,7 @@ unfolding step
 receiving-shows s event Q cases = act-shows (at_moment s event.now) Q event.act (record {
   stays = cases.stays;
   reads = cases.reads;
-  brings = cases.brings;
+  carries = cases.carries;
   tells = cases.tells;
   closes = cases.closes;
 })

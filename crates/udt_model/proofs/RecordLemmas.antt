@@ -7,13 +7,18 @@ use Rattle.std.proofs.lemmas.List.Elements.{Contains-append_left, Contains-appen
 use Rattle.udt_model.specs.State.{State, Datagram}
 use Rattle.udt_model.specs.declared.answers.Phase.{Phase}
 use Rattle.udt_model.specs.declared.answers.Phase.TheVariants as phase
-use Rattle.udt_model.specs.Sending.{Packing, Waits, SendsAgain, Sends, Idles, packing}
-use Rattle.udt_model.specs.Receiving.{Telling, IsEarly, IsKnown, Tells, telling}
-use Rattle.udt_model.specs.Step.{Act, Send, Recv, Pack, Tick, Close, Arrive, Event, Silence, IsShort, Breaks, Resends, Signs, silence, round_trip, told, signed, at_moment, send_in, recv_in, packed_as, pack_in, tick_in, on_act, step}
+use Rattle.udt_model.specs.Sending.{Packing, Waits, Retransmits, Sends, Idles, packing}
+use Rattle.udt_model.specs.Receiving.{AckOutcome, IsEarly, IsKnown, EmitsAck, ack_outcome}
+use Rattle.udt_model.specs.declared.sockets.ExpOutcome.{ExpOutcome}
+use Rattle.udt_model.specs.declared.sockets.ExpOutcome.TheVariants as exp
+use Rattle.udt_model.specs.Step.{on_act, step}
+use Rattle.udt_model.specs.Events.{Act, Send, Recv, Pack, Tick, Close, Arrive, Event, at_moment}
+use Rattle.udt_model.specs.Ticks.{exp_outcome, round_trip, ack_emitted, keep_alives, tick_in}
+use Rattle.udt_model.specs.Calls.{send_in, recv_in, packed_as, pack_in}
 use Rattle.udt_model.specs.Wire.{read}
 use Rattle.udt_model.specs.History.{Item, after_items, AreLegal}
 use Rattle.udt_model.proofs.ArrivalLemmas.{on_read-outs}
-use Rattle.udt_model.specs.Records.{Emission, named_by_packing, named_by_pack, named_by_telling, named_by_silence, named_by_tick, named_by_act, named, with_offsets, emitted_by, sent_by, arrived_by_act, arrived_by}
+use Rattle.udt_model.specs.Emissions.{Emission, named_by_packing, named_by_pack, named_by_ack, named_by_exp, named_by_tick, named_by_act, named, with_offsets, emitted_by, sent_by, arrived_by_act, arrived_by}
 
 pub emitted_by-append : (s : State) (items more : List Item)
     → emitted_by s (items ++ more) ≡ emitted_by s items ++ emitted_by (after_items s items) more
@@ -62,7 +67,7 @@ recv-named s room phase.Closed = refl
 
 packed-named : (s : State) (p : Packing) → map datagram_of (with_offsets (packed_as s p).outs (named_by_packing s p)) ≡ (packed_as s p).outs
 packed-named s (Waits until) = refl
-packed-named s (SendsAgain offset block) = refl
+packed-named s (Retransmits offset block) = refl
 packed-named s (Sends block) = refl
 packed-named s Idles = refl
 
@@ -72,20 +77,20 @@ pack-named s (phase.Broken why) = refl
 pack-named s phase.Closing = refl
 pack-named s phase.Closed = refl
 
-signed-named : (s : State) (silence : Silence) → map datagram_of (with_offsets (signed s silence) (named_by_silence silence)) ≡ signed s silence
-signed-named s IsShort = refl
-signed-named s Breaks = refl
-signed-named s Resends = refl
-signed-named s Signs = refl
+keep_alives-named : (s : State) (what : ExpOutcome) → map datagram_of (with_offsets (keep_alives s what) (named_by_exp what)) ≡ keep_alives s what
+keep_alives-named s exp.NotDue = refl
+keep_alives-named s exp.Breaks = refl
+keep_alives-named s exp.LosesAll = refl
+keep_alives-named s exp.KeepsAlive = refl
 
-told-named : (s : State) (t : Telling) (silence : Silence)
-    → map datagram_of (with_offsets (told s t ++ signed s silence) (named_by_telling t ++ named_by_silence silence)) ≡ told s t ++ signed s silence
-told-named s IsEarly silence = signed-named s silence
-told-named s IsKnown silence = signed-named s silence
-told-named s (Tells ack) silence = ap (λ (rest : List Datagram). told s (Tells ack) ++ rest) (signed-named s silence)
+ack_emitted-named : (s : State) (t : AckOutcome) (what : ExpOutcome)
+    → map datagram_of (with_offsets (ack_emitted s t ++ keep_alives s what) (named_by_ack t ++ named_by_exp what)) ≡ ack_emitted s t ++ keep_alives s what
+ack_emitted-named s IsEarly what = keep_alives-named s what
+ack_emitted-named s IsKnown what = keep_alives-named s what
+ack_emitted-named s (EmitsAck ack) what = ap (λ (rest : List Datagram). ack_emitted s (EmitsAck ack) ++ rest) (keep_alives-named s what)
 
 tick-named : (s : State) (phase : Phase) → map datagram_of (with_offsets (tick_in s phase).outs (named_by_tick s phase)) ≡ (tick_in s phase).outs
-tick-named s phase.Connected = told-named s (telling s.receiving s.last round_trip.rtt) (silence s)
+tick-named s phase.Connected = ack_emitted-named s (ack_outcome s.receiving s.last round_trip.rtt) (exp_outcome s)
 tick-named s (phase.Broken why) = refl
 tick-named s phase.Closing = refl
 tick-named s phase.Closed = refl

@@ -12,7 +12,7 @@ use Rattle.std.proofs.Math.Seq.{take-add}
 use Rattle.udt_model.specs.declared.packets.AckBody.{AckBody}
 use Rattle.udt_model.specs.State.{KeptBlock, Sending}
 use Rattle.udt_model.specs.Numbers.{near}
-use Rattle.udt_model.specs.Sending.{blocks_for, cut, message_after, with_message, kept_at, unsent, SendsAgain, Sends, Idles, Waits, Packing, sends, sends_again, sends_first, packing, after_packing, after_pack, Acking, Acks, IsStale, acking_near, acking, acked_number, after_acking, after_ack, after_timeout, sending_closed}
+use Rattle.udt_model.specs.Sending.{blocks_for, cut, message_after, with_message, kept_at, unsent, Retransmits, Sends, Idles, Waits, Packing, sends, retransmits, sends_first, packing, after_packing, after_pack, Acking, Acks, IsStale, acking_near, acking, acked_number, after_acking, after_ack, after_timeout, sending_closed}
 use Rattle.udt_model.proofs.OffsetLemmas.{AreWithin, AreWithin-wider, AreWithin-drop, from_offset-within, with_range-within}
 
 -- the bytes of blocks, one by one
@@ -49,7 +49,7 @@ unfolding cut
 cut-fits zero payload message first bytes fits = tt
 cut-fits (suc count) payload message first bytes fits = (fits, cut-fits count payload message false (drop payload bytes) fits)
 
--- so many blocks joined are a front of the bytes
+-- this many blocks joined are a front of the bytes
 pub cut-joined : (count payload message : ℕ) (first : Bool) (bytes : List ℕ)
     → concat (bytes_of (cut count payload message first bytes)) ≡ take (count * payload) bytes
 unfolding cut
@@ -86,7 +86,7 @@ slice_get-drop (suc k) n (x ∷ xs) =
     rw same (slice_get-drop k n xs)
 
 -- these are all blocks that the half ever accepted, in a direction that begins at this offset: the kept ones are the
--- last of them, and those that are to be sent again are under way
+-- last of them, and those that are to be retransmitted are in flight
 pub record IsCut (s : Sending) (start : ℕ) (blocks : List (List ℕ)) : Type 0 where
   pub not_before : start ≤ s.acked
   pub count : s.acked + length s.kept ≡ start + length blocks
@@ -134,7 +134,7 @@ cut-next s start blocks block is_cut found = cut-kept_at s start blocks s.next b
 
 -- ---- packing
 
--- the least lost block, where it is sent again
+-- the least lost block, where it is retransmitted
 pub record IsLeastLost (s : Sending) (offset : ℕ) (block : KeptBlock) : Type 0 where
   pub others : List ℕ
   pub lost : s.lost ≡ offset ∷ others
@@ -144,28 +144,28 @@ sends-unsent : (s : Sending) (o : Option KeptBlock) (block : KeptBlock) → send
 sends-unsent s None block is = absurd (cc)
 sends-unsent s (Some first) block is = grind (arith, nat_tests)
 
-sends-none_again : (s : Sending) (o : Option KeptBlock) (offset : ℕ) (block : KeptBlock) → sends s o ≡ SendsAgain offset block → ⊥
+sends-none_again : (s : Sending) (o : Option KeptBlock) (offset : ℕ) (block : KeptBlock) → sends s o ≡ Retransmits offset block → ⊥
 sends-none_again s None offset block is = cc
 sends-none_again s (Some first) offset block is = grind (arith, nat_tests)
 
-again-block : (found offset : ℕ) (o : Option KeptBlock) (block : KeptBlock) → sends_again found o ≡ SendsAgain offset block
+retransmit-block : (found offset : ℕ) (o : Option KeptBlock) (block : KeptBlock) → retransmits found o ≡ Retransmits offset block
     → (found ≡ offset) × (o ≡ Some block)
-again-block found offset None block is = absurd (cc)
-again-block found offset (Some first) block is = (cc, cc)
+retransmit-block found offset None block is = absurd (cc)
+retransmit-block found offset (Some first) block is = (cc, cc)
 
-again-unsent : (found : ℕ) (o : Option KeptBlock) (block : KeptBlock) → sends_again found o ≡ Sends block → ⊥
-again-unsent found None block is = cc
-again-unsent found (Some first) block is = cc
+retransmit-unsent : (found : ℕ) (o : Option KeptBlock) (block : KeptBlock) → retransmits found o ≡ Sends block → ⊥
+retransmit-unsent found None block is = cc
+retransmit-unsent found (Some first) block is = cc
 
 first-unsent : (s : Sending) (lost : List ℕ) (block : KeptBlock) → sends_first s lost ≡ Sends block → unsent s ≡ Some block
 first-unsent s [] block is = sends-unsent s (unsent s) block is
-first-unsent s (offset ∷ others) block is = absurd (again-unsent offset (kept_at s offset) block is)
+first-unsent s (offset ∷ others) block is = absurd (retransmit-unsent offset (kept_at s offset) block is)
 
-first-lost : (s : Sending) (lost : List ℕ) (offset : ℕ) (block : KeptBlock) → s.lost ≡ lost → sends_first s lost ≡ SendsAgain offset block
+first-lost : (s : Sending) (lost : List ℕ) (offset : ℕ) (block : KeptBlock) → s.lost ≡ lost → sends_first s lost ≡ Retransmits offset block
     → IsLeastLost s offset block
 first-lost s [] offset block same is = absurd (sends-none_again s (unsent s) offset block is)
 first-lost s (first ∷ others) offset block same is =
-    let found = again-block first offset (kept_at s first) block is in
+    let found = retransmit-block first offset (kept_at s first) block is in
     record {
       others = others;
       lost = same ∙ ap (λ (n : ℕ). n ∷ others) found.0;
@@ -180,13 +180,13 @@ packing-sends s now block is =
     first-unsent s s.lost block due
 
 -- or the least lost one again
-pub packing-again : (s : Sending) (now offset : ℕ) (block : KeptBlock) → packing s now ≡ SendsAgain offset block → IsLeastLost s offset block
+pub packing-again : (s : Sending) (now offset : ℕ) (block : KeptBlock) → packing s now ≡ Retransmits offset block → IsLeastLost s offset block
 unfolding packing
 packing-again s now offset block is =
-    let due : sends_first s s.lost ≡ SendsAgain offset block = grind (arith, nat_tests) in
+    let due : sends_first s s.lost ≡ Retransmits offset block = grind (arith, nat_tests) in
     first-lost s s.lost offset block refl due
 
--- which is under way
+-- which is in flight
 pub lost-within : (s : Sending) (start : ℕ) (blocks : List (List ℕ)) (offset : ℕ) (block : KeptBlock) → IsCut s start blocks
     → IsLeastLost s offset block → (s.acked ≤ offset) × (offset < s.next)
 lost-within s start blocks offset block is_cut least =
@@ -197,7 +197,7 @@ lost-within s start blocks offset block is_cut least =
 pub cut-after_packing : (s : Sending) (start now : ℕ) (blocks : List (List ℕ)) (p : Packing) → packing s now ≡ p → IsCut s start blocks
     → IsCut (after_packing s now p) start blocks
 cut-after_packing s start now blocks (Waits until) is is_cut = is_cut
-cut-after_packing s start now blocks (SendsAgain offset block) is is_cut = record {
+cut-after_packing s start now blocks (Retransmits offset block) is is_cut = record {
   not_before = is_cut.not_before;
   count = is_cut.count;
   kept = is_cut.kept;
@@ -288,7 +288,7 @@ after_ack-next s body = after_acking-next s body (acking s (acked_number body))
 
 -- ---- loss and closing
 
--- where something is under way, all of it may be sent again
+-- where something is in flight, all of it may be retransmitted
 pub cut-after_timeout : (s : Sending) (start : ℕ) (blocks : List (List ℕ)) → s.acked < s.next → IsCut s start blocks
     → IsCut (after_timeout s) start blocks
 unfolding after_timeout

@@ -1,4 +1,4 @@
--- What events of a socket don't change: who it is, who its peer is, and the initial numbers.
+-- What events of a socket don't change: who it is, who its peer is, and the initial sequence numbers.
 use Rattle.std.proofs.Common.{◌≡◌, ℕ, List, [], ◌∷◌, refl, ◌∙◌}
 use Rattle.std.specs.Prelude.{Result}
 use Rattle.udt_model.specs.declared.addresses.Addr.{Addr}
@@ -7,10 +7,16 @@ use Rattle.udt_model.specs.declared.answers.Phase.TheVariants as phase
 use Rattle.udt_model.specs.declared.packets.Malformed.{Malformed}
 use Rattle.udt_model.specs.Wire.{Packet, read}
 use Rattle.udt_model.specs.State.{Sending, Receiving, State}
-use Rattle.udt_model.specs.Sending.{Packing, Waits, SendsAgain, Sends, Idles, packing}
-use Rattle.udt_model.specs.Step.{Act, Send, Recv, Pack, Tick, Close, Arrive, Event, Silence, IsShort, Breaks, Resends, Signs, silence, round_trip, after_silence, after_told, send_in, recv_in, pack_in, tick_in, on_close, at_moment, packed_as, on_read, on_act, step}
+use Rattle.udt_model.specs.Sending.{Packing, Waits, Retransmits, Sends, Idles, packing}
+use Rattle.udt_model.specs.declared.sockets.ExpOutcome.{ExpOutcome}
+use Rattle.udt_model.specs.declared.sockets.ExpOutcome.TheVariants as exp
+use Rattle.udt_model.specs.Step.{on_act, step}
+use Rattle.udt_model.specs.Events.{Act, Send, Recv, Pack, Tick, Close, Arrive, Event, at_moment}
+use Rattle.udt_model.specs.Ticks.{exp_outcome, round_trip, after_exp, after_ack_tick, tick_in}
+use Rattle.udt_model.specs.Calls.{send_in, recv_in, pack_in, on_close, packed_as}
+use Rattle.udt_model.specs.Arrivals.{on_read}
 use Rattle.udt_model.specs.History.{Item, after_items}
-use Rattle.udt_model.proofs.HalfLemmas.{KeepsSending, KeepsReceiving, same_sending, same_receiving, sending_on, receiving_on, after_send-keeps, after_pack-keeps, after_ack-keeps, after_timeout-keeps, sending_closed-keeps, after_receive-keeps, after_arrival-keeps, after_tell-keeps, receiving_closed-keeps}
+use Rattle.udt_model.proofs.HalfLemmas.{KeepsSending, KeepsReceiving, same_sending, same_receiving, sending_on, receiving_on, after_send-keeps, after_pack-keeps, after_ack-keeps, after_timeout-keeps, sending_closed-keeps, after_receive-keeps, after_arrival-keeps, after_ack_timer-keeps, receiving_closed-keeps}
 use Rattle.udt_model.proofs.ArrivalLemmas.{arrival-shows}
 
 pub record KeepsIdentity (s t : State) : Type 0 where
@@ -67,7 +73,7 @@ recv-keeps s room phase.Closed = same_identity s
 
 packed-keeps : (s : State) (p : Packing) → KeepsIdentity s (packed_as s p).after
 packed-keeps s (Waits until) = same_identity s
-packed-keeps s (SendsAgain offset block) =
+packed-keeps s (Retransmits offset block) =
     others-keep s _ _ (halves-keep s _ s.receiving (after_pack-keeps s.sending s.last) (same_receiving s.receiving)) refl refl refl refl refl refl
 packed-keeps s (Sends block) =
     others-keep s _ _ (halves-keep s _ s.receiving (after_pack-keeps s.sending s.last) (same_receiving s.receiving)) refl refl refl refl refl refl
@@ -79,18 +85,18 @@ pack-keeps s (phase.Broken why) = same_identity s
 pack-keeps s phase.Closing = same_identity s
 pack-keeps s phase.Closed = same_identity s
 
-told-keeps : (s : State) → KeepsIdentity s (after_told s)
-told-keeps s = halves-keep s s.sending _ (same_sending s.sending) (after_tell-keeps s.receiving s.last round_trip.rtt)
+ack_emitted-keeps : (s : State) → KeepsIdentity s (after_ack_tick s)
+ack_emitted-keeps s = halves-keep s s.sending _ (same_sending s.sending) (after_ack_timer-keeps s.receiving s.last round_trip.rtt)
 
-silence-keeps : (s : State) (silence : Silence) → KeepsIdentity s (after_silence s silence)
-silence-keeps s IsShort = same_identity s
-silence-keeps s Breaks = others-keep s s _ (same_identity s) refl refl refl refl refl refl
-silence-keeps s Resends =
+exp-keeps : (s : State) (what : ExpOutcome) → KeepsIdentity s (after_exp s what)
+exp-keeps s exp.NotDue = same_identity s
+exp-keeps s exp.Breaks = others-keep s s _ (same_identity s) refl refl refl refl refl refl
+exp-keeps s exp.LosesAll =
     others-keep s _ _ (halves-keep s _ s.receiving (after_timeout-keeps s.sending) (same_receiving s.receiving)) refl refl refl refl refl refl
-silence-keeps s Signs = others-keep s s _ (same_identity s) refl refl refl refl refl refl
+exp-keeps s exp.KeepsAlive = others-keep s s _ (same_identity s) refl refl refl refl refl refl
 
 tick-keeps : (s : State) (phase : Phase) → KeepsIdentity s (tick_in s phase).after
-tick-keeps s phase.Connected = identity_on s (after_told s) _ (told-keeps s) (silence-keeps (after_told s) (silence s))
+tick-keeps s phase.Connected = identity_on s (after_ack_tick s) _ (ack_emitted-keeps s) (exp-keeps (after_ack_tick s) (exp_outcome s))
 tick-keeps s (phase.Broken why) = same_identity s
 tick-keeps s phase.Closing = others-keep s s _ (same_identity s) refl refl refl refl refl refl
 tick-keeps s phase.Closed = same_identity s

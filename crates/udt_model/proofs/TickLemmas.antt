@@ -1,33 +1,35 @@
--- What silence leads to, and what is told.
+-- What the EXP timer does, and what the ACK timer emits.
 use Rattle.std.proofs.Common.{◌≡◌, ℕ, ◌<◌, ◌≤◌, Bool, true, false, refl}
 use Rattle.std.specs.Prelude.{nat_lt, if◌then◌else◌}
 use Rattle.std.proofs.lemmas.Bool.{ltb-true, ltb-false}
-use Rattle.udt_model.specs.State.{FullAck, Receiving, State}
-use Rattle.udt_model.specs.Receiving.{ack_offset, number_after, IsEarly, IsKnown, Tells, telling}
-use Rattle.udt_model.specs.Step.{IsShort, Breaks, Resends, Signs, silence}
+use Rattle.udt_model.specs.State.{Receiving, State}
+use Rattle.udt_model.specs.declared.sockets.SentAck.{SentAck}
+use Rattle.udt_model.specs.Receiving.{ack_offset, number_after, IsEarly, IsKnown, EmitsAck, ack_outcome}
+use Rattle.udt_model.specs.declared.sockets.ExpOutcome.TheVariants as exp
+use Rattle.udt_model.specs.Ticks.{exp_outcome}
 
--- something is sent again only where it is under way
-resends-under_way : (s : State) (short hopeless under_way : Bool) → nat_lt s.sending.acked s.sending.next ≡ under_way
-    → (if short then IsShort else (if hopeless then Breaks else (if under_way then Resends else Signs))) ≡ Resends
+-- something is retransmitted only where it is in flight
+resends-in_flight : (s : State) (short given_up in_flight : Bool) → nat_lt s.sending.acked s.sending.next ≡ in_flight
+    → (if short then exp.NotDue else (if given_up then exp.Breaks else (if in_flight then exp.LosesAll else exp.KeepsAlive))) ≡ exp.LosesAll
     → s.sending.acked < s.sending.next
-resends-under_way s true hopeless under_way test is = absurd (cc)
-resends-under_way s false true under_way test is = absurd (cc)
-resends-under_way s false false true test is = ltb-true s.sending.acked s.sending.next test
-resends-under_way s false false false test is = absurd (cc)
+resends-in_flight s true given_up in_flight test is = absurd (cc)
+resends-in_flight s false true in_flight test is = absurd (cc)
+resends-in_flight s false false true test is = ltb-true s.sending.acked s.sending.next test
+resends-in_flight s false false false test is = absurd (cc)
 
-pub silence-resends : (s : State) → silence s ≡ Resends → s.sending.acked < s.sending.next
-unfolding silence
-silence-resends s is = resends-under_way s _ _ _ refl is
+pub exp-resends : (s : State) → exp_outcome s ≡ exp.LosesAll → s.sending.acked < s.sending.next
+unfolding exp_outcome
+exp-resends s is = resends-in_flight s _ _ _ refl is
 
--- what is told is the offset before which all has arrived, at that moment, under the next number
-pub record IsTold (r : Receiving) (now : ℕ) (ack : FullAck) : Type 0 where
+-- what is emitted names the offset before which all has arrived, at that moment, with the next number
+pub record IsTold (r : Receiving) (now : ℕ) (ack : SentAck) : Type 0 where
   pub due : r.ack_due ≤ now
   pub number : ack.number ≡ number_after r.last_ack
   pub offset : ack.offset ≡ ack_offset r
   pub moment : ack.moment ≡ now
 
-tells-due : (r : Receiving) (now : ℕ) (early known : Bool) (ack : FullAck) → nat_lt now r.ack_due ≡ early
-    → (if early then IsEarly else (if known then IsKnown else Tells (record { number = number_after r.last_ack; offset = ack_offset r; moment = now }))) ≡ Tells ack
+tells-due : (r : Receiving) (now : ℕ) (early known : Bool) (ack : SentAck) → nat_lt now r.ack_due ≡ early
+    → (if early then IsEarly else (if known then IsKnown else EmitsAck (record { number = number_after r.last_ack; offset = ack_offset r; moment = now }))) ≡ EmitsAck ack
     → IsTold r now ack
 tells-due r now true known ack test is = absurd (cc)
 tells-due r now false true ack test is = absurd (cc)
@@ -38,6 +40,6 @@ tells-due r now false false ack test is = record {
   moment = cc;
 }
 
-pub telling-tells : (r : Receiving) (now rtt : ℕ) (ack : FullAck) → telling r now rtt ≡ Tells ack → IsTold r now ack
-unfolding telling
-telling-tells r now rtt ack is = tells-due r now _ _ ack refl is
+pub ack_outcome-tells : (r : Receiving) (now rtt : ℕ) (ack : SentAck) → ack_outcome r now rtt ≡ EmitsAck ack → IsTold r now ack
+unfolding ack_outcome
+ack_outcome-tells r now rtt ack is = tells-due r now _ _ ack refl is

@@ -108,26 +108,26 @@ module _ (first second third fourth : ℕ) (field : List ℕ) where
   field-header = refl
 
 -- bytes whose first bit is set are read by the type that they tell
-pub read-told : (bytes : List ℕ) (first info stamp dest : ℕ) (field : List ℕ) → 16 ≤ length bytes → 2 ^ 31 ≤ first → word_at 0 bytes ≡ first
+pub read-ack_emitted : (bytes : List ℕ) (first info stamp dest : ℕ) (field : List ℕ) → 16 ≤ length bytes → 2 ^ 31 ≤ first → word_at 0 bytes ≡ first
     → word_at 4 bytes ≡ info → word_at 8 bytes ≡ stamp → word_at 12 bytes ≡ dest → drop 16 bytes ≡ field
     → read bytes ≡ read_control (control_type (type_of first)) info stamp dest field
 unfolding read
-read-told bytes first info stamp dest field long set is_first is_info is_stamp is_dest is_field =
+read-ack_emitted bytes first info stamp dest field long set is_first is_info is_stamp is_dest is_field =
     let short : nat_lt (length bytes) 16 ≡ false = le-ltb (length bytes) 16 long in
     let data_bit : nat_lt (word_at 0 bytes) (2 ^ 31) ≡ false = le-ltb (word_at 0 bytes) (2 ^ 31) (omega arith) in
     rw (short, data_bit, is_first, is_info, is_stamp, is_dest, is_field) refl
 
--- so what stands behind the header of a control packet is read by its type
+-- so what stands after the header of a control packet is read by its type
 pub read-header : (type info stamp dest : ℕ) (field : List ℕ) → type < 2 ^ 15 → info < 2 ^ 32 → stamp < 2 ^ 32 → dest < 2 ^ 32
     → read (header (type_word type) info stamp dest ++ field) ≡ read_control (control_type type) info stamp dest field
 read-header type info stamp dest field fits info_fits stamp_fits dest_fits =
     let first : ℕ = type_word type in
     let long = length-header first info stamp dest field in
-    let told : type_of (type_word type) ≡ type = omega arith in
-    read-told (header first info stamp dest ++ field) first info stamp dest field (omega arith) (omega arith)
+    let ack_emitted : type_of (type_word type) ≡ type = omega arith in
+    read-ack_emitted (header first info stamp dest ++ field) first info stamp dest field (omega arith) (omega arith)
     (first_word first info stamp dest field (omega arith)) (second_word first info stamp dest field info_fits)
     (third_word first info stamp dest field stamp_fits) (fourth_word first info stamp dest field dest_fits) (field-header first info stamp dest field)
-    ∙ ap (λ (t : ℕ). read_control (control_type t) info stamp dest field) told
+    ∙ ap (λ (t : ℕ). read_control (control_type t) info stamp dest field) ack_emitted
 
 -- ---- fields
 
@@ -245,7 +245,7 @@ block-read seq flags stamp dest bytes fits =
     let third = third_word seq word_of stamp dest bytes fits.2 in
     let fourth = fourth_word seq word_of stamp dest bytes fits.3 in
     let payload = field-header seq word_of stamp dest bytes in
-    let told = flags-read flags fits.1 in
+    let ack_emitted = flags-read flags fits.1 in
     grind (arith, nat_tests)
 
 -- a packet reads back from its spelling

@@ -30,9 +30,10 @@ same_addr a b = same_ip a.ip b.ip && (a.port == b.port)
 -- four bytes in decimal, with dots between them
 abbrev pub dotted : ℕ → List ℕ
 dotted bits =
-    decimal (bits / 2 ^ 24) ++ 46 ∷ decimal (bits / 2 ^ 16 % 256) ++ 46 ∷ decimal (bits / 2 ^ 8 % 256) ++ 46 ∷ decimal (bits % 256)
+    decimal (bits / 2 ^ 24) ++ 46 ∷ decimal (bits / 2 ^ 16 % 256)
+    ++ 46 ∷ decimal (bits / 2 ^ 8 % 256) ++ 46 ∷ decimal (bits % 256)
 
--- so many groups of sixteen bits in hexadecimal, with colons between them
+-- this many groups of sixteen bits in hexadecimal, with colons between them
 abbrev pub group_of : ℕ → ℕ → List ℕ
 group_of bits place = digits 16 false (bits / 2 ^ (16 * place) % 2 ^ 16)
 
@@ -63,7 +64,7 @@ each_of spelled (piece ∷ pieces) = do
   numbers ← each_of spelled pieces
   Some (number ∷ numbers)
 
--- the numbers, where there are so many
+-- the numbers, where there are this many
 abbrev pub if_many : ℕ → List ℕ → Option (List ℕ)
 if_many many numbers = if length numbers == many then Some numbers else None
 
@@ -90,7 +91,7 @@ abbrev pub begins_with : ℕ → List ℕ → Bool
 begins_with byte [] = false
 begins_with byte (c ∷ cs) = c == byte
 
--- what stands before and behind the first `::`
+-- what stands before and after the first `::`
 unfoldable pub around_double : List ℕ → Option (List ℕ × List ℕ)
 around_double [] = None
 around_double (c ∷ cs) =
@@ -141,9 +142,9 @@ length_before byte text = prefix_len (λ c. not (c == byte)) text
 abbrev pub before : ℕ → List ℕ → List ℕ
 before byte text = take (length_before byte text) text
 
--- what stands behind the first byte of this kind
-abbrev pub behind : ℕ → List ℕ → List ℕ
-behind byte text = drop (length_before byte text + 1) text
+-- what stands after the first byte of this kind
+abbrev pub following : ℕ → List ℕ → List ℕ
+following byte text = drop (length_before byte text + 1) text
 
 -- the address of both, where both are there
 abbrev pub with_port : Option Ip → Option ℕ → Option Addr
@@ -152,7 +153,7 @@ with_port ip port = do
   p ← port
   Some (record { ip = i; port = p })
 
--- the port behind a colon: a decimal number of at most 65,535
+-- the port after a colon: a decimal number of at most 65,535
 abbrev pub port_of : List ℕ → Option ℕ
 port_of [] = None
 port_of (c ∷ cs) = if c == 58 then number_within 0 65535 cs else None
@@ -161,5 +162,5 @@ port_of (c ∷ cs) = if c == 58 then number_within 0 65535 cs else None
 -- colon and the port
 unfoldable pub addr_of : List ℕ → Option Addr
 addr_of text =
-    if begins_with 91 text then with_port (v6_of (before 93 (drop 1 text))) (port_of (behind 93 (drop 1 text)))
-    else with_port (v4_of (before 58 text)) (number_within 0 65535 (behind 58 text))
+    if begins_with 91 text then with_port (v6_of (before 93 (drop 1 text))) (port_of (following 93 (drop 1 text)))
+    else with_port (v4_of (before 58 text)) (number_within 0 65535 (following 58 text))

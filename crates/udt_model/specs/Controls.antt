@@ -1,52 +1,53 @@
 -- Two further controls: one with a fixed period, one with a window that grows by addition and
 -- halves.
 use Rattle.std.specs.Prelude.{◌≡◌, ℕ, ◌+◌, ◌-◌, ◌/◌, ◌%◌, ◌<◌, ◌≤◌, true, false, nat_lt, min, max, if◌then◌else◌, List, [], ◌∷◌, ◌++◌, ⊤, Option, Some, None}
-use Rattle.udt_model.specs.Rate.{Feedback, Ways, ways, Call, OnAck, OnNak, OnTimeout, after_call, after_calls, AreAllowed, newly_acknowledged, longest_period, is_new_loss, first_window, largest_window}
+use Rattle.udt_model.specs.Rate.{Feedback, Ways, ways, Call, OnAck, OnNak, OnTimeout, after_call, after_calls, AreAllowed, newly_acknowledged, is_new_loss}
+use Rattle.udt_model.specs.declared.limits.TheConstants.{GREATEST_PERIOD, FIRST_WINDOW, LEAST_WINDOW, GREATEST_WINDOW}
 
 -- ---- the fixed control
 
 -- the period of a fixed control, which is at most a second
 abbrev pub fixed_period : ℕ → ℕ
-fixed_period period = min period longest_period
+fixed_period period = min period GREATEST_PERIOD
 
--- whatever the fixed control is told, its window is the largest and its period its own
+-- whatever the fixed control is told, its window is the greatest and its period its own
 abbrev pub IsFixed : {C : Type 0} → Ways C → ℕ → Type 0
 IsFixed w period =
     (packet flow : ℕ) (calls : List Call)
-    → (w.window_of (after_calls w (w.started packet flow) calls) ≡ largest_window)
+    → (w.window_of (after_calls w (w.started packet flow) calls) ≡ GREATEST_WINDOW)
     × (w.period_of (after_calls w (w.started packet flow) calls) ≡ fixed_period period)
 
 -- ---- the additive control
 
 -- what the additive control knows
 pub record Additive : Type 0 where
-  -- the packets that may be on their way
+  -- the packets that may be in flight
   pub window : ℕ
   -- the window from which on it grows by one packet a window
   pub threshold : ℕ
   -- the acknowledged packets that have not yet made the window grow
   pub rest : ℕ
-  -- the greatest offset that was sent at the last decrease by a loss report
+  -- the greatest offset that was sent at the last decrease by a NAK
   pub last_dec : Option ℕ
 
 -- as a connection begins
 abbrev pub starting : Additive
 starting =
-    record { window = first_window; threshold = largest_window; rest = 0; last_dec = None }
+    record { window = FIRST_WINDOW; threshold = GREATEST_WINDOW; rest = 0; last_dec = None }
 
--- half of a window, which is at least two
+-- half of a window, and no less than the least one
 abbrev pub half_of : ℕ → ℕ
-half_of window = max (window / 2) 2
+half_of window = max (window / 2) LEAST_WINDOW
 
 -- below the threshold the window grows by what was acknowledged
 abbrev pub doubling : Additive → ℕ → Additive
-doubling a newly = record a { window = min (a.window + newly) largest_window }
+doubling a newly = record a { window = min (a.window + newly) GREATEST_WINDOW }
 
 -- from the threshold on it grows by one packet for each window that was acknowledged
 abbrev pub adding : Additive → ℕ → Additive
 adding a newly =
     record a {
-      window = min (a.window + (a.rest + newly) / a.window) largest_window;
+      window = min (a.window + (a.rest + newly) / a.window) GREATEST_WINDOW;
       rest = (a.rest + newly) % a.window;
     }
 
@@ -69,7 +70,7 @@ cut a first sent seen = if is_new_loss a.last_dec first then halved a sent else 
 
 -- a timeout begins again from two packets, up to half of the window
 abbrev pub begun_again : Additive → Feedback → Additive
-begun_again a seen = record a { window = 2; threshold = half_of a.window; rest = 0 }
+begun_again a seen = record a { window = LEAST_WINDOW; threshold = half_of a.window; rest = 0 }
 
 -- the additive control: it has no period
 abbrev pub additive : Ways Additive
@@ -99,7 +100,7 @@ abbrev pub KeepWindow : Additive → List Call → Type 0
 KeepWindow a [] = ⊤
 KeepWindow a (call ∷ calls) = KeepsWindow a call × KeepWindow (after_call additive a call) calls
 
--- the window doesn't fall, and rises by at most so many packets
+-- the window doesn't fall, and rises by at most this many packets
 pub record RisesByAtMost (old new packets : ℕ) : Type 0 where
   pub no_fall : old ≤ new
   pub bound : new ≤ old + packets
@@ -119,8 +120,8 @@ DecreaseNeverRaises =
     (before : List Call) (call : Call) → (KeepsWindow (aimd_after before) call → ⊥)
     → (aimd_after (before ++ call ∷ [])).window ≤ (aimd_after before).window
 
--- of two decreases by a loss report the later one's first loss is above all that was sent at the
--- earlier one, whatever came between
+-- of two decreases by a NAK the later one's first loss is above all that was sent at the
+-- earlier one, whatever allowed calls came between
 abbrev pub LaterLossIsNew : Type 0
 LaterLossIsNew =
     (before between : List Call) (first sent later_first : ℕ) (seen : Feedback)

@@ -1,12 +1,13 @@
 -- Histories of one socket, and what can be read off them.
-use Rattle.std.specs.Prelude.{◌≡◌, ℕ, zero, suc, ◌+◌, ◌-◌, ◌==◌, List, [], ◌∷◌, ◌++◌, length, take, Result, Ok, if◌then◌else◌}
+use Rattle.std.specs.Prelude.{◌≡◌, ℕ, zero, suc, ◌+◌, ◌-◌, ◌==◌, List, [], ◌∷◌, ◌++◌, length, take, Option, Some, None, Result, Ok, if◌then◌else◌}
 use Rattle.std.specs.List.{list_any}
 use Rattle.udt_model.specs.declared.answers.Heard.TheVariants as heard
 use Rattle.udt_model.specs.declared.packets.Malformed.{Malformed}
 use Rattle.udt_model.specs.Wire.{Packet, Block, read}
+use Rattle.udt_model.specs.Numbers.{near}
 use Rattle.udt_model.specs.State.{State, Datagram}
-use Rattle.udt_model.specs.Receiving.{Placing, AtOffset, placing}
-use Rattle.udt_model.specs.Step.{Act, Send, Arrive, Event, Reply, Sent, Received, DidHear, step}
+use Rattle.udt_model.specs.Step.{step}
+use Rattle.udt_model.specs.Events.{Act, Send, Arrive, Event, Reply, Sent, Received, DidHear}
 
 -- an event with its answer and what it emitted, made by the holder of the pass with this number
 pub record Item : Type 0 where
@@ -83,18 +84,19 @@ delivered h = delivered_by h.items
 abbrev pub acked : History → ℕ
 acked h = (state_of h).sending.acked - start_of h
 
--- the offset at which a block with this wire number is placed
-abbrev pub placed_by_placing : Placing → List ℕ
-placed_by_placing (AtOffset offset) = offset ∷ []
-placed_by_placing other = []
+-- the offset that a data packet's sequence number stands for, where there is one
+abbrev pub offset_found : Option ℕ → List ℕ
+offset_found None = []
+offset_found (Some offset) = offset ∷ []
 
-abbrev pub placed_by_packet : State → Result Packet Malformed → List ℕ
-placed_by_packet s (Ok (Block number flags stamp dest bytes)) = placed_by_placing (placing s.receiving number)
-placed_by_packet s other = []
+-- the offset of a data packet: the one near the highest that arrived. Which blocks are placed isn't asked
+abbrev pub offset_of_packet : State → Result Packet Malformed → List ℕ
+offset_of_packet s (Ok (Block number flags stamp dest bytes)) = offset_found (near s.receiving.isn s.receiving.top number)
+offset_of_packet s other = []
 
 -- the offset at which an event placed a block, which it answers
 abbrev pub placed_by : State → Act → Reply → List ℕ
-placed_by s (Arrive from bytes) (DidHear heard.Placed) = placed_by_packet s (read bytes)
+placed_by s (Arrive from bytes) (DidHear heard.Placed) = offset_of_packet s (read bytes)
 placed_by s act reply = []
 
 -- the offsets at which these items placed blocks, from this state on
@@ -106,7 +108,7 @@ placed_from s (item ∷ items) = placed_by s item.event.act item.reply ++ placed
 abbrev pub placed_offsets : History → List ℕ
 placed_offsets h = placed_from h.opening h.items
 
--- how many offsets from this one on, of so many at most, are among these, without a gap
+-- how many offsets from this one on, of this many at most, are among these, without a gap
 unfoldable pub gapless : ℕ → ℕ → List ℕ → ℕ
 gapless zero offset offsets = 0
 gapless (suc most) offset offsets = if list_any (λ n. n == offset) offsets then gapless most (offset + 1) offsets + 1 else 0

@@ -1,4 +1,4 @@
--- Lists of lost packets: those that are to be sent again, and those that have not arrived, each with its last report.
+-- Lists of lost packets: those that are to be retransmitted, and those that have not arrived, each with its last report.
 use Rattle.std.specs.Prelude.{ℕ, ◌+◌, ◌-◌, ◌*◌, ◌^◌, ◌==◌, ◌&&◌, ◌||◌, min, Bool, List, [], ◌∷◌, ◌++◌, map, nat_lt, nat_le, if◌then◌else◌}
 use Rattle.std.specs.List.{filter, list_any, range_with_len}
 
@@ -49,7 +49,7 @@ pub record Missing : Type 0 where
   pub reported : ℕ
   pub wait : ℕ
 
--- the list with the offsets of a range behind it, reported now. They are reported again after two round trips
+-- the list with the offsets of a range after it, reported now. They are reported again after two round trips
 unfoldable pub with_missing : ℕ → ℕ → ℕ → List Missing → List Missing
 with_missing from to now missing =
     missing ++ map (λ n. record { offset = n; reported = now; wait = 2 }) (offsets_between from to)
@@ -62,7 +62,7 @@ without_missing from to missing = filter (λ lost. nat_lt lost.offset from || na
 abbrev pub is_missing : ℕ → List Missing → Bool
 is_missing offset missing = list_any (λ lost. lost.offset == offset) missing
 
--- a packet is to be reported again at this moment, with round trips of so many microseconds
+-- a packet is to be reported again at this moment, with round trips of this many microseconds
 abbrev pub is_due : ℕ → ℕ → Missing → Bool
 is_due now rtt lost = nat_le (lost.wait * rtt) (now - lost.reported)
 
@@ -74,13 +74,13 @@ due_ranges now rtt missing = ranges_of (map (λ (lost : Missing). lost.offset) (
 abbrev pub words_of_range : LostRange → ℕ
 words_of_range range = if range.first == range.last then 1 else 2
 
--- the first ranges that fit into so many words
+-- the first ranges that fit into this many words
 unfoldable pub fitting_ranges : ℕ → List LostRange → List LostRange
 fitting_ranges words [] = []
 fitting_ranges words (range ∷ ranges) =
     if nat_le (words_of_range range) words then range ∷ fitting_ranges (words - words_of_range range) ranges else []
 
--- what is reported at this moment in so many words
+-- what is reported at this moment in this many words
 unfoldable pub report : ℕ → ℕ → ℕ → List Missing → List LostRange
 report now rtt words missing = fitting_ranges words (due_ranges now rtt missing)
 

@@ -1,5 +1,6 @@
--- Rate control: how many packets may be on their way, and how far apart they leave.
+-- Rate control: how many packets may be in flight, and how far apart they leave.
 use Rattle.std.specs.Prelude.{◌≡◌, ℕ, zero, suc, ◌+◌, ◌-◌, ◌*◌, ◌/◌, ◌^◌, ◌<◌, ◌≤◌, Bool, true, false, nat_lt, nat_le, min, max, if◌then◌else◌, List, [], ◌∷◌, ⊤, Option, Some, None}
+use Rattle.udt_model.specs.declared.limits.TheConstants.{SYN, FIRST_WINDOW, LEAST_WINDOW, GREATEST_WINDOW, GREATEST_PERIOD}
 
 -- ---- what every control has
 
@@ -13,7 +14,7 @@ pub record Feedback : Type 0 where
 
 -- a control as functions of its value: what it begins with for a packet size in bytes and a flow
 -- window, what it answers (the window in packets, the period in nanoseconds), and what is left by
--- an acknowledgement, by a loss report with its first lost offset and the first offset never sent,
+-- an ACK, by a NAK with its first lost offset and the first offset never sent,
 -- and by a timeout
 pub record Ways (C : Type 0) : Type 0 where
   pub started : ℕ → ℕ → C
@@ -37,7 +38,7 @@ ways started window_of period_of after_ack after_nak after_timeout =
       after_timeout = after_timeout;
     }
 
--- a call of a control: an acknowledgement, a loss report, a timeout
+-- a call of a control: an ACK, a NAK, a timeout
 pub data Call : Type 0 where
   OnAck : (seen : Feedback) → Call
   OnNak : (first sent : ℕ) → (seen : Feedback) → Call
@@ -54,7 +55,7 @@ abbrev pub after_calls : {C : Type 0} → Ways C → C → List Call → C
 after_calls w c [] = c
 after_calls w c (call ∷ calls) = after_calls w (after_call w c call) calls
 
--- rates that the network can have told: they have 32 bits
+-- rates that an ACK can carry: they have 32 bits
 pub record IsMeasured (seen : Feedback) : Type 0 where
   pub rate : seen.rate < 2 ^ 32
   pub capacity : seen.capacity < 2 ^ 32
@@ -77,16 +78,12 @@ newly_acknowledged (OnAck seen ∷ calls) = seen.newly + newly_acknowledged call
 newly_acknowledged (OnNak first sent seen ∷ calls) = newly_acknowledged calls
 newly_acknowledged (OnTimeout seen ∷ calls) = newly_acknowledged calls
 
--- the longest sending period: a second, in nanoseconds
-abbrev pub longest_period : ℕ
-longest_period = 1000000000
-
--- the control lets at least two packets be on their way, and sends at least one a second
+-- the control lets at least two packets be in flight, and sends at least one a second
 pub record IsInBounds (window period : ℕ) : Type 0 where
-  pub least : 2 ≤ window
-  pub longest : period ≤ longest_period
+  pub least : LEAST_WINDOW ≤ window
+  pub longest : period ≤ GREATEST_PERIOD
 
--- whatever a control is told, its answers stay in their bounds
+-- after every list of allowed calls, begun at a packet of at least one byte, its answers stay in their bounds
 abbrev pub StaysInBounds : {C : Type 0} → Ways C → Type 0
 StaysInBounds w =
     (packet flow : ℕ) (calls : List Call) → 1 ≤ packet → AreAllowed calls
@@ -109,28 +106,16 @@ pub record Pacing : Type 0 where
   pub flow : ℕ
   -- whether slow start lasts
   pub slow : Bool
-  -- the packets that may be on their way
+  -- the packets that may be in flight
   pub window : ℕ
   -- the time from one packet to the next, in nanoseconds
   pub period_nanos : ℕ
   -- the greatest offset that was sent at the last decrease
   pub last_dec : Option ℕ
 
--- the first window, and what the window has beyond the packets that a round trip takes
-abbrev pub first_window : ℕ
-first_window = 16
-
--- the largest window, in packets
-abbrev pub largest_window : ℕ
-largest_window = 65536
-
--- the time between two acknowledgements, in microseconds
-abbrev pub syn_micros : ℕ
-syn_micros = 10000
-
--- the same in nanoseconds, counted in millionths
+-- a SYN in nanoseconds, counted in millionths
 abbrev pub syn_nano_millionths : ℕ
-syn_nano_millionths = 10000000000000
+syn_nano_millionths = SYN * 1000000000
 
 -- as a connection begins: slow start, with the first window and no period
 abbrev pub opening : ℕ → ℕ → Pacing
@@ -139,7 +124,7 @@ opening packet flow =
       packet_bytes = packet;
       flow = flow;
       slow = true;
-      window = first_window;
+      window = FIRST_WINDOW;
       period_nanos = 0;
       last_dec = None;
     }
@@ -150,14 +135,14 @@ speed_at period = 1000000000 / period
 
 -- a period within its ends
 abbrev pub bounded_period : ℕ → ℕ
-bounded_period period = max 1 (min period longest_period)
+bounded_period period = max 1 (min period GREATEST_PERIOD)
 
 -- the period that slow start ends with: that of the receiving rate, or, where none is known, that
 -- of one window a round trip
 abbrev pub measured_period : ℕ → Feedback → ℕ
 measured_period window seen =
     if nat_lt 0 seen.rate then 1000000000 / seen.rate
-    else 1000 * (seen.rtt + syn_micros) / window
+    else 1000 * (seen.rtt + SYN) / window
 
 -- the end of slow start. It is no decrease
 abbrev pub ended : Pacing → Feedback → Pacing
@@ -166,9 +151,9 @@ ended n seen =
 
 -- in slow start the window grows by what was acknowledged
 abbrev pub opened : Pacing → Feedback → Pacing
-opened n seen = record n { window = min (n.window + seen.newly) largest_window }
+opened n seen = record n { window = min (n.window + seen.newly) GREATEST_WINDOW }
 
--- the first of the powers p, 10 p, 100 p .. that is at least x, of so many
+-- the first of the powers p, 10 p, 100 p .. that is at least x, of this many
 abbrev pub first_power : ℕ → ℕ → ℕ → ℕ
 first_power zero p x = p
 first_power (suc more) p x = if nat_le x p then p else first_power more (p * 10) x
@@ -192,7 +177,7 @@ increase_of capacity period packet =
     then max (3 * power_of_ten (spare_bits capacity period packet) / (2 * packet)) (least_increase packet)
     else least_increase packet
 
--- the period at which one SYN has so many millionths of a packet more
+-- the period at which one SYN has this many millionths of a packet more
 abbrev pub shorter_of : ℕ → ℕ → ℕ
 shorter_of period inc =
     max 1 (period * syn_nano_millionths / (period * inc + syn_nano_millionths))
@@ -200,9 +185,9 @@ shorter_of period inc =
 -- the window that a round trip takes at this receiving rate
 abbrev pub steady_window : Feedback → ℕ
 steady_window seen =
-    min (seen.rate * (seen.rtt + syn_micros) / 1000000 + first_window) largest_window
+    min (seen.rate * (seen.rtt + SYN) / 1000000 + FIRST_WINDOW) GREATEST_WINDOW
 
--- after slow start an acknowledgement sets the window and shortens the period
+-- after slow start an ACK sets the window and shortens the period
 abbrev pub sped_up : Pacing → Feedback → Pacing
 sped_up n seen =
     record n {
@@ -213,14 +198,14 @@ sped_up n seen =
 
 -- a decrease makes the period longer by an eighth
 abbrev pub longer_of : ℕ → ℕ
-longer_of period = min ((9 * period + 7) / 8) longest_period
+longer_of period = min ((9 * period + 7) / 8) GREATEST_PERIOD
 
 -- a decrease remembers the greatest offset sent
 abbrev pub slowed_down : Pacing → ℕ → Pacing
 slowed_down n sent =
     record n { period_nanos = longer_of n.period_nanos; last_dec = Some (sent - 1) }
 
--- an acknowledgement, in slow start or not
+-- an ACK, in slow start or not
 abbrev pub acknowledged : Bool → Pacing → Feedback → Pacing
 acknowledged true n seen =
     if nat_le n.flow (opened n seen).window then ended (opened n seen) seen else opened n seen
@@ -229,7 +214,7 @@ acknowledged false n seen = sped_up n seen
 abbrev pub after_ack : Pacing → Feedback → Pacing
 after_ack n seen = acknowledged n.slow n seen
 
--- a loss report, in slow start or not
+-- a NAK, in slow start or not
 abbrev pub reported : Bool → Pacing → ℕ → ℕ → Feedback → Pacing
 reported true n first sent seen = ended n seen
 reported false n first sent seen = if is_new_loss n.last_dec first then slowed_down n sent else n
@@ -262,13 +247,13 @@ PowerIsLeast = (x : ℕ) → IsLeastPower (power_of_ten x) x
 -- the largest, there is no period in slow start, and after it one from a nanosecond to a second
 pub record IsPaced (n : Pacing) : Type 0 where
   pub packet : 1 ≤ n.packet_bytes
-  pub window : first_window ≤ n.window
-  pub window_end : n.window ≤ largest_window
-  pub period : n.period_nanos ≤ longest_period
+  pub window : FIRST_WINDOW ≤ n.window
+  pub window_end : n.window ≤ GREATEST_WINDOW
+  pub period : n.period_nanos ≤ GREATEST_PERIOD
   pub slow_start : n.slow ≡ true → n.period_nanos ≡ 0
   pub started : n.slow ≡ false → 1 ≤ n.period_nanos
 
--- whatever the native control is told, it is in such a state
+-- after every list of allowed calls, begun at a packet of at least one byte, the native control is in such a state
 abbrev pub NativeIsPaced : Type 0
 NativeIsPaced =
     (packet flow : ℕ) (calls : List Call) → 1 ≤ packet → AreAllowed calls
@@ -280,7 +265,7 @@ TellsOfLoss (OnAck seen) = ⊥
 TellsOfLoss (OnNak first sent seen) = ⊤
 TellsOfLoss (OnTimeout seen) = ⊤
 
--- the sender is no faster than before: no more packets on their way, and none of them sooner
+-- the sender is no faster than before: no more packets in flight, and none of them sooner
 pub record IsNoFaster (old new : Pacing) : Type 0 where
   pub window : new.window ≤ old.window
   pub period : old.period_nanos ≤ new.period_nanos
@@ -290,7 +275,7 @@ abbrev pub LossNeverSpeedsUp : Type 0
 LossNeverSpeedsUp =
     (n : Pacing) (call : Call) → IsPaced n → TellsOfLoss call → IsNoFaster n (after_call native n call)
 
--- after slow start an acknowledgement never makes the period longer
+-- after slow start an ACK never makes the period longer
 abbrev pub AckNeverLengthensPeriod : Type 0
 AckNeverLengthensPeriod =
     (n : Pacing) (seen : Feedback) → IsPaced n → n.slow ≡ false
@@ -301,7 +286,7 @@ abbrev pub SlowStartNeverShrinks : Type 0
 SlowStartNeverShrinks =
     (n : Pacing) (call : Call) → IsPaced n → n.slow ≡ true → n.window ≤ (after_call native n call).window
 
--- the loss report makes the sender slower: slow start is over, and its first loss is new
+-- the NAK makes the sender slower: slow start is over, and its first loss is new
 pub record IsSlowedBy (n : Pacing) (first : ℕ) : Type 0 where
   pub past_slow_start : n.slow ≡ false
   pub is_new : is_new_loss n.last_dec first ≡ true

@@ -82,7 +82,7 @@ pub record Beginning : Type 0 where
   pub given : ℕ
   pub placed : List PlacedBlock
 
--- where it begins once so many bytes from an offset on were given: no block that has none left stands at the base
+-- where it begins once this many bytes from an offset on were given: no block that has none left stands at the base
 unfoldable pub beginning : ℕ → ℕ → List PlacedBlock → Beginning
 beginning base given [] = record { base = base; given = given; placed = [] }
 beginning base given (block ∷ others) =
@@ -93,7 +93,7 @@ beginning base given (block ∷ others) =
 abbrev pub begins_at : ReceiveBlocks → Beginning → ReceiveBlocks
 begins_at r b = record r { base = b.base; given = b.given; placed = b.placed }
 
--- what is left once so many of the waiting bytes were read
+-- what is left once this many of the waiting bytes were read
 abbrev pub after_bytes : ReceiveBlocks → ℕ → ReceiveBlocks
 after_bytes r count = begins_at r (beginning r.base (r.given + count) r.placed)
 
@@ -108,7 +108,7 @@ consumed_at offset = record {
   consumed = true;
 }
 
--- the blocks with so many offsets from this one on consumed
+-- the blocks with this many offsets from this one on consumed
 unfoldable pub with_consumed : ℕ → ℕ → List PlacedBlock → List PlacedBlock
 with_consumed from zero placed = placed
 with_consumed from (suc count) placed = put_block (consumed_at (from + count)) (with_consumed from count placed)
@@ -117,7 +117,7 @@ with_consumed from (suc count) placed = put_block (consumed_at (from + count)) (
 abbrev pub given_after : ReceiveBlocks → ℕ → ℕ → ℕ
 given_after r from count = if nat_le from r.base && nat_lt r.base (from + count) then 0 else r.given
 
--- what is left once so many offsets from this one on, which isn't below the base, are consumed
+-- what is left once this many offsets from this one on, which isn't below the base, are consumed
 abbrev pub after_consuming : ReceiveBlocks → ℕ → ℕ → ReceiveBlocks
 after_consuming r from count =
     begins_at r (beginning r.base (given_after r from count) (with_consumed from count r.placed))

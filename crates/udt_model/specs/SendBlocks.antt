@@ -7,7 +7,7 @@ pub record Message : Type 0 where
   pub number : ℕ
   -- it must be delivered in order
   pub order : Bool
-  -- the moment after which it isn't sent again, where there is one, in microseconds
+  -- the moment after which it isn't retransmitted, where there is one, in microseconds
   pub expires : Option ℕ
   -- the offsets of its first and its last block
   pub first : ℕ
@@ -44,11 +44,11 @@ kept_bytes s = flat_map (λ block. block.bytes) s.kept
 
 -- ---- accepting
 
--- how many of so many bytes are taken, in no more than so many blocks
+-- how many of this many bytes are taken, in no more than this many blocks
 abbrev pub accepted_of : SendBlocks → ℕ → ℕ → ℕ
 accepted_of s len most = min len (min (free_of s) most * s.payload)
 
--- how many blocks of this payload so many bytes fill
+-- how many blocks of this payload this many bytes fill
 abbrev pub count_for : ℕ → ℕ → ℕ
 count_for len payload = (len + payload - 1) / payload
 
@@ -61,23 +61,23 @@ flags_at m offset = record {
   message = m.number;
 }
 
--- so many blocks of a message from this offset on: each has the next bytes, as many as there are up to the payload
+-- this many blocks of a message from this offset on: each has the next bytes, as many as there are up to the payload
 unfoldable pub blocks_of : Message → ℕ → ℕ → ℕ → List ℕ → List KeptBlock
 blocks_of m payload offset zero bytes = []
 blocks_of m payload offset (suc more) bytes =
     record { message = m; flags = flags_at m offset; bytes = take payload bytes }
     ∷ blocks_of m payload (offset + 1) more (drop payload bytes)
 
--- the message that so many blocks make behind those that are kept
-abbrev pub message_behind : SendBlocks → ℕ → ℕ → Bool → Option ℕ → Message
-message_behind s count number order expires =
+-- the message that this many blocks make after those that are kept
+abbrev pub following_message : SendBlocks → ℕ → ℕ → Bool → Option ℕ → Message
+following_message s count number order expires =
     record { number = number; order = order; expires = expires; first = end_of s; last = end_of s + count - 1 }
 
 -- what is kept with these bytes too, as one message
 abbrev pub with_bytes : SendBlocks → ℕ → Bool → Option ℕ → List ℕ → SendBlocks
 with_bytes s number order expires bytes =
     let count = count_for (length bytes) s.payload in
-    record s { kept = s.kept ++ blocks_of (message_behind s count number order expires) s.payload (end_of s) count bytes }
+    record s { kept = s.kept ++ blocks_of (following_message s count number order expires) s.payload (end_of s) count bytes }
 
 -- what is kept after as many of these bytes were taken as fit
 abbrev pub after_accept : SendBlocks → List ℕ → ℕ → ℕ → Bool → Option ℕ → SendBlocks

@@ -5,6 +5,8 @@ use Rattle.udt_model.specs.declared.answers.Peer.{Peer}
 use Rattle.udt_model.specs.declared.answers.Phase.{Phase}
 use Rattle.udt_model.specs.declared.packets.Flags.{Flags}
 use Rattle.udt_model.specs.declared.packets.Kind.{Kind}
+use Rattle.udt_model.specs.declared.sockets.Counters.{Counters}
+use Rattle.udt_model.specs.declared.sockets.SentAck.{SentAck}
 
 -- a block that was accepted and not yet released
 pub record KeptBlock : Type 0 where
@@ -19,33 +21,28 @@ pub record PlacedBlock : Type 0 where
 
 -- the sending half
 pub record Sending : Type 0 where
-  -- the initial number of this direction, and the most bytes of a block
+  -- the initial sequence number of this direction, and the most bytes of a block
   pub isn : ℕ
   pub payload : ℕ
   -- how many blocks there is room for, and those that are kept, of which the first has the offset acked
   pub blocks : ℕ
   pub acked : ℕ
   pub kept : List KeptBlock
-  -- the first offset that was never sent
+  -- the first offset that was never sent; once the socket was closed, which drops what is kept, the first that isn't
+  -- acknowledged
   pub next : ℕ
-  -- the offsets that are to be sent again, in rising order
+  -- the offsets that are to be retransmitted, in rising order
   pub lost : List ℕ
   -- the number of the next message
   pub message : ℕ
-  -- how many packets the peer has room for
+  -- the flow window: how many packets the peer has room for
   pub flow : ℕ
   -- the moment before which nothing is sent, in nanoseconds
   pub due : ℕ
 
--- a full acknowledgement that was emitted: its number, the first offset that had not arrived, and its moment
-pub record FullAck : Type 0 where
-  pub number : ℕ
-  pub offset : ℕ
-  pub moment : ℕ
-
 -- the receiving half
 pub record Receiving : Type 0 where
-  -- the initial number of this direction, and the most bytes of a block
+  -- the initial sequence number of this direction, and the most bytes of a block
   pub isn : ℕ
   pub payload : ℕ
   -- how many offsets from the base on there is room for
@@ -57,24 +54,11 @@ pub record Receiving : Type 0 where
   pub given : ℕ
   -- the placed blocks, in rising order of their offsets
   pub placed : List PlacedBlock
-  -- the greatest offset up to which the peer is known to have been told of arrivals
+  -- the greatest ACK offset that an ACK2 acknowledged
   pub confirmed : ℕ
-  -- the last full acknowledgement, and the moment from which on the next may be due, in microseconds
-  pub last_ack : Option FullAck
+  -- the last full ACK, and the moment from which on the next may be due, in microseconds
+  pub last_ack : Option SentAck
   pub ack_due : ℕ
-
--- what was counted. Each count stays at 2^64 - 1 once it stands there
-pub record Counters : Type 0 where
-  pub sent : ℕ
-  pub resent : ℕ
-  pub placed : ℕ
-  pub double : ℕ
-  pub below : ℕ
-  pub above : ℕ
-  pub control : ℕ
-  pub stale : ℕ
-  pub foreign : ℕ
-  pub malformed : ℕ
 
 -- a socket
 pub record State : Type 0 where
@@ -87,10 +71,11 @@ pub record State : Type 0 where
   -- how many events it has had
   pub count : ℕ
   pub phase : Phase
-  -- the moments of the last arrival from the peer and from which on silence is counted, and how often it expired, plus one
+  -- the moment of the last arrival from the peer; the moment from which on the EXP timer runs, and how often it fired since
+  -- that arrival, plus one
   pub heard : ℕ
   pub exp_from : ℕ
-  pub exp_n : ℕ
+  pub exp_count : ℕ
   pub sending : Sending
   pub receiving : Receiving
   pub counters : Counters

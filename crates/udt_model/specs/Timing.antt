@@ -1,16 +1,10 @@
--- Round trips, windows of samples and the history of acknowledgements.
+-- Round trips, windows of samples and the history of ACKs.
 use Rattle.std.specs.Prelude.{ℕ, ◌+◌, ◌-◌, ◌*◌, ◌/◌, ◌==◌, ◌&&◌, ◌||◌, min, max, nat_lt, nat_le, if◌then◌else◌, Bool, List, [], ◌∷◌, ◌++◌, length, drop, filter, sum, slice_index, Option, None}
 use Rattle.std.specs.List.{last_or, before_last, after_last}
+use Rattle.udt_model.specs.declared.limits.TheConstants.{SYN, FIRST_RTT, FIRST_RTT_VAR, GREATEST_RTT, SAMPLE_WINDOW, ACK_HISTORY}
+use Rattle.udt_model.specs.declared.sockets.SentAck.{SentAck}
 
 -- ---- round trips, in microseconds
-
--- the interval at which acknowledgements fall due
-abbrev pub syn : ℕ
-syn = 10000
-
--- a sample counts as no longer than a minute
-abbrev pub longest_round_trip : ℕ
-longest_round_trip = 60000000
 
 -- the smoothed round-trip time of a path, and how far samples lie off it
 pub record RoundTrip : Type 0 where
@@ -19,7 +13,7 @@ pub record RoundTrip : Type 0 where
 
 -- what is assumed before the first sample
 abbrev pub unmeasured : RoundTrip
-unmeasured = record { rtt = 100000; var = 50000 }
+unmeasured = record { rtt = FIRST_RTT; var = FIRST_RTT_VAR }
 
 -- how far two times lie apart
 abbrev pub gap : ℕ → ℕ → ℕ
@@ -35,7 +29,7 @@ smoothed_variance known rtt sample = (3 * known + gap rtt sample) / 4
 
 -- the sample as it counts
 abbrev pub clamped : ℕ → ℕ
-clamped sample = min sample longest_round_trip
+clamped sample = min sample GREATEST_RTT
 
 -- what is known once a sample was taken in
 abbrev pub after_sample : RoundTrip → ℕ → RoundTrip
@@ -44,9 +38,9 @@ after_sample known sample = record {
   var = smoothed_variance known.var known.rtt (clamped sample);
 }
 
--- how long loss and silence are waited for: four round trips, the variance and an interval
+-- the unit of the NAK and EXP intervals: four round trips, the variance and a SYN
 abbrev pub period_of : RoundTrip → ℕ
-period_of known = 4 * known.rtt + known.var + syn
+period_of known = 4 * known.rtt + known.var + SYN
 
 -- ---- lists that keep their newest entries
 
@@ -56,13 +50,9 @@ pushed most xs x = drop (length (xs ++ x ∷ []) - most) (xs ++ x ∷ [])
 
 -- ---- windows of samples, each the microseconds between two arrivals
 
--- as many samples fill a window
-abbrev pub window_samples : ℕ
-window_samples = 16
-
 -- a window keeps the newest samples
 abbrev pub with_sample : List ℕ → ℕ → List ℕ
-with_sample samples sample = pushed window_samples samples sample
+with_sample samples sample = pushed SAMPLE_WINDOW samples sample
 
 -- a number put into a rising list, before the first that isn't less
 unfoldable pub put_in_order : ℕ → List ℕ → List ℕ
@@ -96,7 +86,7 @@ in_a_second count micros = if micros == 0 then 0 else count * second / micros
 
 -- the window isn't full yet
 abbrev pub is_short : List ℕ → Bool
-is_short samples = nat_lt (length samples) window_samples
+is_short samples = nat_lt (length samples) SAMPLE_WINDOW
 
 -- the arrival speed in packets a second: that of the kept samples, where the window is full and
 -- more than half of its samples are kept
@@ -112,32 +102,22 @@ speed_of samples =
 abbrev pub capacity_of : List ℕ → ℕ
 capacity_of samples = if is_short samples then 0 else in_a_second 1 (median samples)
 
--- ---- the history of acknowledgements
-
--- an acknowledgement that was sent: its number, the offset that it acknowledged, and its moment
-pub record Noted : Type 0 where
-  pub number : ℕ
-  pub ack : ℕ
-  pub at : ℕ
-
--- as many acknowledgements are remembered
-abbrev pub history_notes : ℕ
-history_notes = 1024
+-- ---- the history of ACKs
 
 -- the history keeps the newest
-abbrev pub with_note : List Noted → Noted → List Noted
-with_note history note = pushed history_notes history note
+abbrev pub with_note : List SentAck → SentAck → List SentAck
+with_note history note = pushed ACK_HISTORY history note
 
--- the acknowledgement has this number
-abbrev pub is_under : ℕ → Noted → Bool
+-- the ACK has this number
+abbrev pub is_under : ℕ → SentAck → Bool
 is_under number note = note.number == number
 
--- of several acknowledgements under one number the last counts
-abbrev pub last_under : ℕ → List Noted → Option Noted
+-- of several ACKs with one number the last counts
+abbrev pub last_under : ℕ → List SentAck → Option SentAck
 last_under number history = last_or None (filter (is_under number) history)
 
 -- the history once that one was taken out: what stood before it and what stood after it, or all
 -- where there is none
-abbrev pub without_last_under : ℕ → List Noted → List Noted
+abbrev pub without_last_under : ℕ → List SentAck → List SentAck
 without_last_under number history =
     before_last (is_under number) history ++ after_last (is_under number) history

@@ -1,4 +1,5 @@
--- Packets, and the bytes that spell them in a datagram (draft-gg-udt-03, section 3). All numbers are big-endian.
+-- Packets, and the bytes that spell them in a datagram. All numbers are big-endian. The layout is that of draft-gg-udt-03,
+-- section 3; what is read leniently, the numbers of the socket types and the use of the address field are this project's own.
 use Rattle.std.specs.Prelude.{◌≡◌, ℕ, ◌+◌, ◌-◌, ◌*◌, ◌/◌, ◌%◌, ◌^◌, ◌<◌, ◌==◌, Bool, true, false, ◌&&◌, List, [], ◌∷◌, ◌++◌, length, take, drop, All, Option, Some, None, Result, Ok, Err, FitsSigned, nat_lt, nat_le, if◌then◌else◌}
 use Rattle.std.specs.Int.{w32, to_be_bytes, from_be_bytes, cast_signed, cast_unsigned}
 use Rattle.udt_model.specs.declared.packets.Flags.{Flags}
@@ -13,8 +14,8 @@ pub record WireRange : Type 0 where
   pub first : ℕ
   pub last : ℕ
 
--- a packet: a block of data with its wire number, flags, time stamp and destination; or a control packet of one of
--- seven types, with its time stamp and destination and what this type tells
+-- a packet: a block of data with its sequence number, flags, time stamp and destination; or a control packet of one of
+-- seven types, with its time stamp and destination and what this type carries
 pub data Packet : Type 0 where
   Block : (seq : ℕ) → (flags : Flags) → (stamp : ℕ) → (dest : ℕ) → (bytes : List ℕ) → Packet
   Handshake : (stamp : ℕ) → (dest : ℕ) → (shake : Shake) → Packet
@@ -35,7 +36,7 @@ bit set = if set then 1 else 0
 abbrev pub flags_word : Flags → ℕ
 flags_word flags = 2 ^ 31 * bit flags.first + 2 ^ 30 * bit flags.last + 2 ^ 29 * bit flags.order + flags.message
 
--- the flags that such a word tells
+-- the flags of such a word
 abbrev pub flags_of : ℕ → Flags
 flags_of word = record {
   first = nat_le (2 ^ 31) word;
@@ -48,7 +49,7 @@ flags_of word = record {
 abbrev pub type_word : ℕ → ℕ
 type_word type = 2 ^ 31 + 2 ^ 16 * type
 
--- the type that such a word tells
+-- the type of such a word
 abbrev pub type_of : ℕ → ℕ
 type_of word = word / 2 ^ 16 % 2 ^ 15
 
@@ -60,7 +61,7 @@ word number = to_be_bytes w32 number
 abbrev pub word_at : ℕ → List ℕ → ℕ
 word_at place bytes = from_be_bytes w32 (take 4 (drop place bytes))
 
--- the packet number that they spell, whose first bit tells nothing
+-- the sequence number that they spell, whose first bit is ignored
 abbrev pub number_at : ℕ → List ℕ → ℕ
 number_at place bytes = word_at place bytes % 2 ^ 31
 
@@ -76,7 +77,7 @@ shake_bytes shake =
     word shake.version ++ word shake.kind ++ word shake.isn ++ word shake.packet ++ word shake.flow
     ++ word (cast_unsigned w32 shake.ask) ++ word shake.id ++ word shake.cookie ++ shake.address
 
--- an acknowledgement has one word, four or six
+-- an ACK has one word, four or six
 abbrev pub ack_bytes : AckBody → List ℕ
 ack_bytes (Light ack) = word ack
 ack_bytes (Buffer ack rtt var buffer) = word ack ++ word rtt ++ word var ++ word buffer
@@ -88,12 +89,12 @@ abbrev pub range_bytes : WireRange → List ℕ
 range_bytes range =
     if range.first == range.last then word range.first else word (2 ^ 31 + range.first) ++ word range.last
 
--- ranges stand one behind the other
+-- ranges stand one after the other
 unfoldable pub ranges_bytes : List WireRange → List ℕ
 ranges_bytes [] = []
 ranges_bytes (range ∷ ranges) = range_bytes range ++ ranges_bytes ranges
 
--- the four words that a packet begins with. Reserved bits, and words that tell nothing, are 0
+-- the four words that a packet begins with. Reserved bits, and words without a meaning, are 0
 abbrev pub header_of : Packet → List ℕ
 header_of (Block seq flags stamp dest bytes) = header seq (flags_word flags) stamp dest
 header_of (Handshake stamp dest shake) = header (type_word 0) 0 stamp dest
@@ -104,7 +105,7 @@ header_of (Shutdown stamp dest) = header (type_word 5) 0 stamp dest
 header_of (Ack2 number stamp dest) = header (type_word 6) number stamp dest
 header_of (DropAsk message stamp dest first last) = header (type_word 7) message stamp dest
 
--- what stands behind them
+-- what stands after them
 abbrev pub field_of : Packet → List ℕ
 field_of (Block seq flags stamp dest bytes) = bytes
 field_of (Handshake stamp dest shake) = shake_bytes shake
@@ -133,7 +134,7 @@ pub record IsShakeInRange (shake : Shake) : Type 0 where
   pub cookie : shake.cookie < 2 ^ 32
   pub address : length shake.address ≡ 16
 
--- the numbers of an acknowledgement fit their places
+-- the numbers of an ACK fit their places
 abbrev pub IsAckInRange : AckBody → Type 0
 IsAckInRange (Light ack) = ack < 2 ^ 31
 IsAckInRange (Buffer ack rtt var buffer) = (ack < 2 ^ 31) × (rtt < 2 ^ 32) × (var < 2 ^ 32) × (buffer < 2 ^ 32)
@@ -150,7 +151,7 @@ pub record IsRange (range : WireRange) : Type 0 where
   pub last : range.last < 2 ^ 31
   pub near : reach range.first range.last < 2 ^ 30
 
--- the numbers of a packet fit their places, and a packet that tells of losses has a range
+-- the numbers of a packet fit their places, and a NAK has a range
 abbrev pub IsInRange : Packet → Type 0
 IsInRange (Block seq flags stamp dest bytes) = (seq < 2 ^ 31) × (flags.message < 2 ^ 29) × (stamp < 2 ^ 32) × (dest < 2 ^ 32)
 IsInRange (Handshake stamp dest shake) = IsShakeInRange shake × (stamp < 2 ^ 32) × (dest < 2 ^ 32)
@@ -162,13 +163,14 @@ IsInRange (Ack2 number stamp dest) = (number < 2 ^ 32) × (stamp < 2 ^ 32) × (d
 IsInRange (DropAsk message stamp dest first last) =
     (message < 2 ^ 29) × (first < 2 ^ 31) × (last < 2 ^ 31) × (stamp < 2 ^ 32) × (dest < 2 ^ 32)
 
--- ---- what bytes are read as. In each case more bytes than are needed are passed over
+-- ---- what bytes are read as. All bytes after the header of a data packet are its block, and all of a NAK are ranges; in
+-- every other packet those after the bytes that are needed are ignored
 
 -- the data packet that these bytes spell
 abbrev pub block_of : List ℕ → Packet
 block_of bytes = Block (word_at 0 bytes) (flags_of (word_at 4 bytes)) (word_at 8 bytes) (word_at 12 bytes) (drop 16 bytes)
 
--- the handshake that a field of 48 bytes or more tells
+-- the handshake that a field of 48 bytes or more spells
 abbrev pub shake_of : List ℕ → Shake
 shake_of field = record {
   version = word_at 0 field;
@@ -182,7 +184,7 @@ shake_of field = record {
   address = take 16 (drop 32 field);
 }
 
--- the acknowledgement that a field of four bytes or more tells: light below 16 bytes, full from 24 on
+-- the ACK that a field of four bytes or more spells: light below 16 bytes, full from 24 on
 abbrev pub ack_of : List ℕ → AckBody
 ack_of field =
     if nat_lt (length field) 16
@@ -225,7 +227,7 @@ abbrev pub read_shake : ℕ → ℕ → List ℕ → Result Packet Malformed
 read_shake stamp dest field =
     if nat_lt (length field) 48 then Err BadHandshakeLength else Ok (Handshake stamp dest (shake_of field))
 
--- an acknowledgement
+-- an ACK
 abbrev pub read_ack : ℕ → ℕ → ℕ → List ℕ → Result Packet Malformed
 read_ack number stamp dest field =
     if nat_lt (length field) 4 then Err BadAckLength else Ok (Ack number stamp dest (ack_of field))
@@ -265,7 +267,7 @@ control_type number =
     else (if number == 7 then DropAskType
     else NoType))))))
 
--- the control packet of this type, by the other three words of its header and the field behind it
+-- the control packet of this type, by the other three words of its header and the field after it
 unfoldable pub read_control : ControlType → (info stamp dest : ℕ) → (field : List ℕ) → Result Packet Malformed
 read_control HandshakeType info stamp dest field = read_shake stamp dest field
 read_control KeepAliveType info stamp dest field = Ok (KeepAlive stamp dest)
@@ -276,14 +278,15 @@ read_control Ack2Type info stamp dest field = Ok (Ack2 info stamp dest)
 read_control DropAskType info stamp dest field = read_drop info stamp dest field
 read_control NoType info stamp dest field = Err UnknownType
 
--- the packet that these bytes spell, or why they spell none. The first bit tells control packets
+-- the packet that these bytes spell, or why they spell none. The first bit is set in control packets
 unfoldable pub read : List ℕ → Result Packet Malformed
 read bytes =
     if nat_lt (length bytes) 16
     then Err TooShort
     else (if nat_lt (word_at 0 bytes) (2 ^ 31)
     then Ok (block_of bytes)
-    else read_control (control_type (type_of (word_at 0 bytes))) (word_at 4 bytes) (word_at 8 bytes) (word_at 12 bytes) (drop 16 bytes))
+    else read_control (control_type (type_of (word_at 0 bytes)))
+    (word_at 4 bytes) (word_at 8 bytes) (word_at 12 bytes) (drop 16 bytes))
 
 -- the socket ID of the destination, which stands in the fourth word of each packet
 unfoldable pub target : List ℕ → Option ℕ

@@ -14,7 +14,7 @@ abbrev pub in_front : ℕ → List (List ℕ) → List (List ℕ)
 in_front byte [] = (byte ∷ []) ∷ []
 in_front byte (word ∷ words) = (byte ∷ word) ∷ words
 
--- the words of a line: what stands before, between and behind its spaces
+-- the words of a line: what stands before, between and after its spaces
 unfoldable pub words_of : List ℕ → List (List ℕ)
 words_of [] = [] ∷ []
 words_of (byte ∷ line) = if byte == 32 then [] ∷ words_of line else in_front byte (words_of line)
@@ -23,7 +23,7 @@ words_of (byte ∷ line) = if byte == 32 then [] ∷ words_of line else in_front
 abbrev pub is_word : List ℕ → List ℕ → Bool
 is_word word text = bytes_eq word text
 
--- a small letter, and then at most fifteen small letters and digits
+-- a character a to z, and then at most fifteen characters a to z or digits
 abbrev pub is_name : List ℕ → Bool
 is_name [] = false
 is_name (first ∷ others) =
@@ -49,7 +49,7 @@ if_within least most number = if nat_le least number && nat_le number most then 
 abbrev pub number_within : ℕ → ℕ → List ℕ → Option ℕ
 number_within least most word = number_of word >>= if_within least most
 
--- what a hexadecimal digit stands for. Capital letters are none
+-- what a hexadecimal digit stands for. Upper case isn't read
 abbrev pub nibble_of : ℕ → Option ℕ
 nibble_of c =
     if nat_le 48 c && nat_le c 57

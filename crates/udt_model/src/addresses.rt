@@ -36,3 +36,14 @@ impl Ip {
         }
     }
 }
+
+impl Addr {
+    ghost use Rattle.udt_model.specs.Addresses.{same_addr};
+
+    /// Whether the two are the same address.
+    pub fn is_same(self, other: Addr) -> bool
+        ensures { result ≡ same_addr self other }
+    {
+        self == other
+    }
+}

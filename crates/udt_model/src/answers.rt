@@ -3,7 +3,7 @@
 use crate::addresses::Addr;
 use crate::packets::Malformed;
 
-/// The other end of a connection: its address and socket ID, the initial number, the bytes of a
+/// The other end of a connection: its address and socket ID, the initial sequence number, the bytes of a
 /// block that it takes, and how many blocks it has room for.
 #[derive(Clone, Copy, Debug, PartialEq, Eq)]
 pub struct Peer {

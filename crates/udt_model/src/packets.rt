@@ -38,7 +38,7 @@ pub enum Malformed {
 }
 
 /// The fields of a handshake: the version of the protocol, the socket type (1 for a stream, 2 for
-/// messages), the initial number, the packet size (the bytes of a block plus 44), the flow window
+/// messages), the initial sequence number, the packet size (the bytes of a block plus 44), the flow window
 /// in packets, what the handshake asks or answers, the sender's socket ID, the cookie, and the
 /// address to which it is sent.
 #[derive(Clone, Copy, Debug, PartialEq, Eq)]
@@ -54,7 +54,7 @@ pub struct Shake {
     pub address: [u8; 16],
 }
 
-/// What an acknowledgement tells: the number up to which everything has arrived; with the
+/// What an ACK carries: the number up to which everything has arrived; with the
 /// round-trip time and its variance in microseconds and the free blocks of the receiver; or with
 /// the receiving rate and the link's capacity too, in packets a second.
 #[derive(Clone, Copy, Debug, PartialEq, Eq)]

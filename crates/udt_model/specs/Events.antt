@@ -1,0 +1,55 @@
+-- Events of a socket: what may happen, what is answered, and what an event leaves.
+use Rattle.std.specs.Prelude.{ℕ, ◌+◌, ◌-◌, ◌^◌, min, max, List, [], Result}
+use Rattle.udt_model.specs.declared.limits.TheConstants.{LAST_MOMENT}
+use Rattle.udt_model.specs.declared.addresses.Addr.{Addr}
+use Rattle.udt_model.specs.declared.answers.Heard.{Heard}
+use Rattle.udt_model.specs.declared.answers.Packed.{Packed}
+use Rattle.udt_model.specs.declared.answers.Refusal.{Refusal}
+use Rattle.udt_model.specs.State.{State, Datagram}
+
+-- ---- events and replies
+
+-- what may happen to a socket: a call, or a datagram that arrives from an address
+pub data Act : Type 0 where
+  Send : (bytes : List ℕ) → Act
+  Recv : (room : ℕ) → Act
+  Pack : Act
+  Tick : Act
+  Close : Act
+  Arrive : (from : Addr) → (bytes : List ℕ) → Act
+
+-- an act and its moment, in microseconds
+pub record Event : Type 0 where
+  pub now : ℕ
+  pub act : Act
+
+-- an act at a moment
+abbrev pub event : ℕ → Act → Event
+event now act = record { now = now; act = act }
+
+-- what an event answers: how many bytes were taken, the bytes that were received, what was packed, what was heard. A tick
+-- and a close say no more than that they were done
+pub data Reply : Type 0 where
+  Sent : (answer : Result ℕ Refusal) → Reply
+  Received : (answer : Result (List ℕ) Refusal) → Reply
+  DidPack : (answer : Packed) → Reply
+  DidTick : Reply
+  DidClose : Reply
+  DidHear : (answer : Heard) → Reply
+
+-- what an event leaves, answers and emits
+pub record Outcome : Type 0 where
+  pub after : State
+  pub reply : Reply
+  pub outs : List Datagram
+
+abbrev pub answered : State → Reply → Outcome
+answered s reply = record { after = s; reply = reply; outs = [] }
+
+-- one more, and 2^64 - 1 stays
+abbrev pub risen : ℕ → ℕ
+risen count = min (count + 1) (2 ^ 64 - 1)
+
+-- the socket once an event has come at this moment, which isn't before the last one
+abbrev pub at_moment : State → ℕ → State
+at_moment s now = record s { last = max (min now LAST_MOMENT) s.last; count = risen s.count }

@@ -1,0 +1,80 @@
+-- How a socket begins, and with which values one can be opened.
+use Rattle.std.specs.Prelude.{◌≡◌, ℕ, ◌+◌, ◌^◌, ◌<◌, ◌≤◌, min, [], None}
+use Rattle.udt_model.specs.declared.limits.TheConstants.{LAST_MOMENT, SYN, LAST_START, MOST_PAYLOAD, FEWEST_BLOCKS, MOST_BLOCKS}
+use Rattle.udt_model.specs.declared.answers.Peer.{Peer}
+use Rattle.udt_model.specs.declared.packets.Config.{Config}
+use Rattle.udt_model.specs.declared.answers.Phase.TheVariants as phase
+use Rattle.udt_model.specs.declared.packets.Kind.TheVariants.{Stream}
+use Rattle.udt_model.specs.State.{State}
+use Rattle.udt_model.specs.Sending.{clamped}
+
+-- the values with which a socket can be opened: the payload and the blocks lie in their ranges, the agreed payload
+-- isn't 0, and the start isn't too late
+pub record CanOpen (config : Config) (peer : Peer) (start : ℕ) : Type 0 where
+  pub payload : 1 ≤ config.payload
+  pub most_payload : config.payload ≤ MOST_PAYLOAD
+  pub snd_blocks : FEWEST_BLOCKS ≤ config.snd_blocks
+  pub most_snd_blocks : config.snd_blocks ≤ MOST_BLOCKS
+  pub rcv_blocks : FEWEST_BLOCKS ≤ config.rcv_blocks
+  pub most_rcv_blocks : config.rcv_blocks ≤ MOST_BLOCKS
+  pub peer_payload : 1 ≤ peer.payload
+  pub within : start ≤ LAST_START
+
+-- and the IDs and the initial sequence number fit their places. All sockets are of kind stream so far
+pub record IsOpening (own : ℕ) (config : Config) (peer : Peer) (start : ℕ) : Type 0 where
+  pub values : CanOpen config peer start
+  pub stream : config.kind ≡ Stream
+  pub own_fits : own < 2 ^ 32
+  pub id_fits : peer.id < 2 ^ 32
+  pub isn_fits : peer.isn < 2 ^ 31
+
+-- a socket that is connected from its opening on, whose directions both begin at this offset
+unfoldable pub opening : ℕ → Config → Peer → ℕ → ℕ → State
+opening own config peer now start = record {
+  own = own;
+  kind = config.kind;
+  peer = peer;
+  opened = min now LAST_MOMENT;
+  last = min now LAST_MOMENT;
+  count = 0;
+  phase = phase.Connected;
+  heard = min now LAST_MOMENT;
+  exp_from = min now LAST_MOMENT;
+  exp_count = 1;
+  sending = record {
+    isn = peer.isn;
+    payload = min config.payload peer.payload;
+    blocks = config.snd_blocks;
+    acked = start;
+    kept = [];
+    next = start;
+    lost = [];
+    message = 1;
+    flow = clamped peer.flow;
+    due = 0;
+  };
+  receiving = record {
+    isn = peer.isn;
+    payload = min config.payload peer.payload;
+    blocks = config.rcv_blocks;
+    base = start;
+    top = start;
+    given = 0;
+    placed = [];
+    confirmed = start;
+    last_ack = None;
+    ack_due = min now LAST_MOMENT + SYN;
+  };
+  counters = record {
+    sent = 0;
+    resent = 0;
+    placed = 0;
+    double = 0;
+    below = 0;
+    above = 0;
+    control = 0;
+    stale = 0;
+    foreign = 0;
+    malformed = 0;
+  };
+}

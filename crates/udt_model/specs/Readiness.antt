@@ -1,0 +1,46 @@
+-- What a socket is ready for.
+use Rattle.std.specs.Prelude.{ℕ, ◌+◌, ◌*◌, ◌==◌, Bool, true, false, not, ◌&&◌, ◌||◌, length}
+use Rattle.udt_model.specs.declared.answers.Phase.{Phase}
+use Rattle.udt_model.specs.declared.answers.Phase.TheVariants as phase
+use Rattle.udt_model.specs.Wire.{bit}
+use Rattle.udt_model.specs.State.{State}
+use Rattle.udt_model.specs.Sending.{free_of}
+use Rattle.udt_model.specs.Receiving.{waiting}
+
+-- ---- readiness
+
+-- the socket is connected
+abbrev pub is_connected : Phase → Bool
+is_connected phase.Connected = true
+is_connected (phase.Broken why) = false
+is_connected phase.Closing = false
+is_connected phase.Closed = false
+
+-- its connection was lost
+abbrev pub is_broken : Phase → Bool
+is_broken phase.Connected = false
+is_broken (phase.Broken why) = true
+is_broken phase.Closing = false
+is_broken phase.Closed = false
+
+-- it is closed for good
+abbrev pub is_closed : Phase → Bool
+is_closed phase.Connected = false
+is_closed (phase.Broken why) = false
+is_closed phase.Closing = false
+is_closed phase.Closed = true
+
+-- a byte can be received
+abbrev pub can_read : State → Bool
+can_read s = (is_connected s.phase || is_broken s.phase) && not (length (waiting s.receiving) == 0)
+
+-- a block is free
+abbrev pub can_write : State → Bool
+can_write s = is_connected s.phase && not (free_of s.sending == 0)
+
+-- what a socket is ready for, as bits: 1 that bytes can be read, 2 that some can be written, 4 that it is cut off or
+-- closed, 16 that it is connected, 32 that it is closed
+unfoldable pub ready_bits : State → ℕ
+ready_bits s =
+    bit (can_read s) + 2 * bit (can_write s) + 4 * bit (is_broken s.phase || is_closed s.phase) + 16 * bit (is_connected s.phase)
+    + 32 * bit (is_closed s.phase)
