@@ -1,30 +1,7 @@
-mod Opened
-mod Kept
-mod Receives
-pub mod MadeOf
-mod Cuts
-mod Spelled
-pub mod Emits
-pub mod GoesToPeer
-mod OneSocket
-mod Stands
-mod Mates
-pub mod Honest
-mod Named
-mod Bounds
-pub mod Pair
-mod Gapless
-mod Covers
-mod Places
-mod Acknowledges
-mod Acked
-mod Sends
-mod AckMates
-pub mod Arrived
-mod PairLawful
-pub mod PairHonest
-mod Seats
-mod ScriptLines
-mod Networks
-mod ScriptPairs
-pub mod Scripts
+pub mod sockets
+pub mod delivered_is_carried
+pub mod sent_blocks
+pub mod delivered_prefix
+pub mod acked_has_arrived
+pub mod pairs
+pub mod scripts

@@ -4,20 +4,23 @@ use Rattle.std.specs.List.{Contains, concat}
 use Rattle.udt_model.specs.declared.packets.Flags.{Flags}
 use Rattle.udt_model.specs.declared.packets.Kind.TheVariants.{Stream}
 use Rattle.udt_model.specs.declared.addresses.Addr.{Addr}
-use Rattle.udt_model.specs.Numbers.{wire_number}
+use Rattle.udt_model.specs.Numbers.{sequence_number}
 use Rattle.udt_model.specs.Wire.{Packet, Block, is_handshake, destination, read, target}
 use Rattle.udt_model.specs.State.{KeptBlock, Datagram}
 use Rattle.udt_model.specs.History.{History, IsLegal, state_of, start_of, accepted, delivered, acked, arrived}
-use Rattle.udt_model.specs.Step.{is_connected, is_broken}
+use Rattle.udt_model.specs.Readiness.{is_connected, is_broken}
 use Rattle.udt_model.specs.Lines.{AreEmitted}
-use Rattle.udt_model.specs.Script.{Seat, network_after}
-use Rattle.udt_model.specs.Records.{IsPrefix, Emission, emitted, sent, arrivals, IsMadeOf, Enrolled, IsSocket, EndpointRecord, StandsAt, PeerPair, own_peer, ArePaired, AreLawful, IsHonest}
+use Rattle.udt_model.specs.Script.{network_after}
+use Rattle.udt_model.specs.Network.{ScriptSocket}
+use Rattle.udt_model.specs.Records.{Enrolled, IsSocket, EndpointRecord, StandsAt, PeerPair, own_peer, ArePaired, AreLawful}
+use Rattle.udt_model.specs.Emissions.{IsPrefix, Emission, emitted, sent, arrivals, IsMadeOf}
+use Rattle.udt_model.specs.Honest.{IsHonest}
 
 -- the socket carries a stream of bytes
 abbrev pub IsStream : History → Type 0
 IsStream h = h.opening.kind ≡ Stream
 
--- the initial number of what the peer sends
+-- the initial sequence number of what the peer sends
 abbrev pub peer_isn : History → ℕ
 peer_isn h = (state_of h).peer.isn
 
@@ -30,12 +33,13 @@ OneHistory =
 
 -- a data packet that was emitted carries the block of the one offset that it names, to the peer, under the wire
 -- number of that offset
-pub record CarriesBlock (h : History) (blocks : List (List ℕ)) (emission : Emission) (number dest : ℕ) (payload : List ℕ) : Type 0 where
+pub record CarriesBlock (h : History) (blocks : List (List ℕ)) (emission : Emission) (number dest : ℕ) (payload : List ℕ)
+    : Type 0 where
   pub offset : ℕ
   pub names : emission.offsets ≡ offset ∷ []
   pub not_before : start_of h ≤ offset
   pub carries : slice_get blocks (offset - start_of h) ≡ Some payload
-  pub numbered : number ≡ wire_number (state_of h).sending.isn offset
+  pub numbered : number ≡ sequence_number (state_of h).sending.isn offset
   pub sent_to : emission.datagram.addr ≡ (state_of h).peer.addr
   pub destined : dest ≡ (state_of h).peer.id
 
@@ -122,15 +126,17 @@ both_records addr socket other_addr other =
 abbrev pub PairHonest : Type 0
 PairHonest =
     (addr other_addr : Addr) (socket other : Enrolled) → (addr ≡ other_addr → ⊥) → IsSocket socket → IsSocket other
-    → ArePaired addr socket.own socket.way other_addr other.own other.way → AllComesFrom socket other_addr other → AllComesFrom other addr socket
+    → ArePaired addr socket.own socket.way other_addr other.own other.way
+    → AllComesFrom socket other_addr other → AllComesFrom other addr socket
     → length (sent socket.history) < 2 ^ 30 → length (sent other.history) < 2 ^ 30
     → AreLawful (both_records addr socket other_addr other) × IsHonest (both_records addr socket other_addr other)
 
 -- Script prefix: whatever the lines of a script deliver, lose, repeat and reorder, the same holds of each socket of it and
--- its own peer, where no line brings bytes of its own
+-- its own peer, where no line gives bytes of its own
 abbrev pub ScriptPrefix : Type 0
 ScriptPrefix =
-    (lines : List (List ℕ)) (place peer_place : ℕ) (seat peer : Seat) → length lines < 2 ^ 30 → AreEmitted lines
-    → slice_get (network_after lines).seats place ≡ Some seat → slice_get (network_after lines).seats peer_place ≡ Some peer
-    → own_peer seat.history ≡ Some (record { addr = peer.host; id = peer_place + 1 })
-    → AreInStep seat.history peer.history
+    (lines : List (List ℕ)) (place peer_place : ℕ) (script_socket peer : ScriptSocket) → length lines < 2 ^ 30 → AreEmitted lines
+    → slice_get (network_after lines).sockets place ≡ Some script_socket
+    → slice_get (network_after lines).sockets peer_place ≡ Some peer
+    → own_peer script_socket.history ≡ Some (record { addr = peer.host; id = peer_place + 1 })
+    → AreInStep script_socket.history peer.history

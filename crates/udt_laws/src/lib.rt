@@ -5,7 +5,7 @@ ghost use Rattle.udt_laws.specs.Laws.{OneHistory, EmittedBlocks, AllNamed, Addre
 ghost use Rattle.udt_laws.specs.Laws.{Prefix, PairPrefix, PairArrived, PairHonest, ScriptPrefix};
 
 /// Whatever arrives, a stream socket delivers a front of the payloads that came from its peer's
-/// address, each under the wire number of its place.
+/// address, each under the sequence number of its place.
 pub fn one_history()
     ensures { OneHistory }
 {}
@@ -52,7 +52,7 @@ pub fn pair_honest()
 {}
 
 /// Whatever the lines of a script deliver, both hold of each socket of it and its own peer, where no
-/// line brings bytes of its own.
+/// line gives bytes of its own.
 pub fn script_prefix()
     ensures { ScriptPrefix }
 {}

@@ -1,5 +1,5 @@
 -- The law is proved beside the lemmas on which it stands.
-use Rattle.udt_laws.proofs.PairHonest.{pair_honest}
+use Rattle.udt_laws.proofs.pairs.PairIsHonest.{pair_honest}
 use Rattle.udt_laws.proofs.pair_honest.Goals as goal
 
 pub returns : goal.returns

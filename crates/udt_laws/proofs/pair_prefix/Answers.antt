@@ -1,5 +1,5 @@
 -- The law is proved beside the lemmas on which it stands.
-use Rattle.udt_laws.proofs.Pair.{pair_prefix}
+use Rattle.udt_laws.proofs.pairs.PairPrefix.{pair_prefix}
 use Rattle.udt_laws.proofs.pair_prefix.Goals as goal
 
 pub returns : goal.returns

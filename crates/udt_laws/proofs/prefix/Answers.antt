@@ -1,6 +1,6 @@
 -- What is delivered and what is acknowledged are proved apart, each beside its lemmas.
-use Rattle.udt_laws.proofs.Arrived.{prefix-arrived}
-use Rattle.udt_laws.proofs.Honest.{prefix-delivered}
+use Rattle.udt_laws.proofs.acked_has_arrived.AckedHasArrived.{prefix-arrived}
+use Rattle.udt_laws.proofs.delivered_prefix.DeliveredPrefix.{prefix-delivered}
 use Rattle.udt_laws.proofs.prefix.Goals as goal
 
 pub returns : goal.returns

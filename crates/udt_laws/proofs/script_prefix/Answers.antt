@@ -1,5 +1,5 @@
 -- The law is proved beside the lemmas on which it stands.
-use Rattle.udt_laws.proofs.Scripts.{script_prefix}
+use Rattle.udt_laws.proofs.scripts.ScriptsInStep.{script_prefix}
 use Rattle.udt_laws.proofs.script_prefix.Goals as goal
 
 pub returns : goal.returns

@@ -1,0 +1,4 @@
+-- One history: what is delivered is made of what arrived.
+pub mod GivenIsOfBlocks
+pub mod DeliversPlacedBlocks
+pub mod DeliveredIsCarried

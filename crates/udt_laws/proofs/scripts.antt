@@ -1,0 +1,6 @@
+-- The law of scripts.
+pub mod ReplacedOne
+pub mod PairLines
+pub mod KeepsNetwork
+pub mod PairKeepsNetwork
+pub mod ScriptsInStep

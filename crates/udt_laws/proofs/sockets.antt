@@ -1,0 +1,3 @@
+-- What a socket begins with and keeps, and how records name one.
+pub mod Opened
+pub mod OneSocket
