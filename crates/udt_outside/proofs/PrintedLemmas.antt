@@ -13,14 +13,14 @@ use Rattle.std.proofs.lemmas.Str.Parse.{digit_at}
 use Rattle.udt_model.specs.declared.addresses.Addr.{Addr}
 use Rattle.udt_model.specs.declared.addresses.Ip.{Ip}
 use Rattle.udt_model.specs.declared.addresses.Ip.TheVariants.{V4, V6}
-use Rattle.udt_model.specs.Addresses.{dotted, grouped, ip_text, address_text, begins_with, length_before, before, behind, v4_of, v6_of, addr_of}
+use Rattle.udt_model.specs.Addresses.{dotted, grouped, ip_text, address_text, begins_with, length_before, before, following, v4_of, v6_of, addr_of}
 use Rattle.udt_outside.specs.Writing.{IpFits}
 use Rattle.udt_outside.proofs.NumberLemmas.{number_within-decimal}
 use Rattle.udt_outside.proofs.ReadingLemmas.{v4_complete}
 use Rattle.udt_outside.proofs.GroupLemmas.{eight_groups}
 use Rattle.udt_outside.proofs.WritingLemmas.{one_digit, two_digits, three_digits, four_digits}
 
--- ---- what stands before and behind a byte
+-- ---- what stands before and after a byte
 
 -- the text has no such byte
 abbrev Without : ℕ → List ℕ → Type 0
@@ -36,8 +36,8 @@ ends_before byte (x ∷ xs) ys h =
 before_at : (byte : ℕ) (xs ys : List ℕ) → Without byte xs → before byte (xs ++ byte ∷ ys) ≡ xs
 before_at byte xs ys h = ap (λ n. take n (xs ++ byte ∷ ys)) (ends_before byte xs ys h) ∙ take_at xs (byte ∷ ys) (length xs) refl
 
-behind_at : (byte : ℕ) (xs ys : List ℕ) → Without byte xs → behind byte (xs ++ byte ∷ ys) ≡ ys
-behind_at byte xs ys h =
+following_at : (byte : ℕ) (xs ys : List ℕ) → Without byte xs → following byte (xs ++ byte ∷ ys) ≡ ys
+following_at byte xs ys h =
     ap (λ n. drop (n + 1) (xs ++ byte ∷ ys)) (ends_before byte xs ys h)
     ∙ sym (drop-drop 1 (length xs) (xs ++ byte ∷ ys)) ∙ ap (drop 1) (drop_at xs (byte ∷ ys) (length xs) refl)
 
@@ -88,7 +88,7 @@ v4_back bits port fits small =
     rw (
       begins_none 91 (dotted bits) (58 ∷ decimal port) (dotted_some bits fits) (dotted_without 91 bits (lit< tt) fits),
       before_at 58 (dotted bits) (decimal port) (dotted_without 58 bits (lit< tt) fits),
-      behind_at 58 (dotted bits) (decimal port) (dotted_without 58 bits (lit< tt) fits),
+      following_at 58 (dotted bits) (decimal port) (dotted_without 58 bits (lit< tt) fits),
       dotted_read bits fits,
       number_within-decimal 65535 port (omega arith) (lit< tt),
     )
@@ -116,7 +116,7 @@ hex_without byte (c ∷ cs) high h =
     let other : c ≢ byte = λ e. let low : digit_value byte < 16 = rw e at h.0 in omega arith in
     All-cons (λ c. (c == byte) ≡ false) c cs (ne_eqb c byte other) (hex_without byte cs high h.1)
 
--- each group behind a colon
+-- each group after a colon
 abbrev more_groups : List ℕ → List ℕ
 more_groups [] = []
 more_groups (n ∷ ns) = 58 ∷ (digits 16 false n ++ more_groups ns)
@@ -178,7 +178,7 @@ module _ (bits : ℕ) (fits : bits < 2 ^ 128) where
   v6_back port small =
       rw (
         before_at 93 (grouped bits) (58 ∷ decimal port) grouped_without,
-        behind_at 93 (grouped bits) (58 ∷ decimal port) grouped_without,
+        following_at 93 (grouped bits) (58 ∷ decimal port) grouped_without,
         grouped_read,
         number_within-decimal 65535 port (omega arith) (lit< tt),
       )

@@ -10,7 +10,7 @@ use Rattle.std.proofs.NetLemmas.Options.{and_then_some, cond_some}
 use Rattle.std.specs.Net.Grammar.{IsDotted}
 use Rattle.std.specs.Net.Text.{dotted_text}
 use Rattle.udt_model.specs.Words.{number_within}
-use Rattle.udt_model.specs.Addresses.{pieces_of, each_of, bytes_of_v4, begins_with, before, behind, v6_of, port_of, with_port, addr_of}
+use Rattle.udt_model.specs.Addresses.{pieces_of, each_of, bytes_of_v4, begins_with, before, following, v6_of, port_of, with_port, addr_of}
 use Rattle.udt_model.specs.declared.addresses.Ip.{Ip}
 use Rattle.udt_model.specs.declared.addresses.Addr.{Addr}
 use Rattle.udt_outside.proofs.NumberLemmas.{number_within-decimal, number_within_sound}
@@ -100,7 +100,7 @@ begins_with_is byte [] some = absurd (omega arith)
 begins_with_is byte (c ∷ cs) some = refl
 
 -- a text that begins with a bracket is a V6 text in brackets, and a port
-pub bracketed : (text inner front back : List ℕ) (ip : Option Ip) (port : Option ℕ) (r : Option Addr) → begins_with 91 text ≡ true → inner ≡ drop 1 text → front ≡ before 93 inner → ip ≡ v6_of front → back ≡ behind 93 inner → port ≡ port_of back → r ≡ with_port ip port → r ≡ addr_of text
+pub bracketed : (text inner front back : List ℕ) (ip : Option Ip) (port : Option ℕ) (r : Option Addr) → begins_with 91 text ≡ true → inner ≡ drop 1 text → front ≡ before 93 inner → ip ≡ v6_of front → back ≡ following 93 inner → port ≡ port_of back → r ≡ with_port ip port → r ≡ addr_of text
 unfolding addr_of
 bracketed text inner front back ip port r bracket inner_is front_is ip_is back_is port_is r_is =
-    rw bracket (r_is ∙ ap₂ with_port (ip_is ∙ ap v6_of (front_is ∙ ap (before 93) inner_is)) (port_is ∙ ap port_of (back_is ∙ ap (behind 93) inner_is)))
+    rw bracket (r_is ∙ ap₂ with_port (ip_is ∙ ap v6_of (front_is ∙ ap (before 93) inner_is)) (port_is ∙ ap port_of (back_is ∙ ap (following 93) inner_is)))

@@ -4,7 +4,7 @@ use Rattle.std.proofs.lemmas.List.{drop-drop}
 use Rattle.std.specs.Fmt.{digits, digit_glyph}
 use Rattle.udt_outside.specs.Writing.{Writes}
 
--- two pieces behind each other are one
+-- two pieces after each other are one
 pub in_turn : (a b c : List ℕ) (from middle to : ℕ) (x y : List ℕ) → Writes a b from middle x → Writes b c middle to y → Writes a c from to (x ++ y)
 in_turn a b c from middle to x y first second =
     let after : drop to b ≡ drop to a =

@@ -1,5 +1,13 @@
 pub mod Faults
+pub mod Options
 pub mod Streams
+pub mod Ports
+pub mod Folders
+pub mod Readings
 pub mod Calls
 pub mod Memory
+pub mod MemoryFolders
+pub mod ListPorts
+pub mod Lists
+pub mod Spawners
 pub mod Writing

@@ -16,6 +16,12 @@ to_give s = Some s.left
 abbrev pub read_faults : Input → ℕ
 read_faults s = failed_of s.calls
 
+-- an input that was just made: its piece, and the calls that are to fail
+pub record IsFreshInput (s : Input) (piece : ℕ) (failing : List ℕ) : Type 0 where
+  pub piece_is : s.piece ≡ piece
+  pub failing_is : s.calls.failing ≡ failing
+  pub none_made : s.calls.made ≡ 0
+
 -- how many bytes a read into this much room gives
 abbrev pub given_of : Input → ℕ → ℕ
 given_of s room = min s.piece (min room (length s.left))

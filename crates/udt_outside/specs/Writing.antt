@@ -3,7 +3,7 @@ use Rattle.std.specs.Prelude.{◌≡◌, ℕ, ◌+◌, ◌^◌, ◌<◌, List, �
 use Rattle.udt_model.specs.declared.addresses.Ip.{Ip}
 use Rattle.udt_model.specs.declared.addresses.Ip.TheVariants.{V4, V6}
 
--- the text was written from one place to another, behind what stood in front; what follows stayed
+-- the text was written from one place to another, after what stood in front; what follows stayed
 pub record Writes (before after : List ℕ) (from to : ℕ) (text : List ℕ) : Type 0 where
   pub ends : to ≡ from + length text
   pub front : take to after ≡ take from before ++ text

@@ -1,69 +1,22 @@
 // Text to addresses.
 
-ghost use Rattle.std.specs.Prelude.{◌≡◌, ◌+◌, ◌*◌, ◌^◌, ◌≤◌, ◌<◌, ◌∷◌, [], length, drop, true, IsTrue};
+ghost use Rattle.std.specs.Prelude.{◌≡◌, ◌+◌, ◌*◌, ◌≤◌, ◌<◌, length, drop, IsTrue};
 ghost use Rattle.std.specs.Int.Digits.{number_from_digits};
-ghost use Rattle.std.specs.Str.{all_ascii_digits};
-ghost use Rattle.std.specs.Str.Parse.{digits_value};
-ghost use Rattle.udt_model.specs.Words.{is_number, number_within};
-ghost use Rattle.udt_model.specs.Addresses.{begins_with, length_before, before, behind, port_of, with_port, v4_of, v6_of, ip_of, addr_of};
+ghost use Rattle.udt_model.specs.Words.{number_within};
+ghost use Rattle.udt_model.specs.Addresses.{begins_with, length_before, before, following, port_of, with_port, v4_of, v6_of, ip_of, addr_of};
 
+use crate::numbers::read_number;
 use std::net::{Ipv4Addr, Ipv6Addr};
 use udt_model::{Addr, Ip};
-
-fn are_digits(text: &[u8]) -> bool
-    ensures { result ≡ all_ascii_digits text.now }
-{
-    for c in text {
-        if !c.is_ascii_digit() {
-            return false;
-        }
-    }
-    true
-}
-
-/// Whether the text is a decimal number without a leading zero.
-fn is_number(text: &[u8]) -> bool
-    ensures { result ≡ is_number text.now }
-{
-    if text.is_empty() {
-        return false;
-    }
-    if text.len() > 1 && text[0] == b'0' {
-        return false;
-    }
-    are_digits(text)
-}
-
-/// The value of at most five decimal digits.
-fn value_of(digits: &[u8]) -> u32
-    requires digits { all_ascii_digits digits.now ≡ true }
-    requires short { length digits.now ≤ 5 }
-    ensures { result ≡ digits_value 10 digits.now }
-{
-    let mut value = 0;
-    for digit in digits {
-        value = value * 10 + u32::from(*digit - b'0');
-    }
-    value
-}
 
 fn read_port(text: &[u8]) -> Option<u16>
     ensures { result ≡ number_within 0 65535 text.now }
 {
-    if text.len() > 5 {
-        return None;
-    }
-    if !is_number(text) {
-        return None;
-    }
-    let value = value_of(text);
-    if value > 65_535 {
-        return None;
-    }
-    Some(value as u16)
+    let port = read_number(0, 65_535, text)?;
+    Some(port as u16)
 }
 
-fn read_port_behind_colon(text: &[u8]) -> Option<u16>
+fn read_port_after_colon(text: &[u8]) -> Option<u16>
     ensures { result ≡ port_of text.now }
 {
     match text {
@@ -85,8 +38,8 @@ fn before(byte: u8, text: &[u8]) -> &[u8]
     &text[..length_before(byte, text)]
 }
 
-fn behind(byte: u8, text: &[u8]) -> &[u8]
-    ensures { result.now ≡ behind byte text.now }
+fn following(byte: u8, text: &[u8]) -> &[u8]
+    ensures { result.now ≡ following byte text.now }
 {
     let end = length_before(byte, text);
     if end == text.len() {
@@ -157,7 +110,7 @@ fn with_port(ip: Option<Ip>, port: Option<u16>) -> Option<Addr>
     })
 }
 
-fn behind_first(text: &[u8]) -> &[u8]
+fn following_first(text: &[u8]) -> &[u8]
     requires { 0 < length text.now }
     ensures { result.now ≡ drop 1 text.now }
 {
@@ -179,11 +132,14 @@ pub fn read_addr(text: &[u8]) -> Option<Addr>
     ensures { result ≡ addr_of text.now }
 {
     if begins_with(b'[', text) {
-        let inner = behind_first(text);
+        let inner = following_first(text);
         return with_port(
             read_v6(before(b']', inner)),
-            read_port_behind_colon(behind(b']', inner)),
+            read_port_after_colon(following(b']', inner)),
         );
     }
-    with_port(read_v4(before(b':', text)), read_port(behind(b':', text)))
+    with_port(
+        read_v4(before(b':', text)),
+        read_port(following(b':', text)),
+    )
 }

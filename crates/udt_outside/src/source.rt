@@ -1,6 +1,6 @@
 // Where input comes from.
 
-ghost use Rattle.std.specs.Prelude.{◌≡◌, ℕ, ◌≤◌, List, Option, length, OnErr, IfOk};
+ghost use Rattle.std.specs.Prelude.{◌≡◌, ℕ, ◌≤◌, List, Option, length, OnErr, OnOk, IfOk};
 ghost use Rattle.udt_outside.specs.Faults.{Rose};
 ghost use Rattle.udt_outside.specs.Streams.{Gives, EndsOnlyWhenEmpty};
 
@@ -15,6 +15,7 @@ pub trait Source {
     /// Moves the next bytes of the input to the front of `into`, and answers how many.
     fn read(&mut self, into: &mut [u8]) -> Result<usize, Failed>
         ensures faults_stay { faults self.old ≤ faults self.new }
+        ensures faults_kept { OnOk result (faults self.new ≡ faults self.old) }
         ensures failed { OnErr result (Rose (faults self.old) (faults self.new)) }
         ensures within { IfOk result (λ n. n ≤ length into.old) }
         ensures ok { IfOk result (λ n. Gives (left self.old) (left self.new) into.new n) }

@@ -1,7 +1,7 @@
 // An output in memory.
 
-use crate::calls::Calls;
 use crate::failed::{Failed, OutOfMemory};
+use crate::memory::calls::Calls;
 use crate::sink::Sink;
 use std::alloc::Global;
 use std::marker::Model;
@@ -38,7 +38,7 @@ impl Model for MemorySink {
 
 impl MemorySink {
     ghost use Rattle.std.specs.Prelude.{◌≡◌, ◌<◌, [], IfOk};
-    ghost use Rattle.udt_outside.specs.Memory.{IsFreshOutput};
+    ghost use Rattle.udt_outside.specs.Memory.{IsFreshOutput, write_faults};
 
     /// An empty output, which takes `room` bytes in all and at most `piece` bytes a call, and whose
     /// calls with the numbers in `failing` fail. The first call is number 1.
@@ -69,10 +69,24 @@ impl MemorySink {
     {
         self.bytes.as_slice()
     }
+
+    /// The bytes taken so far, out of their output.
+    pub fn into_bytes(self) -> Vec<u8>
+        ensures { result.items ≡ self.taken }
+    {
+        self.bytes
+    }
+
+    /// How many calls failed.
+    pub fn failed(&self) -> u64
+        ensures { result ≡ write_faults self.now }
+    {
+        self.calls.failed().saturating_add(self.refused)
+    }
 }
 
 impl Sink for MemorySink {
-    ghost use Rattle.std.specs.Prelude.{◌≡◌, ◌≤◌, ◌<◌, length, is_err, OnErr, IfOk};
+    ghost use Rattle.std.specs.Prelude.{◌≡◌, ◌≤◌, ◌<◌, length, is_err, OnErr, OnOk, IfOk};
     ghost use Rattle.udt_outside.specs.Faults.{Rose};
     ghost use Rattle.udt_outside.specs.Streams.{Takes};
     ghost use Rattle.udt_outside.specs.Memory.{took, write_faults, write_fails, taken_of, after_taking, after_failing};
@@ -83,6 +97,7 @@ impl Sink for MemorySink {
 
     fn write(&mut self, bytes: &[u8]) -> Result<usize, Failed>
         ensures faults_stay { write_faults self.old ≤ write_faults self.new }
+        ensures faults_kept { OnOk result (write_faults self.new ≡ write_faults self.old) }
         ensures failed { OnErr result (Rose (write_faults self.old) (write_faults self.new)) }
         ensures within { IfOk result (λ n. n ≤ length bytes.now) }
         ensures some { IfOk result (λ n. 0 < length bytes.now → 0 < n) }

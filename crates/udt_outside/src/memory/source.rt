@@ -1,7 +1,7 @@
 // An input in memory.
 
-use crate::calls::Calls;
 use crate::failed::Failed;
+use crate::memory::calls::Calls;
 use crate::source::Source;
 use std::marker::Model;
 
@@ -31,6 +31,7 @@ impl Model for MemorySource {
 
 impl MemorySource {
     ghost use Rattle.std.specs.Prelude.{◌≡◌, ◌<◌};
+    ghost use Rattle.udt_outside.specs.Memory.{read_faults};
 
     /// An input of these bytes, which gives at most `piece` bytes a call, and whose calls with the
     /// numbers in `failing` fail. The first call is number 1.
@@ -48,10 +49,17 @@ impl MemorySource {
             calls: Calls::new(failing),
         }
     }
+
+    /// How many calls failed.
+    pub fn failed(&self) -> u64
+        ensures { result ≡ read_faults self.now }
+    {
+        self.calls.failed()
+    }
 }
 
 impl Source for MemorySource {
-    ghost use Rattle.std.specs.Prelude.{◌≡◌, ◌≤◌, length, take, is_err, OnErr, IfOk};
+    ghost use Rattle.std.specs.Prelude.{◌≡◌, ◌≤◌, length, take, is_err, OnErr, OnOk, IfOk};
     ghost use Rattle.udt_outside.specs.Faults.{Rose};
     ghost use Rattle.udt_outside.specs.Streams.{Gives, EndsOnlyWhenEmpty};
     ghost use Rattle.udt_outside.specs.Calls.{fails_next};
@@ -63,6 +71,7 @@ impl Source for MemorySource {
 
     fn read(&mut self, into: &mut [u8]) -> Result<usize, Failed>
         ensures faults_stay { read_faults self.old ≤ read_faults self.new }
+        ensures faults_kept { OnOk result (read_faults self.new ≡ read_faults self.old) }
         ensures failed { OnErr result (Rose (read_faults self.old) (read_faults self.new)) }
         ensures within { IfOk result (λ n. n ≤ length into.old) }
         ensures ok { IfOk result (λ n. Gives (to_give self.old) (to_give self.new) into.new n) }
