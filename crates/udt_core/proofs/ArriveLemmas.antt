@@ -5,7 +5,8 @@ use Rattle.udt_model.specs.declared.packets.AckBody.{AckBody}
 use Rattle.udt_model.specs.Wire.{read}
 use Rattle.udt_model.specs.State.{Sending, State}
 use Rattle.udt_model.specs.Sending.{Acking, Acks, IsStale, acking, acked_number, after_ack}
-use Rattle.udt_model.specs.Step.{Arrive, step, at_moment}
+use Rattle.udt_model.specs.Step.{step}
+use Rattle.udt_model.specs.Events.{Arrive, at_moment}
 use Rattle.udt_model.proofs.ArrivalLemmas.{on_read-outs}
 use Rattle.udt_core.specs.Emissions.{is_taken}
 

@@ -17,7 +17,7 @@ placed_from-unused (cell ∷ cells) base unused =
     let here : cell.used ≡ false = All-head (λ (cell : Cell). cell.used ≡ false) cell cells unused in
     rw here (placed_from-unused cells (base + 1) (All-tail (λ (cell : Cell). cell.used ≡ false) cell cells unused))
 
--- each block stands at this offset or behind it
+-- each block stands at this offset or after it
 pub AreFrom : ℕ → List PlacedBlock → Type 0
 AreFrom low [] = Unit {0}
 AreFrom low (block ∷ blocks) = (low ≤ block.offset) × AreFrom low blocks
@@ -77,7 +77,7 @@ is_placed-cell (first ∷ cells) base (suc place) cell found =
     is_placed-later first.used (base + suc place) (block_in base first) (placed_from (base + 1) cells) later
     ∙ rw moved (is_placed-cell cells (base + 1) place cell found)
 
--- a later block goes behind the first cell's
+-- a later block goes after the first cell's
 with_block-later : (used : Bool) (block first : PlacedBlock) (others : List PlacedBlock) → first.offset < block.offset
     → with_block block (cond used (first ∷ others) others) ≡ cond used (first ∷ with_block block others) (with_block block others)
 unfolding with_block

@@ -1,4 +1,4 @@
--- Offsets that are to be sent again: all rise, and lie where something is under way.
+-- Offsets that are to be retransmitted: all rise, and lie where something is in flight.
 use Rattle.std.proofs.Common.{◌≡◌, ℕ, zero, suc, ◌+◌, ◌-◌, ◌<◌, ◌≤◌, List, [], ◌∷◌, ◌++◌, length, drop, get_or, refl, ap, sym, arith, inl, inr}
 use Rattle.std.specs.Prelude.{nat_lt}
 use Rattle.std.specs.List.{filter, range_with_len}
@@ -34,7 +34,7 @@ pub rise-range : (from to count : ℕ) → from + count ≤ to → RiseWithin fr
 rise-range from to zero within = tt
 rise-range from to (suc count) within = (omega arith, omega arith, rise-range (from + 1) to count (omega arith))
 
--- one more offset stands behind the others
+-- one more offset stands after the others
 pub range-more : (from count : ℕ) → range_with_len from (suc count) ≡ range_with_len from count ++ (from + count) ∷ []
 range-more from zero =
     let here : from ≡ from + 0 = omega arith in
@@ -89,7 +89,7 @@ rise-from offset from to (first ∷ others) rise =
           (above, rise.1, rise.2)
     ]
 
--- ---- all that is under way
+-- ---- all that is in flight
 
 none_below : (bound from to : ℕ) (lost : List ℕ) → bound ≤ from → RiseWithin from to lost → filter (λ n. nat_lt n bound) lost ≡ []
 none_below bound from to [] below rise = refl
@@ -103,7 +103,7 @@ none_above bound from to (first ∷ others) above rise =
     let passed : first ≤ bound = omega (arith, rise.1) in
     rw (le-ltb bound first passed) (none_above bound (first + 1) to others above rise.2)
 
--- where all that is under way is lost, nothing else was
+-- where all that is in flight is lost, nothing else was
 pub all-lost : (from to : ℕ) (lost : List ℕ) → from < to → RiseWithin from to lost → with_range from (to - 1) lost ≡ range_with_len from (to - from)
 unfolding with_range
 all-lost from to lost some rise =

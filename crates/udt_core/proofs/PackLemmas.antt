@@ -7,7 +7,7 @@ use Rattle.std.proofs.lemmas.Option.{slice_get-map, slice_get_read}
 use Rattle.udt_model.specs.declared.packets.Flags.{Flags}
 use Rattle.udt_model.specs.Wire.{Block, spelling}
 use Rattle.udt_model.specs.State.{KeptBlock, Sending}
-use Rattle.udt_model.specs.Sending.{Sends, SendsAgain, sends_first, sends, unsent, window, kept_at, end_of, room_of, free_of, fitting as taken_of, with_message, send_answer, after_send}
+use Rattle.udt_model.specs.Sending.{Sends, Retransmits, sends_first, sends, unsent, window, kept_at, end_of, room_of, free_of, fitting as taken_of, with_message, send_answer, after_send}
 use Rattle.udt_core.specs.declared.blocks.SendBlock.{SendBlock}
 use Rattle.udt_core.specs.SendBlocks.{kept_block_of}
 
@@ -26,9 +26,9 @@ kept_is s offset from to = there s.kept (offset - s.acked) (omega (arith, from, 
     there (block ∷ blocks) zero within = (block, refl)
     there (block ∷ blocks) (suc place) within = there blocks place (omega (arith, within))
 
--- the least lost block is sent again
+-- the least lost block is retransmitted
 pub sends-again : (s : Sending) (offset : ℕ) (others : List ℕ) (block : KeptBlock) → s.lost ≡ offset ∷ others → kept_at s offset ≡ Some block
-    → sends_first s s.lost ≡ SendsAgain offset block
+    → sends_first s s.lost ≡ Retransmits offset block
 sends-again s offset others block lost found = rw (lost, found) refl
 
 -- the next block is sent where both windows allow it

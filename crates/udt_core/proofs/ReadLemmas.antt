@@ -50,9 +50,9 @@ pub answer_again : (r : Receiving) (room : ℕ) → (eqb room 0 ≡ false) → w
 unfolding receive_answer
 answer_again r room some none = rw (some, none) refl
 
-pub after_again : (r : Receiving) (room : ℕ) → receive_answer r room ≡ Err refusal.AgainRecv → after_receive r room ≡ r
+pub after_retransmit : (r : Receiving) (room : ℕ) → receive_answer r room ≡ Err refusal.AgainRecv → after_receive r room ≡ r
 unfolding after_receive
-after_again r room again = rw again refl
+after_retransmit r room again = rw again refl
 
 -- what was read is the answer, where the room is full or nothing is left
 pub answer_read : (r : Receiving) (room filled : ℕ) (into rest : List ℕ) → (eqb room 0 ≡ false) → 0 < length (waiting r) → waiting r ≡ take filled into ++ rest
@@ -81,7 +81,7 @@ after_reading r room filled into now answer within front same =
     let len : length (take filled into) ≡ filled = omega (arith, length-take filled into) in
     rw (answer, len, front) same
 
--- so many bytes behind those that were given
+-- this many bytes after those that were given
 pub waiting_more : (given n : ℕ) (bytes others : List ℕ) → given + n ≤ length bytes
     → drop given (bytes ++ others) ≡ take n (drop given bytes) ++ drop (given + n) (bytes ++ others)
 waiting_more given n bytes others within =

@@ -24,7 +24,7 @@ used_more (first ∷ cells) zero cell used found here =
     (ap (λ (c : Cell). c.used) same ∙ here, tt)
 used_more (first ∷ cells) (suc run) cell used found here = (used.0, used_more cells run cell used.1 found here)
 
--- a cell behind them changes nothing
+-- a cell after them changes nothing
 pub used-append : (cells : List Cell) (last : Cell) (run : ℕ) → AreUsed run cells → AreUsed run (cells ++ last ∷ [])
 used-append cells last zero used = tt
 used-append [] last (suc run) used = absurd used
@@ -45,7 +45,7 @@ turned_used old new (suc run) t used =
     let less : suc run - 1 ≡ run = omega arith in
     rw (less, t.after) (used-append t.others t.last run before.1)
 
--- the first gap stands behind a run that the next cell doesn't make longer
+-- the first gap stands after a run that the next cell doesn't make longer
 pub gap_after : (cells : List Cell) (base run : ℕ) → AreUsed run cells
     → ((cell : Cell) → slice_get cells run ≡ Some cell → cell.used ≡ false)
     → first_gap base (placed_from base cells) ≡ base + run

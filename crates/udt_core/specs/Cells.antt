@@ -1,5 +1,5 @@
 -- The cells of a receiving half, as they lie in memory.
-use Rattle.std.specs.Prelude.{◌≡◌, ℕ, zero, suc, ◌+◌, ◌<◌, ◌≤◌, true, false, List, [], ◌∷◌, ◌++◌, length, slice_get, slice_set, Some, vec_capacity, if◌then◌else◌}
+use Rattle.std.specs.Prelude.{◌≡◌, ℕ, zero, suc, ◌+◌, ◌<◌, ◌≤◌, true, false, List, [], ◌∷◌, ◌++◌, length, slice_get, slice_set, Some, All, IfSome, vec_capacity, if◌then◌else◌}
 use Rattle.udt_model.specs.declared.packets.Flags.{Flags}
 use Rattle.udt_model.specs.declared.limits.TheConstants.{PACKET_LIMIT}
 use Rattle.udt_model.specs.State.{PlacedBlock}
@@ -55,16 +55,29 @@ pub record IsGiven (given : ℕ) (cell : Cell) : Type 0 where
   pub block : cell.used ≡ true → given < length cell.bytes.items
   pub none : cell.used ≡ false → given ≡ 0
 
--- so many bytes of the first cell were read
+-- this many bytes of the first cell were read
 abbrev pub IsGivenOf : ℕ → List Cell → Type 0
 IsGivenOf given cells = (cell : Cell) → slice_get cells 0 ≡ Some cell → IsGiven given cell
 
 -- each block lies within the limit of packets
 abbrev pub AreBelow : ℕ → List Cell → Type 0
-AreBelow base cells = (place : ℕ) (cell : Cell) → cell.used ≡ true → slice_get cells place ≡ Some cell → base + place < PACKET_LIMIT
+AreBelow base cells =
+    (place : ℕ) (cell : Cell) → cell.used ≡ true → slice_get cells place ≡ Some cell → base + place < PACKET_LIMIT
 
--- a block is in each of the first cells, of which there are so many
+-- a block is in each of this many first cells
 abbrev pub AreUsed : ℕ → List Cell → Type 0
 AreUsed zero cells = Unit {0}
 AreUsed (suc more) [] = ⊥
 AreUsed (suc more) (cell ∷ cells) = (cell.used ≡ true) × AreUsed more cells
+
+-- cells that are sound for a payload stay so
+abbrev pub StaySound : List Cell → List Cell → Type 0
+StaySound old new = (payload : ℕ) → All (IsCell payload) old → All (IsCell payload) new
+
+-- the cell at this place, where there is one, has room for this many bytes
+abbrev pub HasRoom : List Cell → ℕ → ℕ → Type 0
+HasRoom cells place bytes = IfSome (slice_get cells place) (λ cell. bytes ≤ vec_capacity cell.bytes)
+
+-- of sound cells this many bytes of the first one were read
+abbrev pub GivesOf : List Cell → ℕ → List Cell → Type 0
+GivesOf old given new = (payload : ℕ) → All (IsCell payload) old → IsGivenOf given new

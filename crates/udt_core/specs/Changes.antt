@@ -1,9 +1,14 @@
--- What a datagram that tells nothing may change.
+-- What a datagram of which no use is made may change.
 use Rattle.std.specs.Prelude.{◌≡◌}
 use Rattle.udt_model.specs.State.{State}
-use Rattle.udt_model.specs.Step.{count_stale}
+use Rattle.udt_model.specs.Arrivals.{count_stale}
 
--- one count is higher, and silence may be counted anew. All else is as it was
-abbrev pub ChangesSilenceAlone : State → State → Type 0
-ChangesSilenceAlone old new =
-    new ≡ record old { heard = new.heard; exp_from = new.exp_from; exp_n = new.exp_n; counters = count_stale old.counters }
+-- one count is higher, and the EXP timer may have started anew. All else is as it was
+abbrev pub ChangesExpAlone : State → State → Type 0
+ChangesExpAlone old new =
+    new ≡ record old {
+      heard = new.heard;
+      exp_from = new.exp_from;
+      exp_count = new.exp_count;
+      counters = count_stale old.counters;
+    }

@@ -8,6 +8,5 @@ pub mod Emissions
 pub mod Cells
 pub mod ReceiveHalf
 pub mod Receipts
-pub mod Opening
 pub mod Sockets
 pub mod Changes

@@ -1,4 +1,4 @@
--- Offsets that are to be sent again.
+-- Offsets that are to be retransmitted.
 use Rattle.std.specs.Prelude.{ℕ, ◌+◌, ◌<◌, ◌≤◌, List, [], ◌∷◌}
 
 -- the offsets rise, from the one bound on and below the other

@@ -2,15 +2,10 @@
 use Rattle.std.specs.Prelude.{◌≡◌, ◌<◌, ◌≤◌, All, Option, Some, None, IfSome}
 use Rattle.std.specs.VecDeque.{deque_len}
 use Rattle.udt_model.specs.declared.limits.TheConstants.{MOST_PAYLOAD, MOST_BLOCKS, PACKET_LIMIT, LAST_ACK_NUMBER}
-use Rattle.udt_model.specs.State.{FullAck, Receiving}
-use Rattle.udt_core.specs.declared.receiving.LastAck.{LastAck}
+use Rattle.udt_model.specs.State.{Receiving}
+use Rattle.udt_model.specs.declared.sockets.SentAck.{SentAck}
 use Rattle.udt_core.specs.declared.receiving.Receiver.TheInside.{Inside}
 use Rattle.udt_core.specs.Cells.{IsCell, IsGivenOf, AreBelow, AreUsed, placed_from}
-
--- the last full acknowledgement
-abbrev pub full_ack_of : Option LastAck → Option FullAck
-full_ack_of None = None
-full_ack_of (Some ack) = Some (record { number = ack.number; offset = ack.offset; moment = ack.moment })
 
 abbrev pub receiving_of : Inside → Receiving
 receiving_of r = record {
@@ -22,7 +17,7 @@ receiving_of r = record {
   given = r.given;
   placed = placed_from r.base r.cells.items;
   confirmed = r.confirmed;
-  last_ack = full_ack_of r.last_ack;
+  last_ack = r.last_ack;
   ack_due = r.ack_due;
 }
 
@@ -40,5 +35,5 @@ pub record IsReceiver (r : Inside) : Type 0 where
   pub given : IsGivenOf r.given r.cells.items
   -- a block is in each of the first cells that were counted
   pub run : AreUsed r.run r.cells.items
-  -- acknowledgements are counted within their numbers
+  -- ACKs are counted within their numbers
   pub number : IfSome r.last_ack (λ ack. ack.number ≤ LAST_ACK_NUMBER)

@@ -33,7 +33,7 @@ pub record IsSender (s : Inside) : Type 0 where
   pub sent : s.acked ≤ s.next
   pub unsent : s.next ≤ s.acked + deque_len s.kept
   pub within : s.acked + deque_len s.kept ≤ PACKET_LIMIT
-  -- what is to be sent again was sent, and isn't acknowledged
+  -- what is to be retransmitted was sent, and isn't acknowledged
   pub lost : RiseWithin s.acked s.next s.lost.items
   pub lost_places : s.blocks ≤ deque_capacity s.lost
   pub number : s.message ≤ LAST_MESSAGE

@@ -78,7 +78,7 @@ pub fn keep_message(
     }
 }
 
-/// Lets go of the first blocks, so many of them. Their buffers go back to the pool.
+/// Lets go of the first blocks, this many of them. Their buffers go back to the pool.
 pub fn release(kept: &mut VecDeque<SendBlock>, pool: &mut Pool, count: usize)
     requires count { count ≤ deque_len kept.old }
     requires places { pool.old.free + count ≤ pool.old.most }

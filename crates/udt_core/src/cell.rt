@@ -4,7 +4,7 @@ ghost use Rattle.std.specs.Prelude.{◌≡◌, ℕ, ◌+◌, ◌-◌, ◌<◌, �
 ghost use Rattle.std.specs.VecDeque.{deque_len};
 ghost use Rattle.udt_model.specs.declared.limits.TheConstants.{PACKET_LIMIT};
 ghost use Rattle.udt_model.specs.Receiving.{contiguous, first_gap, front_after};
-ghost use Rattle.udt_core.specs.Cells.{IsCell, FillsCell, TurnsCell, IsRead, IsGivenOf, AreBelow, AreUsed, placed_from};
+ghost use Rattle.udt_core.specs.Cells.{IsCell, FillsCell, TurnsCell, IsRead, AreBelow, AreUsed, placed_from, StaySound, HasRoom, GivesOf};
 
 use crate::memory::OutOfMemory;
 use std::alloc::Global;
@@ -26,7 +26,7 @@ const NO_FLAGS: Flags = Flags {
     message: 0,
 };
 
-/// So many cells with room for a block.
+/// This many cells with room for a block.
 pub fn empty_cells(alloc: Global, blocks: u32, payload: u32) -> Result<VecDeque<Cell>, OutOfMemory>
     ensures len { IfOk result (λ cells. deque_len cells ≡ blocks) }
     ensures sound { IfOk result (λ cells. All (IsCell payload) cells.items) }
@@ -61,7 +61,7 @@ fn fill(cell: &mut Cell, flags: Flags, bytes: &[u8])
 /// Puts a block into the cell at a place.
 pub fn fill_at(cells: &mut VecDeque<Cell>, place: usize, flags: Flags, bytes: &[u8])
     requires place { place < deque_len cells.old }
-    requires room { IfSome (slice_get cells.old.items place) (λ cell. length bytes.now ≤ vec_capacity cell.bytes) }
+    requires room { HasRoom cells.old.items place (length bytes.now) }
     ensures filled { FillsCell cells.old.items cells.new.items place flags bytes.now }
     ensures len { deque_len cells.new ≡ deque_len cells.old }
 {
@@ -106,9 +106,9 @@ pub fn settle(cells: &mut VecDeque<Cell>, base: &mut u64, given: &mut usize, run
         ≡ drop given.new (contiguous base.new (placed_from base.new cells.new.items)) }
     ensures len { deque_len cells.new ≡ deque_len cells.old }
     ensures bound { base.new ≤ PACKET_LIMIT }
-    ensures sound { (payload : ℕ) → All (IsCell payload) cells.old.items → All (IsCell payload) cells.new.items }
+    ensures sound { StaySound cells.old.items cells.new.items }
     ensures below { AreBelow base.old cells.old.items → AreBelow base.new cells.new.items }
-    ensures given { (payload : ℕ) → All (IsCell payload) cells.old.items → IsGivenOf given.new cells.new.items }
+    ensures given { GivesOf cells.old.items given.new cells.new.items }
     ensures run { AreUsed run.old cells.old.items → AreUsed run.new cells.new.items }
 {
     if *given == cells[0].bytes.len() {
@@ -119,7 +119,7 @@ pub fn settle(cells: &mut VecDeque<Cell>, base: &mut u64, given: &mut usize, run
     }
 }
 
-/// How many of the first cells have a block, where so many are known to have one.
+/// How many of the first cells have a block, where this many are known to have one.
 pub fn run_from(cells: &VecDeque<Cell>, known: usize) -> usize
     requires known { AreUsed known cells.now.items }
     ensures used { AreUsed result cells.now.items }
@@ -136,7 +136,7 @@ pub fn run_from(cells: &VecDeque<Cell>, known: usize) -> usize
 /// Empties all cells.
 pub fn empty_all(cells: &mut VecDeque<Cell>)
     ensures unused { All (λ cell. cell.used ≡ false) cells.new.items }
-    ensures sound { (payload : ℕ) → All (IsCell payload) cells.old.items → All (IsCell payload) cells.new.items }
+    ensures sound { StaySound cells.old.items cells.new.items }
     ensures len { deque_len cells.new ≡ deque_len cells.old }
 {
     for place in 0..cells.len() {

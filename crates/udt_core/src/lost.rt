@@ -1,4 +1,4 @@
-// The offsets that are to be sent again, in rising order.
+// The offsets that are to be retransmitted, in rising order.
 
 ghost use Rattle.std.specs.Prelude.{◌≡◌, ◌-◌, ◌≤◌, ◌^◌};
 ghost use Rattle.std.specs.VecDeque.{deque_capacity};

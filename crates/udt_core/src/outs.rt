@@ -72,7 +72,7 @@ impl Outs {
     }
 
     /// Forgets all datagrams.
-    pub(crate) fn clear(&mut self)
+    pub fn clear(&mut self)
         ensures { self.new ≡ [] }
     {
         while let Some(out) = self.emitted.pop() {

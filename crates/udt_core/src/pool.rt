@@ -5,7 +5,7 @@ ghost use Rattle.std.specs.Prelude.{◌≡◌, ◌+◌, ◌-◌, ◌<◌, ◌≤
 use std::alloc::{AllocError, Global};
 use std::marker::Model;
 
-/// Empty buffers with room for so many bytes each. Contracts see how many there are, how many there
+/// Empty buffers with room for this many bytes each. Contracts see how many there are, how many there
 /// may be, and their room.
 #[derive(Drop)]
 pub struct Pool {
@@ -27,7 +27,7 @@ impl Model for Pool {
 }
 
 impl Pool {
-    /// Takes the memory of so many buffers.
+    /// Takes the memory of this many buffers.
     pub fn new(alloc: Global, count: usize, room: usize) -> Result<Pool, AllocError>
         ensures { IfOk result (λ p. p ≡ record { free = count; most = count; room = room }) }
     {

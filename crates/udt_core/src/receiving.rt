@@ -2,8 +2,7 @@
 
 ghost use Rattle.std.specs.Prelude.{◌≡◌, ◌<◌, ◌≤◌, [], ◌++◌, length, take, drop, OnErr, IfOk, IfSome, Bool, not, ◌==◌, Option, None};
 ghost use Rattle.udt_model.specs.declared.limits.TheConstants.{MOST_PAYLOAD, MOST_BLOCKS, PACKET_LIMIT, LAST_ACK_NUMBER, LAST_MOMENT};
-ghost use Rattle.udt_model.specs.Receiving.{placing, after_arrival, waiting, receive_answer, after_receive, is_just_told as just_told, number_after as next_number, telling, after_tell, receiving_closed};
-ghost use Rattle.udt_core.specs.ReceiveHalf.{full_ack_of};
+ghost use Rattle.udt_model.specs.Receiving.{placing, after_arrival, waiting, receive_answer, after_receive, is_just_acked as just_told, number_after as next_number, ack_outcome, after_ack_timer, receiving_closed};
 
 use crate::cell::{Cell, copy_from, empty_all, empty_cells, fill_at, run_from, settle};
 use crate::memory::OutOfMemory;
@@ -11,7 +10,7 @@ use std::alloc::Global;
 use std::collections::VecDeque;
 use std::marker::Model;
 use udt_model::{
-    ACK_INTERVAL, AckBody, FEWEST_BLOCKS, Flags, LAST_ACK_NUMBER, PACKET_LIMIT, Refusal,
+    AckBody, FEWEST_BLOCKS, Flags, LAST_ACK_NUMBER, PACKET_LIMIT, Refusal, SYN, SentAck,
 };
 use udt_packet::{near, seq_of};
 
@@ -22,15 +21,6 @@ pub enum Placed {
     Below,
     Above,
     Double,
-}
-
-/// The last full acknowledgement that was emitted: its number, the first offset that had not
-/// arrived, and its moment in microseconds.
-#[derive(Clone, Copy, Debug, PartialEq, Eq)]
-pub struct LastAck {
-    pub number: u32,
-    pub offset: u64,
-    pub moment: u64,
 }
 
 /// The receiving half of a socket. The first cell is that of the base, and the others follow. A run
@@ -46,7 +36,7 @@ pub struct Receiver {
     cells: VecDeque<Cell>,
     run: usize,
     confirmed: u64,
-    last_ack: Option<LastAck>,
+    last_ack: Option<SentAck>,
     ack_due: u64,
 }
 
@@ -63,7 +53,7 @@ impl Model for Receiver {
 }
 
 impl Receiver {
-    ghost use Rattle.udt_core.specs.Receipts.{placed_as, received_in, told_as};
+    ghost use Rattle.udt_core.specs.Receipts.{placed_as, received_in, ack_as};
 
     /// A half that begins at this offset, takes all its memory, and may acknowledge from this moment
     /// on, in microseconds.
@@ -115,7 +105,7 @@ impl Receiver {
         self.payload
     }
 
-    /// Places a block, by its wire number, where it is new and there is room for its offset.
+    /// Places a block, by its sequence number, where it is new and there is room for its offset.
     #[tactic(auto, unfolding(udt_model::specs::Receiving::placing, udt_model::specs::Receiving::after_arrival))]
     pub fn on_block(&mut self, seq: u32, flags: Flags, bytes: &[u8]) -> Placed
         requires some { 0 < length bytes.now }
@@ -184,26 +174,25 @@ impl Receiver {
         self.cells[0].used
     }
 
-    /// The acknowledgement that is due at this moment, with its number, in microseconds and with
-    /// this round trip and its variance. None is due before its time, or where it would tell nothing
-    /// new.
-    #[tactic(auto, unfolding(udt_model::specs::Receiving::telling, udt_model::specs::Receiving::after_tell))]
+    /// The ACK that is due at this moment, in microseconds, with its number and with this round trip
+    /// and its variance. None is due before its time, or where it would acknowledge nothing new.
+    #[tactic(auto, unfolding(udt_model::specs::Receiving::ack_outcome, udt_model::specs::Receiving::after_ack_timer))]
     pub fn tick_ack(&mut self, now: u64, rtt: u32, var: u32) -> Option<(u32, AckBody)>
         requires moment { now ≤ LAST_MOMENT }
-        ensures reply { result ≡ told_as self.old rtt var (telling self.old now rtt) }
-        ensures after { self.new ≡ after_tell self.old now rtt }
+        ensures reply { result ≡ ack_as self.old rtt var (ack_outcome self.old now rtt) }
+        ensures after { self.new ≡ after_ack_timer self.old now rtt }
     {
         if now < self.ack_due {
             return None;
         }
-        self.ack_due = now + ACK_INTERVAL;
+        self.ack_due = now + SYN;
         self.run = run_from(&self.cells, self.run);
         let offset = self.base + self.run as u64;
-        if offset == self.confirmed || is_just_told(offset, now, rtt, &self.last_ack) {
+        if offset == self.confirmed || is_just_acked(offset, now, rtt, &self.last_ack) {
             return None;
         }
         let number = number_after(&self.last_ack);
-        self.last_ack = Some(LastAck {
+        self.last_ack = Some(SentAck {
             number,
             offset,
             moment: now,
@@ -230,9 +219,9 @@ impl Receiver {
     }
 }
 
-// The last acknowledgement told of this offset, less than two round trips ago.
-fn is_just_told(offset: u64, now: u64, rtt: u32, last: &Option<LastAck>) -> bool
-    ensures { result ≡ just_told offset now rtt (full_ack_of last.now) }
+// The last ACK named this offset, less than two round trips ago.
+fn is_just_acked(offset: u64, now: u64, rtt: u32, last: &Option<SentAck>) -> bool
+    ensures { result ≡ just_told offset now rtt last.now }
 {
     match last {
         None => false,
@@ -240,10 +229,10 @@ fn is_just_told(offset: u64, now: u64, rtt: u32, last: &Option<LastAck>) -> bool
     }
 }
 
-// The number of the acknowledgement after the last one.
-fn number_after(last: &Option<LastAck>) -> u32
+// The number of the ACK after the last one.
+fn number_after(last: &Option<SentAck>) -> u32
     requires number { IfSome last.now (λ ack. ack.number ≤ LAST_ACK_NUMBER) }
-    ensures value { result ≡ next_number (full_ack_of last.now) }
+    ensures value { result ≡ next_number last.now }
     ensures within { result ≤ LAST_ACK_NUMBER }
 {
     match last {

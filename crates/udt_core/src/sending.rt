@@ -4,8 +4,8 @@ ghost use Rattle.std.specs.Prelude.{◌≡◌, ℕ, ◌+◌, ◌-◌, ◌*◌, �
 ghost use Rattle.udt_model.specs.declared.limits.TheConstants.{LAST_MESSAGE, LAST_MOMENT, MOST_PAYLOAD, PACKET_LIMIT};
 ghost use Rattle.udt_model.specs.State.{KeptBlock};
 ghost use Rattle.udt_model.specs.Sending.{send_answer, after_send, message_after as next_message, end_of, free_of};
-ghost use Rattle.udt_model.specs.Sending.{packing, after_pack, after_packing, kept_at, due_after as due_behind};
-ghost use Rattle.udt_model.specs.Sending.{acking, acked_number, after_ack, flow_after as flow_behind, after_timeout, sending_closed};
+ghost use Rattle.udt_model.specs.Sending.{packing, after_pack, after_packing, kept_at, due_after as following_due};
+ghost use Rattle.udt_model.specs.Sending.{acking, acked_number, after_ack, flow_after as following_flow, after_timeout, sending_closed};
 
 use crate::blocks::{SendBlock, keep_message, release};
 use crate::lost::{forget_below, lose_all};
@@ -211,14 +211,14 @@ impl Sender {
             return Emission::Until(self.due.div_ceil(1000));
         }
         if self.lost.len() > 0 {
-            self.pack_again(now, stamp, peer, outs)
+            self.pack_lost(now, stamp, peer, outs)
         } else {
             self.pack_next(now, stamp, peer, outs)
         }
     }
 
     // Emits the least lost block again.
-    fn pack_again(&mut self, now: u64, stamp: u32, peer: &Peer, outs: &mut Outs) -> Emission
+    fn pack_lost(&mut self, now: u64, stamp: u32, peer: &Peer, outs: &mut Outs) -> Emission
         requires lost { 0 < length self.old.lost }
         requires moment { now ≤ LAST_MOMENT }
         requires empty { outs.old ≡ [] }
@@ -241,11 +241,11 @@ impl Sender {
         ensures after { self.new ≡ after_packing self.old now (next_block self.old) }
         ensures outs { outs.new ≡ packed_datagrams self.old stamp peer.now (next_block self.old) }
     {
-        let under_way = self.next - self.acked;
-        if under_way >= self.kept.len() as u64 {
+        let in_flight = self.next - self.acked;
+        if in_flight >= self.kept.len() as u64 {
             return Emission::Idle;
         }
-        if under_way >= WINDOW.min(self.flow as u64) {
+        if in_flight >= WINDOW.min(self.flow as u64) {
             return Emission::Idle;
         }
         let bytes = self.emit(self.next, stamp, peer.addr, peer.id, outs);
@@ -254,8 +254,8 @@ impl Sender {
         Emission::Fresh(bytes)
     }
 
-    /// Takes in an acknowledgement, and says whether it told something: one of blocks that are no
-    /// longer kept, or that were never sent, is stale. What is acknowledged is no longer kept.
+    /// Takes in an ACK, and says whether it was of use: one of blocks that are no longer kept, or
+    /// that were never sent, is stale. What is acknowledged is no longer kept.
     #[tactic(auto, unfolding(udt_model::specs::Sending::acking, udt_model::specs::Sending::after_ack))]
     pub fn on_ack(&mut self, body: &AckBody) -> bool
         ensures value { result ≡ is_taken (acking self.old (acked_number body.now)) }
@@ -313,7 +313,7 @@ fn fitting(free: usize, room: u64, payload: usize) -> usize
 // The moment before which nothing is sent after this block, in nanoseconds.
 fn due_after(seq: u32, now: u64) -> u64
     requires { now ≤ LAST_MOMENT }
-    ensures value { result ≡ due_behind seq now }
+    ensures value { result ≡ following_due seq now }
     ensures bound { result < 2 ^ 63 }
 {
     if seq % 16 == 0 {
@@ -323,7 +323,7 @@ fn due_after(seq: u32, now: u64) -> u64
     }
 }
 
-// The wire number before which all has arrived.
+// The sequence number before which all has arrived.
 fn number_of(body: &AckBody) -> u32
     ensures { result ≡ acked_number body.now }
 {
@@ -334,9 +334,9 @@ fn number_of(body: &AckBody) -> u32
     }
 }
 
-// How many packets the peer has room for, once so many more have arrived.
+// How many packets the peer has room for, once this many more have arrived.
 fn flow_after(flow: u32, newly: u64, body: &AckBody) -> u32
-    ensures { result ≡ flow_behind flow newly body.now }
+    ensures { result ≡ following_flow flow newly body.now }
 {
     match body {
         AckBody::Light { .. } => {

@@ -3,13 +3,17 @@
 ghost use Rattle.std.specs.Prelude.{◌≡◌, ◌≢◌, ◌+◌, ◌<◌, ◌≤◌, ◌^◌, [], length, drop, Ok, IfOk, OnErr, IsErrOf, IsTrue, ◌↔◌};
 ghost use Rattle.udt_model.specs.declared.packets.Kind.TheVariants.{Stream};
 ghost use Rattle.udt_model.specs.declared.limits.TheConstants.{LAST_START};
-ghost use Rattle.udt_model.specs.Step.{Send, Recv, Pack, Close, Sent, Received, DidPack, step, opening, at_moment, stamp_of, packed_as, closed_from as after_closing, ready_bits};
+ghost use Rattle.udt_model.specs.Step.{step};
+ghost use Rattle.udt_model.specs.Events.{Send, Recv, Pack, Close, Sent, Received, DidPack, at_moment, event};
+ghost use Rattle.udt_model.specs.Opening.{opening};
+ghost use Rattle.udt_model.specs.Calls.{stamp_of, packed_as, closed_from as after_closing};
+ghost use Rattle.udt_model.specs.Readiness.{ready_bits};
 ghost use Rattle.udt_model.specs.Sending.{packing};
 ghost use Rattle.udt_model.specs.Wire.{bit as one_if};
-ghost use Rattle.udt_core.specs.Opening.{IsInRange};
+ghost use Rattle.udt_model.specs.Opening.{CanOpen};
 ghost use Rattle.udt_core.specs.Receipts.{received_in};
 
-use crate::counts::{Counts, NO_COUNTS, risen};
+use crate::counts::risen;
 use crate::memory::OutOfMemory;
 use crate::outs::Outs;
 use crate::receiving::Receiver;
@@ -17,8 +21,8 @@ use crate::sending::{Emission, Sender};
 use std::alloc::Global;
 use std::marker::Model;
 use udt_model::{
-    ACK_INTERVAL, Config, FEWEST_BLOCKS, Kind, LAST_MOMENT, LAST_START, MOST_BLOCKS, MOST_PAYLOAD,
-    Packed, Peer, Phase, Refusal,
+    Config, Counters, FEWEST_BLOCKS, Kind, LAST_MOMENT, LAST_START, MOST_BLOCKS, MOST_PAYLOAD,
+    NO_COUNTERS, Packed, Peer, Phase, Refusal, SYN,
 };
 
 mod arrivals;
@@ -35,7 +39,7 @@ pub enum OpenNo {
 /// definitions, and each event as its step.
 ///
 /// The application calls `send`, `recv` and `close`. What owns the port gives each datagram that
-/// came for this socket to `arrive`, and calls `tick` for what time brings and `pack` to have the
+/// came for this socket to `arrive`, and calls `tick` for what time gives and `pack` to have the
 /// next datagram. Each event carries its moment in microseconds: one before the last counts as the
 /// last, and one at or past 2^53 as 2^53 - 1. `count` and `bits` are no events.
 #[derive(Drop)]
@@ -49,10 +53,10 @@ pub struct Socket {
     phase: Phase,
     heard: u64,
     exp_from: u64,
-    exp_n: u64,
+    exp_count: u64,
     sending: Sender,
     receiving: Receiver,
-    counts: Counts,
+    counters: Counters,
 }
 
 impl Model for Socket {
@@ -69,7 +73,7 @@ impl Model for Socket {
 
 impl Socket {
     /// A socket that is connected from its opening on, as one that a listener makes for a request,
-    /// or one of a pair. Both directions begin at the peer's initial number.
+    /// or one of a pair. Both directions begin at the peer's initial sequence number.
     pub fn paired(
         alloc: Global,
         own: u32,
@@ -80,7 +84,7 @@ impl Socket {
         requires stream { config.kind ≡ Stream }
         requires number { peer.isn < 2 ^ 31 }
         ensures ok { IfOk result (λ socket. socket ≡ opening own config peer now 0) }
-        ensures refused { IsErrOf result OpenNo.BadParameter ↔ ¬ (IsInRange config peer 0) }
+        ensures refused { IsErrOf result OpenNo.BadParameter ↔ ¬ (CanOpen config peer 0) }
     {
         Socket::paired_at(alloc, own, config, peer, now, 0)
     }
@@ -97,7 +101,7 @@ impl Socket {
         requires stream { config.kind ≡ Stream }
         requires number { peer.isn < 2 ^ 31 }
         ensures ok { IfOk result (λ socket. socket ≡ opening own config peer now start) }
-        ensures refused { IsErrOf result OpenNo.BadParameter ↔ ¬ (IsInRange config peer start) }
+        ensures refused { IsErrOf result OpenNo.BadParameter ↔ ¬ (CanOpen config peer start) }
     {
         if !is_in_range(&config, &peer, start) {
             return Err(OpenNo::BadParameter);
@@ -109,7 +113,7 @@ impl Socket {
     }
 
     // Takes the memory of both halves.
-    #[tactic(auto, unfolding(udt_model::specs::Step::opening))]
+    #[tactic(auto, unfolding(udt_model::specs::Opening::opening))]
     fn taken(
         alloc: Global,
         own: u32,
@@ -118,14 +122,14 @@ impl Socket {
         now: u64,
         start: u64,
     ) -> Result<Socket, OutOfMemory>
-        requires in_range { IsInRange config peer start }
+        requires in_range { CanOpen config peer start }
         ensures { IfOk result (λ socket. socket ≡ opening own config peer now start) }
     {
         let payload = config.payload.min(peer.payload);
         let flow = FEWEST_BLOCKS.max(peer.flow.min(MOST_BLOCKS));
         let sending = Sender::new(alloc, peer.isn, payload, config.snd_blocks, flow, start)?;
         let now = now.min(LAST_MOMENT);
-        let ack_due = now + ACK_INTERVAL;
+        let ack_due = now + SYN;
         let receiving = Receiver::new(alloc, peer.isn, payload, config.rcv_blocks, start, ack_due)?;
         Ok(Socket {
             own,
@@ -137,10 +141,10 @@ impl Socket {
             phase: Phase::Connected,
             heard: now,
             exp_from: now,
-            exp_n: 1,
+            exp_count: 1,
             sending,
             receiving,
-            counts: NO_COUNTS,
+            counters: NO_COUNTERS,
         })
     }
 
@@ -149,8 +153,8 @@ impl Socket {
     /// packets that it may, AgainSend where no block is free.
     #[tactic(auto, unfolding(udt_model::specs::Step::step))]
     pub fn send(&mut self, now: u64, bytes: &[u8]) -> Result<usize, Refusal>
-        ensures reply { Sent result ≡ (step self.old (record { now = now; act = Send bytes.now })).reply }
-        ensures after { self.new ≡ (step self.old (record { now = now; act = Send bytes.now })).after }
+        ensures reply { Sent result ≡ (step self.old (event now (Send bytes.now))).reply }
+        ensures after { self.new ≡ (step self.old (event now (Send bytes.now))).after }
         ensures refused { OnErr result (self.new ≡ at_moment self.old now) }
     {
         self.at(now);
@@ -167,8 +171,8 @@ impl Socket {
     #[tactic(auto, unfolding(udt_model::specs::Step::step))]
     pub fn recv(&mut self, now: u64, into: &mut [u8]) -> Result<usize, Refusal>
         ensures reply { Received (received_in result into.new)
-            ≡ (step self.old (record { now = now; act = Recv (length into.old) })).reply }
-        ensures after { self.new ≡ (step self.old (record { now = now; act = Recv (length into.old) })).after }
+            ≡ (step self.old (event now (Recv (length into.old)))).reply }
+        ensures after { self.new ≡ (step self.old (event now (Recv (length into.old)))).after }
         ensures within { IfOk result (λ count. count ≤ length into.old) }
         ensures rest { IfOk result (λ count. drop count into.new ≡ drop count into.old) }
         ensures err { OnErr result (into.new ≡ into.old) }
@@ -189,7 +193,7 @@ impl Socket {
     /// told its peer.
     #[tactic(auto, unfolding(udt_model::specs::Step::step))]
     pub fn close(&mut self, now: u64)
-        ensures { self.new ≡ (step self.old (record { now = now; act = Close })).after }
+        ensures { self.new ≡ (step self.old (event now Close)).after }
     {
         self.at(now);
         self.phase = closed_from(self.phase);
@@ -201,9 +205,9 @@ impl Socket {
     /// connected. Both windows must allow a block that was never sent.
     #[tactic(auto, unfolding(udt_model::specs::Step::step))]
     pub fn pack(&mut self, now: u64, outs: &mut Outs) -> Packed
-        ensures reply { DidPack result ≡ (step self.old (record { now = now; act = Pack })).reply }
-        ensures after { self.new ≡ (step self.old (record { now = now; act = Pack })).after }
-        ensures outs { outs.new ≡ (step self.old (record { now = now; act = Pack })).outs }
+        ensures reply { DidPack result ≡ (step self.old (event now Pack)).reply }
+        ensures after { self.new ≡ (step self.old (event now Pack)).after }
+        ensures outs { outs.new ≡ (step self.old (event now Pack)).outs }
     {
         outs.clear();
         self.at(now);
@@ -224,11 +228,11 @@ impl Socket {
         let stamp = self.stamp();
         match self.sending.pack(self.last, stamp, &self.peer, outs) {
             Emission::Fresh(bytes) => {
-                self.counts.sent = risen(self.counts.sent);
+                self.counters.sent = risen(self.counters.sent);
                 Packed::Block(bytes)
             }
             Emission::Again(bytes) => {
-                self.counts.resent = risen(self.counts.resent);
+                self.counters.resent = risen(self.counters.resent);
                 Packed::Block(bytes)
             }
             Emission::Until(moment) => Packed::NotYet(moment),
@@ -245,7 +249,7 @@ impl Socket {
 
     /// What the socket is ready for, as bits: 1 that bytes can be read, 2 that some can be written, 4
     /// that it is cut off or closed, 16 that it is connected, 32 that it is closed.
-    #[tactic(auto, unfolding(udt_model::specs::Step::ready_bits))]
+    #[tactic(auto, unfolding(udt_model::specs::Readiness::ready_bits))]
     pub fn bits(&self) -> u8
         ensures { result ≡ ready_bits self.now }
     {
@@ -294,7 +298,7 @@ fn bit(set: bool) -> u8
 
 // The values lie in their ranges.
 fn is_in_range(config: &Config, peer: &Peer, start: u64) -> bool
-    ensures { IsTrue result ↔ IsInRange config.now peer.now start }
+    ensures { IsTrue result ↔ CanOpen config.now peer.now start }
 {
     1 <= config.payload
         && config.payload <= MOST_PAYLOAD

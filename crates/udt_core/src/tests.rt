@@ -40,13 +40,13 @@ enum Deed<'a> {
     Sends(&'a [u8], Result<usize, Refusal>),
     Reads(usize, Result<&'a [u8], Refusal>),
     Packs(Packed),
-    Hears(&'a [u8], Heard),
+    Arrives(&'a [u8], Heard),
     Ticks,
     Closes,
     Is(u8),
 }
 
-// Does each deed at its moment. Behind it stands the datagram that it emits.
+// Does each deed at its moment. Following it stands the datagram that it emits.
 fn play(
     rt: &impl Abort,
     socket: &mut Socket,
@@ -69,7 +69,7 @@ fn play(
                 }
             }
             Deed::Packs(packed) => assert_eq!(rt; socket.pack(*now, outs), *packed, "at {now}"),
-            Deed::Hears(bytes, heard) => {
+            Deed::Arrives(bytes, heard) => {
                 assert_eq!(rt; socket.arrive(*now, peer, bytes, outs), *heard, "{bytes:?}")
             }
             Deed::Ticks => socket.tick(*now, outs),
@@ -115,20 +115,20 @@ fn bytes_go_over_in_any_order_and_once(rt: HostRuntime) -> Result<(), Fail> {
         play(&rt, &mut here, THERE.addr, &mut outs, &sends);
 
         let mut there = Socket::paired_at(rt.alloc(), 2, STREAM, HERE, 500, start)?;
-        let hears = [
-            (2_000, Deed::Hears(o, Heard::Placed), None),
+        let arrivals = [
+            (2_000, Deed::Arrives(o, Heard::Placed), None),
             (2_000, Deed::Reads(8, Err(again)), None),
-            (2_000, Deed::Hears(o, Heard::Double), None),
+            (2_000, Deed::Arrives(o, Heard::Double), None),
             (2_000, Deed::Reads(0, Ok(b"")), None),
-            (2_000, Deed::Hears(hell, Heard::Placed), None),
+            (2_000, Deed::Arrives(hell, Heard::Placed), None),
             (2_000, Deed::Reads(3, Ok(b"hel")), None),
-            (2_000, Deed::Hears(hell, Heard::Double), None),
+            (2_000, Deed::Arrives(hell, Heard::Double), None),
             (2_000, Deed::Reads(8, Ok(b"lo")), None),
-            (2_000, Deed::Hears(hell, Heard::Below), None),
-            (2_000, Deed::Hears(o, Heard::Below), None),
+            (2_000, Deed::Arrives(hell, Heard::Below), None),
+            (2_000, Deed::Arrives(o, Heard::Below), None),
             (2_000, Deed::Reads(8, Err(again)), None),
         ];
-        play(&rt, &mut there, HERE.addr, &mut outs, &hears);
+        play(&rt, &mut there, HERE.addr, &mut outs, &arrivals);
     }
     Ok(())
 }
@@ -175,24 +175,24 @@ fn full_halves_take_no_more(rt: HostRuntime) -> Result<(), Fail> {
     play(&rt, &mut here, THERE.addr, &mut outs, &idles);
 
     let mut there = Socket::paired(rt.alloc(), 2, STREAM, Peer { isn: 5, ..HERE }, 0)?;
-    let hears = [
-        (8, Deed::Hears(blocks[7], Heard::Placed), None),
-        (8, Deed::Hears(past, Heard::Above), None),
-        (8, Deed::Hears(before, Heard::Above), None),
-        (8, Deed::Hears(long, Heard::BadLength), None),
-        (8, Deed::Hears(none, Heard::BadLength), None),
-        (8, Deed::Hears(other, Heard::Foreign), None),
+    let arrivals = [
+        (8, Deed::Arrives(blocks[7], Heard::Placed), None),
+        (8, Deed::Arrives(past, Heard::Above), None),
+        (8, Deed::Arrives(before, Heard::Above), None),
+        (8, Deed::Arrives(long, Heard::BadLength), None),
+        (8, Deed::Arrives(none, Heard::BadLength), None),
+        (8, Deed::Arrives(other, Heard::Foreign), None),
         (
             8,
-            Deed::Hears(short, Heard::Malformed(Malformed::TooShort)),
+            Deed::Arrives(short, Heard::Malformed(Malformed::TooShort)),
             None,
         ),
         (8, Deed::Is(18), None),
-        (8, Deed::Hears(blocks[0], Heard::Placed), None),
+        (8, Deed::Arrives(blocks[0], Heard::Placed), None),
         (8, Deed::Is(19), None),
     ];
-    play(&rt, &mut there, HERE.addr, &mut outs, &hears);
-    let strange = [(8, Deed::Hears(blocks[0], Heard::Foreign), None)];
+    play(&rt, &mut there, HERE.addr, &mut outs, &arrivals);
+    let strange = [(8, Deed::Arrives(blocks[0], Heard::Foreign), None)];
     play(&rt, &mut there, THERE.addr, &mut outs, &strange);
     Ok(())
 }
@@ -203,14 +203,14 @@ const O: &[u8] = b"\x00\x00\x00\x06\x40\x00\x00\x01\x00\x00\x03\xe8\x00\x00\x00\
 
 const HELL_AGAIN: &[u8] = b"\x00\x00\x00\x05\x80\x00\x00\x01\x00\x07\xa1\x20\x00\x00\x00\x02hell";
 
-// acknowledgements of the first two blocks: two of four blocks are free
+// ACKs of the first two blocks: two of four blocks are free
 const ACK: &[u8] =
     b"\x80\x02\x00\x00\x00\x00\x00\x01\x00\x00\x27\x10\x00\x00\x00\x01\x00\x00\x00\x07\x00\x01\x86\xa0\x00\x00\xc3\x50\x00\x00\x00\x02\x00\x00\x00\x00\x00\x00\x00\x00";
 
 const ACK_AGAIN: &[u8] =
     b"\x80\x02\x00\x00\x00\x00\x00\x02\x00\x03\x5b\x5f\x00\x00\x00\x01\x00\x00\x00\x07\x00\x01\x86\xa0\x00\x00\xc3\x50\x00\x00\x00\x02\x00\x00\x00\x00\x00\x00\x00\x00";
 
-// a light acknowledgement of a third block, which was never sent
+// a light ACK of a third block, which was never sent
 const ACK_ABOVE: &[u8] =
     b"\x80\x02\x00\x00\x00\x00\x00\x03\x00\x00\x27\x10\x00\x00\x00\x01\x00\x00\x00\x08";
 
@@ -229,40 +229,40 @@ fn what_is_not_acknowledged_goes_again_until_the_end(rt: HostRuntime) -> Result<
         (1_000, Deed::Sends(b"hello", Ok(5)), None),
         (1_000, Deed::Packs(Packed::Block(20)), Some(HELL)),
         (1_000, Deed::Packs(Packed::Block(17)), Some(O)),
-        // silence makes all that was sent count as lost
+        // when the EXP timer fires, all that was sent counts as lost
         (499_999, Deed::Ticks, None),
         (499_999, Deed::Packs(Packed::Nothing), None),
         (500_000, Deed::Ticks, None),
         (500_000, Deed::Packs(Packed::Block(20)), Some(HELL_AGAIN)),
-        // an acknowledgement lets go of the other block before it is sent again
-        (600_000, Deed::Hears(ACK_ABOVE, Heard::Stale), None),
-        (600_000, Deed::Hears(ACK, Heard::Ack), None),
+        // an ACK releases the other block before it is retransmitted
+        (600_000, Deed::Arrives(ACK_ABOVE, Heard::Stale), None),
+        (600_000, Deed::Arrives(ACK, Heard::Ack), None),
         (600_000, Deed::Packs(Packed::Nothing), None),
-        // the peer is told once
+        // one shutdown is sent
         (700_000, Deed::Closes, None),
         (700_000, Deed::Is(0), None),
         (700_000, Deed::Sends(b"x", Err(Refusal::NotConnected)), None),
         (700_000, Deed::Ticks, Some(SHUTDOWN)),
         (700_000, Deed::Ticks, None),
-        (700_000, Deed::Hears(ACK, Heard::Stale), None),
+        (700_000, Deed::Arrives(ACK, Heard::Stale), None),
         (700_000, Deed::Is(36), None),
     ];
     play(&rt, &mut here, THERE.addr, &mut outs, &sends);
 
     let mut there = Socket::paired(rt.alloc(), 2, config, Peer { isn: 5, ..HERE }, 0)?;
     let lost = Refusal::ConnLost(Cause::PeerShutdown);
-    let hears = [
-        (2_000, Deed::Hears(HELL, Heard::Placed), None),
-        (3_000, Deed::Hears(O, Heard::Placed), None),
+    let arrivals = [
+        (2_000, Deed::Arrives(HELL, Heard::Placed), None),
+        (3_000, Deed::Arrives(O, Heard::Placed), None),
         (9_999, Deed::Ticks, None),
         (10_000, Deed::Ticks, Some(ACK)),
-        // nothing new is told for two round trips
+        // the same offset isn't named again for two round trips
         (20_000, Deed::Ticks, None),
         (209_999, Deed::Ticks, None),
         (219_998, Deed::Ticks, None),
         (219_999, Deed::Ticks, Some(ACK_AGAIN)),
         // what waits is given once the peer has ended
-        (300_000, Deed::Hears(SHUTDOWN, Heard::Shutdown), None),
+        (300_000, Deed::Arrives(SHUTDOWN, Heard::Shutdown), None),
         (300_000, Deed::Is(5), None),
         (300_000, Deed::Reads(8, Ok(b"hello")), None),
         (300_000, Deed::Is(4), None),
@@ -272,7 +272,7 @@ fn what_is_not_acknowledged_goes_again_until_the_end(rt: HostRuntime) -> Result<
         (9_000_000, Deed::Closes, None),
         (9_000_000, Deed::Reads(8, Err(Refusal::NotConnected)), None),
     ];
-    play(&rt, &mut there, HERE.addr, &mut outs, &hears);
+    play(&rt, &mut there, HERE.addr, &mut outs, &arrivals);
     Ok(())
 }
 

@@ -1,4 +1,4 @@
--- The bytes that spell ranges: how many there are, and how they are written one behind the other.
+-- The bytes that spell ranges: how many there are, and how they are written one after the other.
 use Rattle.std.proofs.Common.{◌≡◌, ℕ, suc, ◌+◌, ◌*◌, ◌%◌, ◌^◌, ◌≤◌, true, List, [], ◌∷◌, ◌++◌, length, take, drop, Some, None, refl, sym, ap, subst, ◌∙◌, arith, inl, inr}
 use Rattle.std.specs.Prelude.{Option, ◌==◌}
 use Rattle.std.proofs.lemmas.Bool.{cases_lt, eq-eqb}
@@ -10,7 +10,7 @@ use Rattle.udt_packet.proofs.RangeWords.{ends, stands_alone, ends_well, ends_hig
 
 -- ---- how many bytes spell them
 
--- the ranges are spelled by at most so many bytes
+-- the ranges are spelled by at most this many bytes
 abbrev FitIn : ℕ → Option (List WireRange) → Type 0
 FitIn count ranges = length (ranges_bytes (those ranges)) ≤ count
 
@@ -83,7 +83,7 @@ words-fit (a ∷ b ∷ c ∷ d ∷ bytes) = omega (arith, words-fit bytes)
 pub ranges-fit : (bytes : List ℕ) → length (ranges_bytes (ranges_in bytes)) ≤ length bytes
 ranges-fit bytes = omega (arith, from-fit None (words_of bytes), words-fit bytes)
 
--- ---- one behind the other
+-- ---- one after the other
 
 -- the first range, and then the others
 spell-first : (left rest : List WireRange) (range : WireRange) → left ≡ range ∷ rest → ranges_bytes left ≡ range_bytes range ++ ranges_bytes rest
@@ -124,9 +124,9 @@ added items base left all is whole =
 pub record IsPut (base into : List ℕ) (start place : ℕ) (left all : List WireRange) : Type 0 where
   pub within : place + length (ranges_bytes left) ≡ start + length (ranges_bytes all)
   pub written : take place into ++ ranges_bytes left ≡ take start base ++ ranges_bytes all
-  pub behind : drop place into ≡ drop place base
+  pub following : drop place into ≡ drop place base
 
--- the first range is put behind what was written
+-- the first range is put after what was written
 pub puts : (base into new : List ℕ) (start place end : ℕ) (left rest all : List WireRange) (range : WireRange) (words : List ℕ)
     → left ≡ range ∷ rest → words ≡ range_bytes range → place ≤ length into → end ≡ place + length words
     → new ≡ take place into ++ words ++ drop end into → IsPut base into start place left all → IsPut base new start end rest all
@@ -144,7 +144,7 @@ puts base into new start place end left rest all range words is words_are long e
           ap (λ (xs : List ℕ). xs ++ ranges_bytes rest) taken ∙ append_assoc (take place into) words (ranges_bytes rest)
           ∙ ap (λ (xs : List ℕ). take place into ++ (xs ++ ranges_bytes rest)) words_are
           ∙ ap (λ (xs : List ℕ). take place into ++ xs) (sym (spell-first left rest range is)) ∙ put.written;
-      behind = dropped ∙ more into ∙ ap (drop (length words)) put.behind ∙ sym (more base);
+      following = dropped ∙ more into ∙ ap (drop (length words)) put.following ∙ sym (more base);
     }
 
 pub put-end : (base into : List ℕ) (start place : ℕ) (left all : List WireRange) → left ≡ [] → IsPut base into start place left all
@@ -157,7 +157,7 @@ put-all base into start place left all is put =
     let front : take place into ≡ take start base ++ ranges_bytes all =
     sym (append-nil (take place into)) ∙ ap (λ (xs : List ℕ). take place into ++ xs) (sym (spell-none left is)) ∙ put.written in
     sym (take-append-drop place into) ∙ ap (λ (xs : List ℕ). xs ++ drop place into) front
-    ∙ ap (λ (xs : List ℕ). take start base ++ ranges_bytes all ++ xs) put.behind
+    ∙ ap (λ (xs : List ℕ). take start base ++ ranges_bytes all ++ xs) put.following
 
 -- and there is room for it
 pub put-fits : (base into : List ℕ) (start place : ℕ) (left rest all : List WireRange) (range : WireRange) (words : List ℕ) → left ≡ range ∷ rest

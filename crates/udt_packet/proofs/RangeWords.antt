@@ -12,7 +12,7 @@ ends first last = record { first = first; last = last }
 
 -- ---- words
 
--- the first word, and the words behind it
+-- the first word, and the words after it
 words-first : (bytes : List ℕ) → 4 ≤ length bytes → words_of bytes ≡ word_at 0 bytes ∷ words_of (drop 4 bytes)
 unfolding words_of
 words-first [] long = absurd (omega arith)
@@ -30,7 +30,7 @@ nothing : (bytes : List ℕ) → length bytes ≡ 0 → bytes ≡ []
 nothing [] none = refl
 nothing (byte ∷ bytes) none = absurd (omega arith)
 
--- the word at a place, and the words behind it
+-- the word at a place, and the words after it
 pub words-from : (bytes : List ℕ) (place : ℕ) → place + 4 ≤ length bytes
     → words_of (drop place bytes) ≡ word_at place bytes ∷ words_of (drop (place + 4) bytes)
 words-from bytes place long =

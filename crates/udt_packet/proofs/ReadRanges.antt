@@ -16,9 +16,9 @@ use Rattle.udt_packet.proofs.Refusals.{by_way}
 use Rattle.udt_packet.proofs.Spellings.{word_at-below}
 use Rattle.udt_packet.proofs.RangeWords.{field-in_range}
 
--- what stands behind a header is bytes
-behind-bytes : (bytes : List ℕ) → AreBytes bytes → AreBytes (drop 16 bytes)
-behind-bytes bytes are k d lt = rw (get_or-drop 16 bytes k d) (are (16 + k) d (omega (arith, length-drop 16 bytes)))
+-- what stands after a header is bytes
+following-bytes : (bytes : List ℕ) → AreBytes bytes → AreBytes (drop 16 bytes)
+following-bytes bytes are k d lt = rw (get_or-drop 16 bytes k d) (are (16 + k) d (omega (arith, length-drop 16 bytes)))
 
 number_at-below : (place : ℕ) (bytes : List ℕ) → number_at place bytes < 2 ^ 31
 number_at-below place bytes = omega arith
@@ -87,7 +87,7 @@ pub in_range : (packet : Packet) → IsReadInRange packet
 in_range packet bytes are reads =
     by_way (IsInRange packet) bytes (λ short is. cc)
     (λ long low is. let same : block_of bytes ≡ packet = cc in subst IsInRange same (low, omega arith, word_at-below 8 bytes are, word_at-below 12 bytes are))
-    (λ long high is. control-in_range (word_at 4 bytes) (word_at 8 bytes) (word_at 12 bytes) (drop 16 bytes) (behind-bytes bytes are)
+    (λ long high is. control-in_range (word_at 4 bytes) (word_at 8 bytes) (word_at 12 bytes) (drop 16 bytes) (following-bytes bytes are)
     (word_at-below 4 bytes are) (word_at-below 8 bytes are) (word_at-below 12 bytes are) _ packet (sym is ∙ reads))
 
 -- what the code read

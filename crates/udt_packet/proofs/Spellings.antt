@@ -42,11 +42,11 @@ pub word_at-below : (place : ℕ) (bytes : List ℕ) → AreBytes bytes → word
 word_at-below place bytes are =
     omega (arith, part_at place bytes are 0, part_at place bytes are 1, part_at place bytes are 2, part_at place bytes are 3)
 
--- four bytes from a place on, and all behind them
+-- four bytes from a place on, and all after them
 next_four : (place : ℕ) (bytes : List ℕ) → take 4 (drop place bytes) ++ drop (place + 4) bytes ≡ drop place bytes
 next_four place bytes = ap (λ (rest : List ℕ). take 4 (drop place bytes) ++ rest) (sym (drop-drop 4 place bytes)) ∙ take-append-drop 4 (drop place bytes)
 
--- four words, and all behind them
+-- four words, and all after them
 four_words : (bytes a b c d : List ℕ) → a ≡ take 4 (drop 0 bytes) → b ≡ take 4 (drop 4 bytes) → c ≡ take 4 (drop 8 bytes) → d ≡ take 4 (drop 12 bytes)
     → a ++ b ++ c ++ d ++ drop 16 bytes ≡ bytes
 four_words bytes a b c d first second third fourth =

@@ -31,10 +31,10 @@ placed-front old one two head field place end place_is one_is end_is two_is =
     let rest : drop place one ≡ drop place old = ap (drop place) one_is ∙ drop_at head (drop place old) place (omega arith) in
     let further : (xs : List ℕ) → drop end xs ≡ drop (length field) (drop place xs) =
     λ xs. ap (λ (n : ℕ). drop n xs) end_is ∙ sym (drop-drop (length field) place xs) in
-    let behind : drop end one ≡ drop end old = further one ∙ ap (drop (length field)) rest ∙ sym (further old) in
+    let following : drop end one ≡ drop end old = further one ∙ ap (drop (length field)) rest ∙ sym (further old) in
     record {
       value = omega (arith, length-append head field);
-      after = two_is ∙ ap (λ (xs : List ℕ). xs ++ field ++ drop end one) front ∙ ap (λ (xs : List ℕ). head ++ field ++ xs) behind;
+      after = two_is ∙ ap (λ (xs : List ℕ). xs ++ field ++ drop end one) front ∙ ap (λ (xs : List ℕ). head ++ field ++ xs) following;
     }
 
 pub at-front : (old one two head field first rest : List ℕ) (place end : ℕ) → head ≡ first → field ≡ rest → place ≡ 0 + length head

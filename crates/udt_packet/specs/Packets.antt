@@ -23,7 +23,7 @@ packet_of (code.DropAsk message stamp dest first last) = wire.DropAsk message st
 abbrev pub spelled : Packet → List ℕ
 spelled packet = wire.spelling (packet_of packet)
 
--- what stands behind the header of a control packet that tells no ranges
+-- what stands after the header of a control packet without ranges
 abbrev pub short_of : wire.Packet → List ℕ
 short_of (wire.Handshake stamp dest shake) = wire.shake_bytes shake
 short_of (wire.Ack number stamp dest body) = wire.ack_bytes body
@@ -36,7 +36,7 @@ acked (Light ack) = ack
 acked (Buffer ack rtt var buffer) = ack
 acked (Full ack rtt var buffer rate capacity) = ack
 
--- the packet numbers of a packet have 31 bits and its message number has 29, and where it tells of losses a range is
+-- the packet numbers of a packet have 31 bits and its message number has 29, and a NAK has a range that is
 -- left
 abbrev pub IsWritable : Packet → Type 0
 IsWritable (code.Block seq flags stamp dest bytes) = (seq < 2 ^ 31) × (flags.message < 2 ^ 29)

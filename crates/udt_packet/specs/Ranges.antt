@@ -29,10 +29,10 @@ range_spelling first last = range_bytes (range_from (first, last))
 abbrev pub with_between : ℕ → ℕ → List ℕ → List ℕ → List ℕ
 with_between start end bytes into = take start into ++ bytes ++ drop end into
 
--- whether there are ranges from this word on is left to the words behind it
+-- whether there are ranges from this word on is left to the words after it
 abbrev pub GoesOn : Option ℕ → ℕ → Option ℕ → Type 0
 GoesOn begun word left = (words : List ℕ) → is_some (ranges_from begun (word ∷ words)) ≡ is_some (ranges_from left words)
 
--- there are none from this word on, whatever stands behind it
+-- there are none from this word on, whatever stands after it
 abbrev pub IsBroken : Option ℕ → ℕ → Type 0
 IsBroken begun word = (words : List ℕ) → is_some (ranges_from begun (word ∷ words)) ≡ false

@@ -20,7 +20,7 @@ fn bit(set: bool) -> u32
     if set { 1 } else { 0 }
 }
 
-/// The word that tells these flags.
+/// The word of these flags.
 pub fn flags_word(flags: Flags) -> u32
     requires { flags.message < 2 ^ 29 }
     ensures { result ≡ wire.flags_word flags }
@@ -28,7 +28,7 @@ pub fn flags_word(flags: Flags) -> u32
     FIRST * bit(flags.first) + LAST * bit(flags.last) + ORDER * bit(flags.order) + flags.message
 }
 
-/// The flags that a word tells.
+/// The flags of a word.
 pub fn flags_of(word: u32) -> Flags
     ensures { result ≡ wire.flags_of word }
 {

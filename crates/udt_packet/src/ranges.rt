@@ -1,4 +1,4 @@
-// The ranges of lost numbers that a packet tells, and the words that spell them.
+// The ranges of lost numbers in a NAK, and the words that spell them.
 
 ghost use Rattle.std.specs.Prelude.{◌≡◌, ◌+◌, ◌%◌, ◌^◌, ◌<◌, ◌≤◌, ◌++◌, [], ◌∷◌, length, take, drop, All, IfSome, IfNone};
 ghost use Rattle.std.specs.Option.{is_some};
@@ -7,7 +7,7 @@ ghost use Rattle.udt_model.specs.Wire as wire;
 ghost use Rattle.udt_model.specs.Wire.{IsRange, ranges_bytes};
 ghost use Rattle.udt_packet.specs.Ranges.{range_from, range_spelling, with_between, GoesOn, IsBroken};
 
-use crate::words::{behind, extend, put, two, word_at};
+use crate::words::{extend, following, put, two, word_at};
 use std::marker::Model;
 
 /// The first bit of a word that begins a range.
@@ -47,7 +47,7 @@ fn reach(first: u32, last: u32) -> u64
     (last as u64 + NUMBERS - first as u64) % NUMBERS
 }
 
-/// The start of the range that has begun behind this word, if one has. None where the word doesn't
+/// The start of the range that has begun after this word, if one has. None where the word doesn't
 /// end the range that had begun before it.
 fn after_word(begun: Option<u32>, word: u32) -> Option<Option<u32>>
     requires { IfSome begun (λ first. first < 2 ^ 31) }
@@ -110,7 +110,7 @@ fn size_of_range(first: u32, last: u32) -> usize
     if first == last { 4 } else { 8 }
 }
 
-/// Adds the words of a range behind what is in `into`, which has room for them. It takes no memory.
+/// Adds the words of a range after what is in `into`, which has room for them. It takes no memory.
 pub fn append_range(first: u32, last: u32, into: &mut Vec<u8>)
     requires room { length (into.old.items ++ range_spelling first last) ≤ vec_capacity into.old }
     requires in_range { first < 2 ^ 31 }
@@ -154,11 +154,11 @@ impl<'a> NakRanges<'a> {
         }
         let word = word_at(self.rest, 0);
         if word < BEGINS {
-            self.rest = behind(self.rest, 4);
+            self.rest = following(self.rest, 4);
             return Some((word, word));
         }
         let last = word_at(self.rest, 4);
-        self.rest = behind(self.rest, 8);
+        self.rest = following(self.rest, 8);
         Some((word - BEGINS, last))
     }
 
@@ -183,7 +183,7 @@ impl<'a> NakRanges<'a> {
         size
     }
 
-    /// Writes the words of the ranges that are left at this place, and answers the place behind
+    /// Writes the words of the ranges that are left at this place, and answers the place after
     /// them.
     pub(crate) fn put(&self, into: &mut [u8], place: usize) -> usize
         requires { place + length (ranges_bytes self.now) ≤ length into.old }
@@ -199,7 +199,7 @@ impl<'a> NakRanges<'a> {
         end
     }
 
-    /// Adds the words of the ranges that are left behind what is in `into`, which has room for
+    /// Adds the words of the ranges that are left after what is in `into`, which has room for
     /// them.
     pub(crate) fn append(&self, into: &mut Vec<u8>)
         requires { length (into.old.items ++ ranges_bytes self.now) ≤ vec_capacity into.old }

@@ -9,16 +9,16 @@ ghost use Rattle.udt_packet.specs.Packets.{packet_of, reading_of, IsRefusedFor};
 use crate::flags::flags_of;
 use crate::packet::Packet;
 use crate::ranges::NakRanges;
-use crate::words::{HEADER, behind, number_at, word_at};
+use crate::words::{HEADER, following, number_at, word_at};
 use udt_model::{AckBody, Malformed, Shake};
 
-/// The first bit of a control packet, which a block's wire number doesn't have.
+/// The first bit of a control packet, which a block's sequence number doesn't have.
 const CONTROL: u32 = 1 << 31;
 
-/// The bits of a control packet that stand behind its type.
+/// The bits of a control packet that stand after its type.
 const RESERVED: u32 = 1 << 16;
 
-/// How many types of control packets can be told.
+/// How many types of control packets there can be.
 const TYPES: u32 = 1 << 15;
 
 /// How many message numbers there are.
@@ -83,7 +83,7 @@ fn shake(field: &[u8]) -> Shake
     }
 }
 
-/// What an acknowledgement tells: as much as its words hold.
+/// What an ACK carries: as much as its words hold.
 fn ack(field: &[u8]) -> AckBody
     requires { 4 ≤ length field.now }
     ensures { result ≡ wire.ack_of field.now }
@@ -114,7 +114,7 @@ fn ack(field: &[u8]) -> AckBody
 }
 
 /// The control packet of the type with this number, by the other words of its header and the field
-/// behind it.
+/// after it.
 #[tactic(auto, unfolding(udt_model::specs::Wire::read_control))]
 fn control<'a>(
     number: u32,
@@ -183,7 +183,7 @@ fn packet<'a>(bytes: &'a [u8]) -> Result<Packet<'a>, Malformed>
         word_at(bytes, 4),
         word_at(bytes, 8),
         word_at(bytes, 12),
-        behind(bytes, HEADER),
+        following(bytes, HEADER),
     )
 }
 

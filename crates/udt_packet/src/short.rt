@@ -71,7 +71,7 @@ fn shake_field(shake: &Shake) -> Short
     field
 }
 
-// The field of an acknowledgement.
+// The field of an ACK.
 fn ack_field(body: &AckBody) -> Short
     ensures { result ≡ ack_bytes body.now }
 {
@@ -99,7 +99,7 @@ fn ack_field(body: &AckBody) -> Short
     field
 }
 
-/// The field of a control packet that tells no ranges. A block and a packet of ranges have none
+/// The field of a control packet without ranges. A block and a packet of ranges have none
 /// here.
 pub fn short_field(packet: &Packet) -> Short
     ensures { result ≡ short_of (packet_of packet.now) }

@@ -3,15 +3,15 @@ use std::alloc::{AllocError, Global};
 use std::process::Abort;
 use std::test::*;
 
-// Each isn, offset and wire number.
-const WIRE_NUMBERS: [(u32, u64, u32); 4] = [
+// Each isn, offset and sequence number.
+const SEQUENCE_NUMBERS: [(u32, u64, u32); 4] = [
     (5, 0, 5),
     (2_147_483_647, 1, 0),
     (5, 2_147_483_658, 15),
     (4_294_967_295, 18_446_744_073_709_551_615, 2_147_483_646),
 ];
 
-// Each isn, base and wire number, and the offset near the base.
+// Each isn, base and sequence number, and the offset near the base.
 const NEAR: [(u32, u64, u32, Option<u64>); 14] = [
     (5, 0, 5, Some(0)),
     (5, 0, 4, None),
@@ -35,8 +35,8 @@ const NEAR: [(u32, u64, u32, Option<u64>); 14] = [
 ];
 
 #[test]
-fn wire_numbers_name_the_offsets_near_the_base(rt: HostRuntime) {
-    for (isn, offset, number) in WIRE_NUMBERS {
+fn sequence_numbers_name_the_offsets_near_the_base(rt: HostRuntime) {
+    for (isn, offset, number) in SEQUENCE_NUMBERS {
         assert_eq!(rt; seq_of(isn, offset), number, "at {offset}");
     }
     for (isn, base, number, offset) in NEAR {
@@ -46,8 +46,8 @@ fn wire_numbers_name_the_offsets_near_the_base(rt: HostRuntime) {
 }
 
 // Packets, each as it is written: blocks; a handshake that asks, and one that answers; a
-// keep-alive; a light acknowledgement, one with the buffer, and a full one; lost numbers; a
-// shutdown; a confirmation; and a request to drop a message.
+// keep-alive; a light ACK, one with the buffer, and a full one; lost numbers; a
+// shutdown; a ACK2; and a request to drop a message.
 const WRITTEN: [&[u8]; 14] = [
     b"00000005 80000001 000003e8 00000002 68656c6c",
     b"00000006 40000001 000003e8 00000002 6f",
@@ -65,8 +65,8 @@ const WRITTEN: [&[u8]; 14] = [
     b"80070000 00000001 0000ea60 00000002 00000005 00000007",
 ];
 
-// Other spellings, and what is written of the same packets: reserved bits and words that tell
-// nothing, bytes behind, acknowledgements of 15, 23 and 25 bytes, first bits of packet numbers, a
+// Other spellings, and what is written of the same packets: reserved bits and words without a
+// meaning, bytes after, ACKs of 15, 23 and 25 bytes, first bits of packet numbers, a
 // long message number, a range with equal ends, ranges in another order.
 const LENIENT: [(&[u8], &[u8]); 11] = [
     (
@@ -194,7 +194,7 @@ fn bytes_of(alloc: Global, text: &[u8]) -> Result<Vec<u8>, AllocError> {
     Ok(bytes)
 }
 
-// The bytes are read, and the packet is written at the front of other bytes and behind others.
+// The bytes are read, and the packet is written at the front of other bytes and after others.
 fn is_written_as(
     rt: &impl Abort,
     alloc: Global,

@@ -1,4 +1,4 @@
-// The words of a packet's header, and the bytes of a packet put behind one another.
+// The words of a packet's header, and the bytes of a packet put after one another.
 
 ghost use Rattle.std.specs.Prelude.{◌≡◌, ◌+◌, ◌≤◌, ◌++◌, length, take, drop};
 ghost use Rattle.std.specs.Vec.{vec_len, vec_capacity};
@@ -24,7 +24,7 @@ pub fn word_at(bytes: &[u8], place: usize) -> u32
     ])
 }
 
-/// The packet number at this place, whose first bit tells nothing.
+/// The sequence number at this place, whose first bit is ignored.
 pub fn number_at(bytes: &[u8], place: usize) -> u32
     requires { place + 4 ≤ length bytes.now }
     ensures { result ≡ wire.number_at place bytes.now }
@@ -33,7 +33,7 @@ pub fn number_at(bytes: &[u8], place: usize) -> u32
 }
 
 /// The bytes from this place on.
-pub fn behind(bytes: &[u8], place: usize) -> &[u8]
+pub fn following(bytes: &[u8], place: usize) -> &[u8]
     requires { place ≤ length bytes.now }
     ensures { result.now ≡ drop place bytes.now }
 {
@@ -41,7 +41,7 @@ pub fn behind(bytes: &[u8], place: usize) -> &[u8]
     rest
 }
 
-/// Two words, one behind the other.
+/// Two words, one after the other.
 pub fn two(first: u32, second: u32) -> [u8; 8]
     ensures { result ≡ word first ++ word second }
 {
@@ -50,7 +50,7 @@ pub fn two(first: u32, second: u32) -> [u8; 8]
     [a[0], a[1], a[2], a[3], b[0], b[1], b[2], b[3]]
 }
 
-/// Four words, one behind the other.
+/// Four words, one after the other.
 pub fn four(first: u32, second: u32, third: u32, fourth: u32) -> [u8; 16]
     ensures { result ≡ wire.header first second third fourth }
 {
@@ -64,7 +64,7 @@ pub fn four(first: u32, second: u32, third: u32, fourth: u32) -> [u8; 16]
     ]
 }
 
-/// Writes the bytes at this place, and answers the place behind them.
+/// Writes the bytes at this place, and answers the place after them.
 pub fn put(into: &mut [u8], place: usize, bytes: &[u8]) -> usize
     requires { place + length bytes.now ≤ length into.old }
     ensures value { result ≡ place + length bytes.now }

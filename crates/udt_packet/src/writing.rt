@@ -54,7 +54,7 @@ fn header_of(packet: &Packet) -> [u8; 16]
     }
 }
 
-/// How many bytes a handshake has behind its header.
+/// How many bytes a handshake has after its header.
 fn shake_size(shake: &Shake) -> usize
     ensures value { result ≡ length (wire.shake_bytes shake.now) }
     ensures bound { result ≤ 48 }
@@ -63,7 +63,7 @@ fn shake_size(shake: &Shake) -> usize
     32 + address.len()
 }
 
-/// How many bytes an acknowledgement has behind its header.
+/// How many bytes an ACK has after its header.
 fn ack_size(body: &AckBody) -> usize
     ensures { result ≡ length (wire.ack_bytes body.now) }
 {
@@ -105,7 +105,7 @@ pub fn write(packet: &Packet, into: &mut [u8]) -> usize
     }
 }
 
-/// Adds the one spelling of the packet behind what is in `into`, which has room for it. It takes no
+/// Adds the one spelling of the packet after what is in `into`, which has room for it. It takes no
 /// memory.
 #[tactic(auto, unfolding(udt_model::specs::Wire::spelling))]
 pub fn append(packet: &Packet, into: &mut Vec<u8>)

@@ -1,11 +1,11 @@
 // What a datagram that arrives does.
 
 ghost use Rattle.std.specs.Prelude.{◌≡◌, ℕ};
-ghost use Rattle.udt_model.specs.Addresses.{same_addr};
-ghost use Rattle.udt_model.specs.Wire as wire;
-ghost use Rattle.udt_model.specs.Step.{Arrive, DidHear, step, at_moment, heard_now, is_own as comes_from_peer, count_malformed, count_foreign, packet_in, on_own as own_arrives, on_block as block_arrives, on_ack as ack_arrives, on_control as control_arrives, on_stale as stale_arrives};
+ghost use Rattle.udt_model.specs.Step.{step};
+ghost use Rattle.udt_model.specs.Events.{Arrive, DidHear, at_moment, event};
+ghost use Rattle.udt_model.specs.Arrivals.{heard_now, is_own as comes_from_peer, count_malformed, count_foreign, packet_in, on_own as own_arrives, on_block as block_arrives, on_ack as ack_arrives, on_control as control_arrives, on_stale as stale_arrives};
 ghost use Rattle.udt_packet.specs.Packets.{packet_of};
-ghost use Rattle.udt_core.specs.Changes.{ChangesSilenceAlone};
+ghost use Rattle.udt_core.specs.Changes.{ChangesExpAlone};
 
 use super::Socket;
 use crate::counts::risen;
@@ -18,21 +18,21 @@ impl Socket {
     /// Takes in a datagram that came from this address.
     #[tactic(auto, unfolding(udt_model::specs::Step::step))]
     pub fn arrive(&mut self, now: u64, from: Addr, bytes: &[u8], outs: &mut Outs) -> Heard
-        ensures reply { DidHear result ≡ (step self.old (record { now = now; act = Arrive from bytes.now })).reply }
-        ensures after { self.new ≡ (step self.old (record { now = now; act = Arrive from bytes.now })).after }
-        ensures outs { outs.new ≡ (step self.old (record { now = now; act = Arrive from bytes.now })).outs }
+        ensures reply { DidHear result ≡ (step self.old (event now (Arrive from bytes.now))).reply }
+        ensures after { self.new ≡ (step self.old (event now (Arrive from bytes.now))).after }
+        ensures outs { outs.new ≡ (step self.old (event now (Arrive from bytes.now))).outs }
         ensures malformed { (why : Malformed) → result ≡ Heard.Malformed why
             → self.new ≡ record (at_moment self.old now) { counters = count_malformed self.old.counters } }
         ensures foreign { result ≡ Heard.Foreign
             → self.new ≡ record (at_moment self.old now) { counters = count_foreign self.old.counters } }
-        ensures stale { result ≡ Heard.Stale → ChangesSilenceAlone (at_moment self.old now) self.new }
-        ensures bad_length { result ≡ Heard.BadLength → ChangesSilenceAlone (at_moment self.old now) self.new }
+        ensures stale { result ≡ Heard.Stale → ChangesExpAlone (at_moment self.old now) self.new }
+        ensures bad_length { result ≡ Heard.BadLength → ChangesExpAlone (at_moment self.old now) self.new }
     {
         outs.clear();
         self.at(now);
         match read(bytes) {
             Err(why) => {
-                self.counts.malformed = risen(self.counts.malformed);
+                self.counters.malformed = risen(self.counters.malformed);
                 Heard::Malformed(why)
             }
             Ok(packet) => self.on_packet(from, packet),
@@ -41,7 +41,8 @@ impl Socket {
 
     // A packet. A socket that isn't connected takes nothing in.
     fn on_packet(&mut self, from: Addr, packet: Packet) -> Heard
-        ensures reply { DidHear result ≡ (packet_in self.old from (packet_of packet.entry) self.old.phase).reply }
+        ensures reply { DidHear result
+            ≡ (packet_in self.old from (packet_of packet.entry) self.old.phase).reply }
         ensures after { self.new ≡ (packet_in self.old from (packet_of packet.entry) self.old.phase).after }
     {
         match self.phase {
@@ -49,10 +50,10 @@ impl Socket {
             Phase::Broken(_) | Phase::Closing | Phase::Closed => return self.on_stale(),
         }
         if !self.is_own(from, &packet) {
-            self.counts.foreign = risen(self.counts.foreign);
+            self.counters.foreign = risen(self.counters.foreign);
             return Heard::Foreign;
         }
-        self.hear();
+        self.note_arrival();
         self.on_own(packet)
     }
 
@@ -61,20 +62,19 @@ impl Socket {
     fn is_own(&self, from: Addr, packet: &Packet) -> bool
         ensures { result ≡ comes_from_peer self.now from (packet_of packet.now) }
     {
-        is_same(from, self.peer.addr) && (is_handshake(packet) || destination(packet) == self.own)
+        from.is_same(self.peer.addr) && (packet.is_handshake() || packet.destination() == self.own)
     }
 
     // The socket has heard of its peer now.
-    fn hear(&mut self)
+    fn note_arrival(&mut self)
         ensures { self.new ≡ heard_now self.old }
     {
         self.heard = self.last;
         self.exp_from = self.last;
-        self.exp_n = 1;
+        self.exp_count = 1;
     }
 
-    // A packet from the peer. Loss reports, confirmations, drop requests and handshakes tell nothing
-    // yet.
+    // A packet from the peer. No use is made of NAKs, ACK2s, drop requests and handshakes yet.
     fn on_own(&mut self, packet: Packet) -> Heard
         ensures reply { DidHear result ≡ (own_arrives self.old (packet_of packet.entry)).reply }
         ensures after { self.new ≡ (own_arrives self.old (packet_of packet.entry)).after }
@@ -105,30 +105,30 @@ impl Socket {
         ensures after { self.new ≡ (block_arrives self.old seq flags bytes.now).after }
     {
         if bytes.is_empty() || bytes.len() > self.receiving.payload() as usize {
-            self.counts.stale = risen(self.counts.stale);
+            self.counters.stale = risen(self.counters.stale);
             return Heard::BadLength;
         }
         match self.receiving.on_block(seq, flags, bytes) {
             Placed::New => {
-                self.counts.placed = risen(self.counts.placed);
+                self.counters.placed = risen(self.counters.placed);
                 Heard::Placed
             }
             Placed::Double => {
-                self.counts.double = risen(self.counts.double);
+                self.counters.double = risen(self.counters.double);
                 Heard::Double
             }
             Placed::Below => {
-                self.counts.below = risen(self.counts.below);
+                self.counters.below = risen(self.counters.below);
                 Heard::Below
             }
             Placed::Above => {
-                self.counts.above = risen(self.counts.above);
+                self.counters.above = risen(self.counters.above);
                 Heard::Above
             }
         }
     }
 
-    // An acknowledgement. One that tells nothing new of what was sent is stale.
+    // An ACK. One of blocks that were never sent, or are no longer kept, is stale.
     fn on_ack(&mut self, body: &AckBody) -> Heard
         ensures reply { DidHear result ≡ (ack_arrives self.old body.now).reply }
         ensures after { self.new ≡ (ack_arrives self.old body.now).after }
@@ -145,49 +145,16 @@ impl Socket {
         ensures reply { DidHear result ≡ (control_arrives self.old heard).reply }
         ensures after { self.new ≡ (control_arrives self.old heard).after }
     {
-        self.counts.control = risen(self.counts.control);
+        self.counters.control = risen(self.counters.control);
         heard
     }
 
-    // A packet that tells the socket nothing.
+    // A packet of which the socket makes no use.
     fn on_stale(&mut self) -> Heard
         ensures reply { DidHear result ≡ (stale_arrives self.old).reply }
         ensures after { self.new ≡ (stale_arrives self.old).after }
     {
-        self.counts.stale = risen(self.counts.stale);
+        self.counters.stale = risen(self.counters.stale);
         Heard::Stale
-    }
-}
-
-// The addresses are the same.
-fn is_same(one: Addr, other: Addr) -> bool
-    ensures { result ≡ same_addr one other }
-{
-    one == other
-}
-
-// The packet is a handshake.
-fn is_handshake(packet: &Packet) -> bool
-    ensures { result ≡ wire.is_handshake (packet_of packet.now) }
-{
-    match packet {
-        Packet::Handshake { .. } => true,
-        _ => false,
-    }
-}
-
-// The socket ID that the packet is for.
-fn destination(packet: &Packet) -> u32
-    ensures { result ≡ wire.destination (packet_of packet.now) }
-{
-    match packet {
-        Packet::Block { dest, .. }
-        | Packet::Handshake { dest, .. }
-        | Packet::KeepAlive { dest, .. }
-        | Packet::Ack { dest, .. }
-        | Packet::Nak { dest, .. }
-        | Packet::Shutdown { dest, .. }
-        | Packet::Ack2 { dest, .. }
-        | Packet::DropAsk { dest, .. } => *dest,
     }
 }

@@ -1,54 +1,45 @@
-// What time brings: acknowledgements, and what is done about silence.
+// What a tick does: the ACK timer and the EXP timer.
 
 ghost use Rattle.std.specs.Prelude.{◌≡◌, ◌≢◌, ◌+◌, ◌<◌, ◌≤◌, [], ◌++◌, ◌^◌, length};
 ghost use Rattle.udt_model.specs.declared.limits.TheConstants.{LAST_MOMENT};
-ghost use Rattle.udt_model.specs.Receiving.{telling};
-ghost use Rattle.udt_model.specs.Step.{Tick, step, round_trip, told, after_told, patience as long, silence as silence_of, signed, after_silence, waited};
+ghost use Rattle.udt_model.specs.Receiving.{ack_outcome};
+ghost use Rattle.udt_model.specs.Step.{step};
+ghost use Rattle.udt_model.specs.Events.{Tick, event};
+ghost use Rattle.udt_model.specs.Ticks.{round_trip, ack_emitted, after_ack_tick, exp_interval as long, exp_outcome as exp_outcome_of, keep_alives, after_exp, counts_exp};
 ghost use Rattle.udt_core.specs.declared.outs.TheConstants.{MOST_OUTS};
 
 use super::Socket;
 use crate::outs::Outs;
 use udt_model::{
-    ACK_INTERVAL, Cause, EXPIRIES, LEAST_EXPIRY, LEAST_SILENCE, LONGEST_SILENCE, Phase,
+    Cause, EXP_LEAST_INTERVAL, EXP_LEAST_SILENT, EXP_MOST_COUNT, EXP_MOST_SILENT, ExpOutcome,
+    FIRST_RTT, FIRST_RTT_VAR, Phase, SYN,
 };
 use udt_packet::Packet;
 
 /// The round trip that timers count with, in microseconds. No sample is taken yet.
-const RTT: u32 = 100_000;
+const RTT: u32 = FIRST_RTT as u32;
 
 /// The variance of the round trip, in microseconds.
-const VAR: u32 = 50_000;
+const VAR: u32 = FIRST_RTT_VAR as u32;
 
-/// How long silence is waited for at first, in microseconds.
-const PERIOD: u64 = 4 * RTT as u64 + VAR as u64 + ACK_INTERVAL;
-
-/// What silence leads to: it isn't long enough, it breaks the connection, all that is under way is
-/// to be sent again, or the peer is sent a sign of life.
-#[derive(Clone, Copy, Debug, PartialEq, Eq)]
-pub enum Quiet {
-    Short,
-    Breaks,
-    Resends,
-    Signs,
-}
+/// The unit of the EXP interval, in microseconds.
+const EXP_UNIT: u64 = 4 * FIRST_RTT + FIRST_RTT_VAR + SYN;
 
 impl Socket {
-    ghost use Rattle.udt_core.specs.Sockets.{quiet_of};
-
-    /// Does what the moment brings. A connected socket acknowledges what has arrived, and then sends
-    /// again what may be lost, or a sign of life, or gives its peer up. A closing socket tells its
-    /// peer, and is closed.
+    /// Does what falls due at this moment. A connected socket emits an ACK of what has arrived; then
+    /// it has retransmitted what may be lost, or sends a keep-alive, or gives its peer up. A closing
+    /// socket sends a shutdown, and is closed.
     #[tactic(auto, unfolding(udt_model::specs::Step::step, udt_model::specs::Wire::spelling))]
     pub fn tick(&mut self, now: u64, outs: &mut Outs)
-        ensures after { self.new ≡ (step self.old (record { now = now; act = Tick })).after }
-        ensures outs { outs.new ≡ (step self.old (record { now = now; act = Tick })).outs }
+        ensures after { self.new ≡ (step self.old (event now Tick)).after }
+        ensures outs { outs.new ≡ (step self.old (event now Tick)).outs }
     {
         outs.clear();
         self.at(now);
         match self.phase {
             Phase::Connected => {
-                self.tell(outs);
-                self.watch(outs);
+                self.tick_ack(outs);
+                self.tick_exp(outs);
             }
             Phase::Closing => {
                 let packet = Packet::Shutdown {
@@ -62,12 +53,13 @@ impl Socket {
         }
     }
 
-    // Emits the acknowledgement that is due, if one is.
+    // Emits the ACK that is due, if one is.
     #[tactic(auto, unfolding(udt_model::specs::Wire::spelling))]
-    fn tell(&mut self, outs: &mut Outs)
+    fn tick_ack(&mut self, outs: &mut Outs)
         requires empty { outs.old ≡ [] }
-        ensures after { self.new ≡ after_told self.old }
-        ensures outs { outs.new ≡ told self.old (telling self.old.receiving self.old.last round_trip.rtt) }
+        ensures after { self.new ≡ after_ack_tick self.old }
+        ensures outs { outs.new
+            ≡ ack_emitted self.old (ack_outcome self.old.receiving self.old.last round_trip.rtt) }
         ensures within { length outs.new ≤ 1 }
     {
         if let Some((number, body)) = self.receiving.tick_ack(self.last, RTT, VAR) {
@@ -81,65 +73,67 @@ impl Socket {
         }
     }
 
-    // Does what the silence of the peer leads to.
-    #[tactic(auto, unfolding(udt_model::specs::Wire::spelling, udt_model::specs::Step::silence))]
-    fn watch(&mut self, outs: &mut Outs)
+    // Does what the EXP timer asks.
+    #[tactic(auto, unfolding(udt_model::specs::Wire::spelling, udt_model::specs::Ticks::exp_outcome))]
+    fn tick_exp(&mut self, outs: &mut Outs)
         requires room { length outs.old < MOST_OUTS }
-        ensures after { self.new ≡ after_silence self.old (silence_of self.old) }
-        ensures outs { outs.new ≡ outs.old ++ signed self.old (silence_of self.old) }
+        ensures after { self.new ≡ after_exp self.old (exp_outcome_of self.old) }
+        ensures outs { outs.new ≡ outs.old ++ keep_alives self.old (exp_outcome_of self.old) }
     {
-        match self.silence() {
-            Quiet::Short => {}
-            Quiet::Breaks => self.phase = Phase::Broken(Cause::Expired),
-            Quiet::Resends => {
+        match self.exp_outcome() {
+            ExpOutcome::NotDue => {}
+            ExpOutcome::Breaks => self.phase = Phase::Broken(Cause::Expired),
+            ExpOutcome::LosesAll => {
                 let _ = self.sending.on_timeout();
-                self.wait();
+                self.count_exp();
             }
-            Quiet::Signs => {
+            ExpOutcome::KeepsAlive => {
                 let packet = Packet::KeepAlive {
                     stamp: self.stamp(),
                     dest: self.peer.id,
                 };
                 outs.emit(self.peer.addr, &packet);
-                self.wait();
+                self.count_exp();
             }
         }
     }
 
-    // What the silence of the peer leads to.
-    #[tactic(auto, unfolding(udt_model::specs::Step::silence))]
-    fn silence(&self) -> Quiet
-        ensures value { result ≡ quiet_of (silence_of self.now) }
-        ensures expired { result ≢ Quiet.Short → self.now.exp_from + long self.now ≤ self.now.last }
-        ensures resends { result ≡ Quiet.Resends → self.now.sending.acked < self.now.sending.next }
+    // What the EXP timer asks.
+    #[tactic(auto, unfolding(udt_model::specs::Ticks::exp_outcome))]
+    fn exp_outcome(&self) -> ExpOutcome
+        ensures value { result ≡ exp_outcome_of self.now }
+        ensures expired { result ≢ ExpOutcome.NotDue → self.now.exp_from + long self.now ≤ self.now.last }
+        ensures resends { result ≡ ExpOutcome.LosesAll → self.now.sending.acked < self.now.sending.next }
     {
-        if self.last < self.exp_from + self.patience() {
-            return Quiet::Short;
+        if self.last < self.exp_from + self.exp_interval() {
+            return ExpOutcome::NotDue;
         }
         let silent = self.last.saturating_sub(self.heard);
-        if self.exp_n > EXPIRIES && silent >= LEAST_SILENCE || silent >= LONGEST_SILENCE {
-            return Quiet::Breaks;
+        if self.exp_count > EXP_MOST_COUNT && silent >= EXP_LEAST_SILENT
+            || silent >= EXP_MOST_SILENT
+        {
+            return ExpOutcome::Breaks;
         }
         if self.sending.acked() < self.sending.next() {
-            return Quiet::Resends;
+            return ExpOutcome::LosesAll;
         }
-        Quiet::Signs
+        ExpOutcome::KeepsAlive
     }
 
-    // How long the socket waits for a sign of the peer, in microseconds.
-    fn patience(&self) -> u64
+    // The EXP interval, in microseconds.
+    fn exp_interval(&self) -> u64
         ensures value { result ≡ long self.now }
         ensures fits { self.now.exp_from + result < 2 ^ 64 }
     {
-        (self.exp_n * PERIOD).max(LEAST_EXPIRY)
+        (self.exp_count * EXP_UNIT).max(EXP_LEAST_INTERVAL)
     }
 
-    // Counts silence anew.
-    fn wait(&mut self)
+    // The timer starts anew, and has fired once more.
+    fn count_exp(&mut self)
         requires { self.old.exp_from + long self.old ≤ self.old.last }
-        ensures { self.new ≡ waited self.old }
+        ensures { self.new ≡ counts_exp self.old }
     {
         self.exp_from = self.last;
-        self.exp_n += 1;
+        self.exp_count += 1;
     }
 }

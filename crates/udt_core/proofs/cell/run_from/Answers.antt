@@ -7,7 +7,7 @@ use Rattle.udt_core.proofs.RunLemmas.{used_within, used_more, gap_after}
 use Rattle.udt_core.proofs.cell.run_from.Goals as goal
 use Rattle.udt_core.proofs.cell.run_from.Goals.{After-index}
 
--- the cell behind the run
+-- the cell after the run
 found : (c : After-index) → slice_get c.args.cells.now.items c.loop-run.run ≡ Some c.index.result.now
 found c =
     let cells = c.args.cells.now in
@@ -18,7 +18,7 @@ pub loop-run-preserved : goal.loop-run-preserved
 loop-run-preserved c =
     rw add-one (used_more c.args.cells.now.items c.loop-run.run c.index.result.now c.loop-run.invariant (found ((goal.at.loop-run-preserved c).After-index)) c.if-index.true)
 
--- the cell behind the run isn't used
+-- the cell after the run isn't used
 pub returns-else-index-clause-gap : goal.returns-else-index-clause-gap
 returns-else-index-clause-gap c = λ base.
     let cells = c.args.cells.now.items in
@@ -30,7 +30,7 @@ pub returns-after-loop-run-clause-within : goal.returns-after-loop-run-clause-wi
 returns-after-loop-run-clause-within c =
     omega (arith, c.args.cells.now.ok.0, used_within c.args.cells.now.items c.loop-run.run c.loop-run.invariant)
 
--- there is no cell behind the run
+-- there is no cell after the run
 pub returns-after-loop-run-clause-gap : goal.returns-after-loop-run-clause-gap
 returns-after-loop-run-clause-gap c = λ base.
     let cells = c.args.cells.now in

@@ -9,7 +9,7 @@ use Rattle.udt_core.specs.Cells.{placed_from}
 use Rattle.udt_core.specs.ReceiveHalf.{receiving_of}
 use Rattle.udt_core.proofs.CellLemmas.{front-more}
 use Rattle.udt_core.proofs.SettleLemmas.{front_stays}
-use Rattle.udt_core.proofs.ReadLemmas.{first_of, found_first, waits_not, waits_some, contiguous_first, answer_again, after_again, after_none, answer_read, after_reading, waiting_more, filled_take, filled_drop, drop_further, front_of}
+use Rattle.udt_core.proofs.ReadLemmas.{first_of, found_first, waits_not, waits_some, contiguous_first, answer_again, after_retransmit, after_none, answer_read, after_reading, waiting_more, filled_take, filled_drop, drop_further, front_of}
 use Rattle.udt_core.proofs.receiving.Receiver.recv.Goals as goal
 use Rattle.udt_core.proofs.receiving.Receiver.recv.Goals.{After-index, After-index-in-loop-filled-2, Else-not-waits}
 
@@ -36,7 +36,7 @@ pub returns-then-not-waits-clause-reply : goal.returns-then-not-waits-clause-rep
 returns-then-not-waits-clause-reply c = again c
 
 pub returns-then-not-waits-clause-after : goal.returns-then-not-waits-clause-after
-returns-then-not-waits-clause-after c = sym (after_again c.args.self.now (length c.args.into.now) (again c))
+returns-then-not-waits-clause-after c = sym (after_retransmit c.args.self.now (length c.args.into.now) (again c))
 
 -- ---- the loop
 
@@ -141,7 +141,7 @@ loop-filled-preserved c =
       same = ap (λ (half : Receiving). at_front half (record { base = c.settle.new.base; given = c.settle.new.given; placed = placed_from c.settle.new.base c.settle.new.cells.items })) i.same;
     }
 
--- ---- behind the loop
+-- ---- after the loop
 
 -- a byte waited
 waited : (c : Else-not-waits) → 0 < length (waiting c.args.self.now)

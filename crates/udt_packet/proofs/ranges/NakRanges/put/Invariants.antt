@@ -1,4 +1,4 @@
--- What was written and what is left make the whole, and what stands behind stays.
+-- What was written and what is left make the whole, and what stands after stays.
 use Rattle.std.proofs.Common.{length}
 use Rattle.udt_packet.proofs.RangeBytes.{IsPut}
 use Rattle.udt_packet.proofs.ranges.NakRanges.put.Given as goal

@@ -1,15 +1,15 @@
 use Rattle.std.proofs.Common.{◌≡◌, ◌<◌, ◌∷◌, drop, length, Some, refl, ap, ◌∙◌, sym, arith}
 use Rattle.std.proofs.lemmas.List.{length-map}
 use Rattle.udt_model.specs.State.{KeptBlock}
-use Rattle.udt_model.specs.Sending.{SendsAgain, sends_first, kept_at, end_of}
+use Rattle.udt_model.specs.Sending.{Retransmits, sends_first, kept_at, end_of}
 use Rattle.udt_core.specs.declared.sending.Emission.TheVariants.{Again}
 use Rattle.udt_core.specs.Emissions.{emission_of, packed_datagrams}
 use Rattle.udt_core.specs.SendBlocks.{kept_block_of}
 use Rattle.udt_core.specs.SendHalf.{sending_of}
 use Rattle.udt_core.proofs.LostLemmas.{rise-first, rise-drop, first-drop}
 use Rattle.udt_core.proofs.PackLemmas.{kept_is, sends-again}
-use Rattle.udt_core.proofs.sending.Sender.pack_again.Goals as goal
-use Rattle.udt_core.proofs.sending.Sender.pack_again.Goals.{After-pop_front}
+use Rattle.udt_core.proofs.sending.Sender.pack_lost.Goals as goal
+use Rattle.udt_core.proofs.sending.Sender.pack_lost.Goals.{After-pop_front}
 
 -- some offset is lost
 some : (c : After-pop_front) → 0 < length c.self.inside.lost.items
@@ -29,8 +29,8 @@ block c =
     omega (arith, within.1, c.self.invariant.unsent, s.kept.ok.0, length-map s.kept.items kept_block_of) in
     rw (← c.self.view_is) (kept_is (sending_of s) offset within.0 before)
 
--- so it is sent again
-again : (c : After-pop_front) → sends_first c.args.self.now c.args.self.now.lost ≡ SendsAgain c.index-offset.result.now (block c).0
+-- so it is retransmitted
+again : (c : After-pop_front) → sends_first c.args.self.now c.args.self.now.lost ≡ Retransmits c.index-offset.result.now (block c).0
 again c = sends-again c.args.self.now c.index-offset.result.now _ (block c).0 (first c) (block c).1
 
 pub invariant_of-self : goal.invariant_of-self
