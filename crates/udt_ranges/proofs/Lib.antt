@@ -1,5 +1,5 @@
 pub mod RisingLemmas
-pub mod SeatLemmas
+pub mod CursorLemmas
 pub mod ChainLemmas
 pub mod StepLemmas
 pub mod ReadLemmas

@@ -4,58 +4,17 @@ use Rattle.std.specs.List.{range_with_len}
 use Rattle.std.proofs.lemmas.List.{map-append}
 use Rattle.std.proofs.lemmas.List.Elements.{filter_agree}
 use Rattle.std.proofs.lemmas.Bool.{lt-ltb, le-ltb, le-leb, lt-leb, ne_eqb, eq-eqb, cases_lt, or_right}
-use Rattle.udt_model.specs.Losses.{Missing, LostRange, offsets_between, ranges_of, before_ranges, from_offset, without_range}
-use Rattle.udt_ranges.specs.declared.links.Range.{Range}
-use Rattle.udt_ranges.specs.Ranges.{Rises, IsFrom, items_of, items_of_range}
-use Rattle.udt_ranges.specs.Seats.{first_of}
+use Rattle.udt_model.specs.Losses.{LostRange, offsets_between, ranges_of, before_ranges, from_offset, without_range}
+use Rattle.udt_ranges.specs.declared.range.Range.{Range}
+use Rattle.udt_ranges.specs.Ranges.{Item, Rises, IsFrom, items_of, items_of_range}
+use Rattle.udt_ranges.specs.Cursors.{first_of}
 use Rattle.udt_ranges.proofs.ItemLemmas.{item_of, IsFrom-Rises}
 use Rattle.udt_ranges.specs.Offsets.{offsets_in, Rising, least}
-
--- a test of the offset
-pub offsets_in-filter : (p : ℕ → Bool) (ms : List Missing) → offsets_in (filter (λ m. p m.offset) ms) ≡ filter p (offsets_in ms)
-offsets_in-filter p [] = refl
-offsets_in-filter p (m ∷ ms) =
-    elim (p m.offset) as (λ b. offsets_in (cond b (m ∷ filter (λ k. p k.offset) ms) (filter (λ k. p k.offset) ms)) ≡ cond b (m.offset ∷ filter p (offsets_in ms)) (filter p (offsets_in ms))) [
-      | true ↦ ap (λ xs. m.offset ∷ xs) (offsets_in-filter p ms)
-      | false ↦ offsets_in-filter p ms
-    ]
-
-pub offsets_in-append : (ms ns : List Missing) → offsets_in (ms ++ ns) ≡ offsets_in ms ++ offsets_in ns
-offsets_in-append ms ns = map-append (λ (m : Missing). m.offset) ms ns
-
-pub offsets_in-row : (r : Range) (a n : ℕ) → offsets_in (map (item_of r) (range_with_len a n)) ≡ range_with_len a n
-offsets_in-row r a zero = refl
-offsets_in-row r a (suc n) = ap (λ xs. a ∷ xs) (offsets_in-row r (a + 1) n)
-
-pub offsets_in-range : (r : Range) → offsets_in (items_of_range r) ≡ offsets_between r.first r.last
-offsets_in-range r = offsets_in-row r r.first (r.last + 1 - r.first)
 
 pub Rising-lower : (low lower high : ℕ) (ns : List ℕ) → lower ≤ low → Rising low high ns → Rising lower high ns
 unfolding Rising
 Rising-lower low lower high [] le h = tt
 Rising-lower low lower high (n ∷ ns) le h = (omega arith, h.1, h.2)
-
--- rising ranges have rising offsets
-Rising-row : (r : Range) (low high a n : ℕ) (ms : List Missing) → low ≤ a → a + n ≤ high → Rising (a + n) high (offsets_in ms) → Rising low high (offsets_in (map (item_of r) (range_with_len a n) ++ ms))
-unfolding Rising
-Rising-row r low high a zero ms le within h = Rising-lower (a + 0) low high (offsets_in ms) (omega arith) h
-Rising-row r low high a (suc n) ms le within h =
-    (le, omega arith, Rising-row r (a + 1) high (a + 1) n ms (omega arith) (omega arith) (subst (λ k. Rising k high (offsets_in ms)) (let e : a + suc n ≡ a + 1 + n = omega arith in e) h))
-
-pub Rising-items : (low high : ℕ) (rs : List Range) → Rises low high rs → Rising low high (offsets_in (items_of rs))
-unfolding items_of Rises
-Rising-items low high [] h = unfold Rising in tt
-Rising-items low high (r ∷ rs) h =
-    let e : r.first + (r.last + 1 - r.first) ≡ r.last + 1 = omega arith in
-    Rising-row r low high r.first (r.last + 1 - r.first) (items_of rs) h.0 (omega arith) (rw e (Rising-items (r.last + 1) high rs h.3))
-
--- the least offset begins the first range
-pub least-items : (low high : ℕ) (rs : List Range) → Rises low high rs → first_of rs ≡ least (offsets_in (items_of rs))
-unfolding items_of Rises
-least-items low high [] h = refl
-least-items low high (r ∷ rs) h =
-    let e : r.last + 1 - r.first ≡ suc (r.last - r.first) = omega arith in
-    sym (ap (λ n. least (offsets_in (map (item_of r) (range_with_len r.first n) ++ items_of rs))) e)
 
 -- a list without its least offset
 filter_above : (x low high : ℕ) (ns : List ℕ) → x < low → Rising low high ns → filter (λ n. ltb n x || ltb x n) ns ≡ ns
@@ -105,15 +64,6 @@ unfolding without_range
 without_none from to [] none = refl
 without_none from to (n ∷ ns) none =
     rw (outside_all from to n none) (ap (λ xs. n ∷ xs) (without_none from to ns none))
-
--- ranges whose offsets begin no lower than an offset
-pub IsFrom-offsets : (from low high top : ℕ) (rs : List Range) → Rises low high rs → Rising from top (offsets_in (items_of rs)) → IsFrom from rs
-unfolding items_of Rises IsFrom Rising
-IsFrom-offsets from low high top [] h rising = tt
-IsFrom-offsets from low high top (r ∷ rs) h rising =
-    let e : r.last + 1 - r.first ≡ suc (r.last - r.first) = omega arith in
-    let first = subst (λ n. Rising from top (offsets_in (map (item_of r) (range_with_len r.first n) ++ items_of rs))) e rising in
-    (first.0, IsFrom-Rises from (r.last + 1) high rs h.3 (omega (arith, first.0)))
 
 pub Rising-filter : (p : ℕ → Bool) (low high : ℕ) (ns : List ℕ) → Rising low high ns → Rising low high (filter p ns)
 unfolding Rising
@@ -169,3 +119,54 @@ from_offset-twice n (k ∷ ns) =
       | inl below ↦ rw (lt-leb n k below) (from_offset-twice n ns)
       | inr above ↦ rw (le-leb n k above) (rw (le-leb n k above) (ap (λ xs. k ∷ xs) (from_offset-twice n ns)))
     ]
+
+module _ {T : Type 0} where
+  -- a test of the offset
+  pub offsets_in-filter : (p : ℕ → Bool) (ms : List (Item T)) → offsets_in (filter (λ m. p m.offset) ms) ≡ filter p (offsets_in ms)
+  offsets_in-filter p [] = refl
+  offsets_in-filter p (m ∷ ms) =
+      elim (p m.offset) as (λ b. offsets_in (cond b (m ∷ filter (λ k. p k.offset) ms) (filter (λ k. p k.offset) ms)) ≡ cond b (m.offset ∷ filter p (offsets_in ms)) (filter p (offsets_in ms))) [
+        | true ↦ ap (λ xs. m.offset ∷ xs) (offsets_in-filter p ms)
+        | false ↦ offsets_in-filter p ms
+      ]
+
+  pub offsets_in-append : (ms ns : List (Item T)) → offsets_in (ms ++ ns) ≡ offsets_in ms ++ offsets_in ns
+  offsets_in-append ms ns = map-append (λ (m : Item T). m.offset) ms ns
+
+  pub offsets_in-row : (r : Range T) (a n : ℕ) → offsets_in (map (item_of r) (range_with_len a n)) ≡ range_with_len a n
+  offsets_in-row r a zero = refl
+  offsets_in-row r a (suc n) = ap (λ xs. a ∷ xs) (offsets_in-row r (a + 1) n)
+
+  pub offsets_in-range : (r : Range T) → offsets_in (items_of_range r) ≡ offsets_between r.first r.last
+  offsets_in-range r = offsets_in-row r r.first (r.last + 1 - r.first)
+
+  -- rising ranges have rising offsets
+  Rising-row : (r : Range T) (low high a n : ℕ) (ms : List (Item T)) → low ≤ a → a + n ≤ high → Rising (a + n) high (offsets_in ms) → Rising low high (offsets_in (map (item_of r) (range_with_len a n) ++ ms))
+  unfolding Rising
+  Rising-row r low high a zero ms le within h = Rising-lower (a + 0) low high (offsets_in ms) (omega arith) h
+  Rising-row r low high a (suc n) ms le within h =
+      (le, omega arith, Rising-row r (a + 1) high (a + 1) n ms (omega arith) (omega arith) (subst (λ k. Rising k high (offsets_in ms)) (let e : a + suc n ≡ a + 1 + n = omega arith in e) h))
+
+  pub Rising-items : (low high : ℕ) (rs : List (Range T)) → Rises low high rs → Rising low high (offsets_in (items_of rs))
+  unfolding items_of Rises
+  Rising-items low high [] h = unfold Rising in tt
+  Rising-items low high (r ∷ rs) h =
+      let e : r.first + (r.last + 1 - r.first) ≡ r.last + 1 = omega arith in
+      Rising-row r low high r.first (r.last + 1 - r.first) (items_of rs) h.0 (omega arith) (rw e (Rising-items (r.last + 1) high rs h.3))
+
+  -- the least offset begins the first range
+  pub least-items : (low high : ℕ) (rs : List (Range T)) → Rises low high rs → first_of rs ≡ least (offsets_in (items_of rs))
+  unfolding items_of Rises
+  least-items low high [] h = refl
+  least-items low high (r ∷ rs) h =
+      let e : r.last + 1 - r.first ≡ suc (r.last - r.first) = omega arith in
+      sym (ap (λ n. least (offsets_in (map (item_of r) (range_with_len r.first n) ++ items_of rs))) e)
+
+  -- ranges whose offsets begin no lower than an offset
+  pub IsFrom-offsets : (from low high top : ℕ) (rs : List (Range T)) → Rises low high rs → Rising from top (offsets_in (items_of rs)) → IsFrom from rs
+  unfolding items_of Rises IsFrom Rising
+  IsFrom-offsets from low high top [] h rising = tt
+  IsFrom-offsets from low high top (r ∷ rs) h rising =
+      let e : r.last + 1 - r.first ≡ suc (r.last - r.first) = omega arith in
+      let first = subst (λ n. Rising from top (offsets_in (map (item_of r) (range_with_len r.first n) ++ items_of rs))) e rising in
+      (first.0, IsFrom-Rises from (r.last + 1) high rs h.3 (omega (arith, first.0)))

@@ -1,4 +1,5 @@
 pub mod Ranges
+pub mod Merging
 pub mod Offsets
-pub mod Seats
+pub mod Cursors
 pub mod Chains

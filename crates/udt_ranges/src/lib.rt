@@ -1,12 +1,14 @@
-//! Ranges of offsets, each with its last report, linked in a ring of places.
+//! Ranges of offsets, each with a tag, linked in a ring of places.
 #![tactic(auto)]
 
 mod edits;
 mod links;
+mod range;
 #[cfg(test)]
 mod tests;
 
-pub use links::{LinkedRanges, Range};
+pub use links::LinkedRanges;
+pub use range::{Range, Tag};
 use std::alloc::AllocError;
 
 /// Memory ran out.

@@ -4,46 +4,24 @@
 ghost use Rattle.std.specs.Prelude.{◌≡◌, ◌%◌, ◌<◌, ◌==◌, if◌then◌else◌};
 
 use crate::OutOfMemory;
+use crate::range::Range;
 use std::alloc::Global;
 use std::marker::Model;
 
-/// Consecutive offsets with one report: the first and the last offset, the moment of the last
-/// report, and how many round trips pass from it to the next.
-#[derive(Clone, Copy, Debug, PartialEq, Eq)]
-pub struct Range {
-    pub first: u64,
-    pub last: u64,
-    pub reported: u64,
-    pub wait: u32,
-}
-
-impl Range {
-    ghost use Rattle.std.specs.Prelude.{◌≡◌};
-    ghost use Rattle.udt_ranges.specs.Ranges.{is_due_range};
-
-    /// Whether a range is to be reported again at this moment, with round trips of so many
-    /// microseconds.
-    pub fn is_due(&self, now: u64, rtt: u64) -> bool
-        ensures { result ≡ is_due_range now rtt self.now }
-    {
-        let since = now.saturating_sub(self.reported);
-        u128::from(self.wait) * u128::from(rtt) <= u128::from(since)
-    }
-}
-
 // What a place keeps of the range that lies there, and the first offset of the next range.
 #[derive(Clone, Copy)]
-struct Place {
+struct Place<T> {
     last: u64,
     next: u64,
-    reported: u64,
-    wait: u32,
+    tag: T,
 }
 
 /// Rising ranges of offsets, all within a window.
 #[derive(Drop)]
-pub struct LinkedRanges {
-    places: Vec<Place>,
+pub struct LinkedRanges<T> {
+    places: Vec<Place<T>>,
+    // the tag of places where no range was put yet
+    blank: T,
     // the first offsets of the first and of the last range, and of the one that was sought last
     head: u64,
     tail: u64,
@@ -52,10 +30,12 @@ pub struct LinkedRanges {
     count: u64,
 }
 
-impl Model for LinkedRanges {
-    ghost use Rattle.udt_ranges.specs.Ranges.{Linked};
+impl<T> Model for LinkedRanges<T> {
+    ghost use Rattle.udt_ranges.specs.Ranges.{Linked, linked_code};
 
-    ghost Value = { Linked };
+    ghost Value = { Linked T };
+
+    ghost coded = { linked_code T.code };
 
     ghost use Rattle.udt_ranges.specs.Chains.{seen, is_chained};
 
@@ -64,24 +44,26 @@ impl Model for LinkedRanges {
     ghost invariant = { is_chained };
 }
 
-impl LinkedRanges {
-    ghost use Rattle.std.specs.Prelude.{◌≡◌, ◌++◌, ◌∷◌, ◌<◌, ◌^◌, [], true, length, drop, IfOk, IsSome};
+impl<T: Copy> LinkedRanges<T> {
+    ghost use Rattle.std.specs.Prelude.{◌≡◌, ◌++◌, ◌∷◌, ◌<◌, ◌^◌, [], true, length, drop, Some, IfOk, IsSome};
     ghost use Rattle.udt_ranges.specs.Ranges.{IsWithin, IsBelow, IsFrom};
-    ghost use Rattle.udt_ranges.specs.Seats.{IsSeat, before, behind, begins_at, ahead, through, beyond, first_of};
+    ghost use Rattle.udt_ranges.specs.Cursors.{IsCursor, before, following, begins_at, ahead, through, beyond, first_of, with_range_at, with_range, without_next};
 
-    /// No ranges, with the memory that the list will ever have.
-    pub fn new(alloc: Global, window: u32) -> Result<LinkedRanges, OutOfMemory>
+    /// No ranges, with the memory that the list will ever have. Places where no range was put yet have
+    /// the tag that is given.
+    pub fn new(alloc: Global, window: u32, blank: T) -> Result<LinkedRanges<T>, OutOfMemory>
         ensures { IfOk result (λ l. l ≡ record { window = window; ranges = [] }) }
     {
-        let blank = Place {
+        let place = Place {
             last: 0,
             next: 0,
-            reported: 0,
-            wait: 0,
+            tag: blank,
         };
-        let places = vec![in alloc; blank; window as usize]?;
+        let mut places = Vec::new(alloc);
+        places.resize(window as usize, place)?;
         Ok(LinkedRanges {
             places,
+            blank,
             head: 0,
             tail: 0,
             hint: 0,
@@ -110,7 +92,7 @@ impl LinkedRanges {
     }
 
     // puts a range before all others
-    pub(crate) fn link_front(&mut self, range: Range)
+    pub(crate) fn link_front(&mut self, range: Range<T>)
         requires { IsWithin self.old.window (range ∷ self.old.ranges) }
         ensures { self.new ≡ record self.old { ranges = range ∷ self.old.ranges } }
     {
@@ -118,8 +100,7 @@ impl LinkedRanges {
         self.places[slot] = Place {
             last: range.last,
             next: self.head,
-            reported: range.reported,
-            wait: range.wait,
+            tag: range.tag,
         };
         self.tail = if self.count == 0 {
             range.first
@@ -131,26 +112,24 @@ impl LinkedRanges {
         self.count += 1;
     }
 
-    // puts a range behind the one that begins at an offset
-    pub(crate) fn link_behind(&mut self, at: u64, range: Range)
-        requires seat { begins_at at self.old.ranges ≡ true }
-        requires room { IsWithin self.old.window (through at self.old.ranges ++ range ∷ beyond at self.old.ranges) }
-        ensures { self.new ≡ record self.old { ranges = through at self.old.ranges ++ range ∷ beyond at self.old.ranges } }
+    // puts a range after the one that begins at an offset
+    pub(crate) fn link_after(&mut self, at: u64, range: Range<T>)
+        requires cursor { begins_at at self.old.ranges ≡ true }
+        requires room { IsWithin self.old.window (with_range_at (Some at) range self.old.ranges) }
+        ensures { self.new ≡ record self.old { ranges = with_range_at (Some at) range self.old.ranges } }
     {
         let slot = slot_of(range.first, self.places.len());
-        let before = slot_of(at, self.places.len());
-        let place = self.places[before];
+        let earlier = slot_of(at, self.places.len());
+        let place = self.places[earlier];
         self.places[slot] = Place {
             last: range.last,
             next: place.next,
-            reported: range.reported,
-            wait: range.wait,
+            tag: range.tag,
         };
-        self.places[before] = Place {
+        self.places[earlier] = Place {
             last: place.last,
             next: range.first,
-            reported: place.reported,
-            wait: place.wait,
+            tag: place.tag,
         };
         self.tail = moved(self.tail, at, range.first);
         self.count += 1;
@@ -168,45 +147,43 @@ impl LinkedRanges {
         self.count -= 1;
     }
 
-    // takes out the range behind the one that begins at an offset
-    pub(crate) fn unlink_behind(&mut self, at: u64)
-        requires seat { begins_at at self.old.ranges ≡ true }
+    // takes out the range after the one that begins at an offset
+    pub(crate) fn unlink_after(&mut self, at: u64)
+        requires cursor { begins_at at self.old.ranges ≡ true }
         requires some { IsSome (first_of (beyond at self.old.ranges)) }
-        ensures { self.new ≡ record self.old { ranges = through at self.old.ranges ++ drop 1 (beyond at self.old.ranges) } }
+        ensures { self.new ≡ record self.old { ranges = without_next at self.old.ranges } }
     {
-        let before = slot_of(at, self.places.len());
-        let place = self.places[before];
+        let earlier = slot_of(at, self.places.len());
+        let place = self.places[earlier];
         let next = place.next;
         let slot = slot_of(next, self.places.len());
-        self.places[before] = Place {
+        self.places[earlier] = Place {
             last: place.last,
             next: self.places[slot].next,
-            reported: place.reported,
-            wait: place.wait,
+            tag: place.tag,
         };
         self.tail = moved(self.tail, next, at);
         self.hint = at;
         self.count -= 1;
     }
 
-    // gives the range that begins at an offset another end and another report
-    pub(crate) fn rewrite(&mut self, range: Range)
-        requires seat { begins_at range.first self.old.ranges ≡ true }
-        requires room { IsWithin self.old.window (ahead range.first self.old.ranges ++ range ∷ beyond range.first self.old.ranges) }
-        ensures { self.new ≡ record self.old { ranges = ahead range.first self.old.ranges ++ range ∷ beyond range.first self.old.ranges } }
+    // gives the range that begins at an offset another end and another tag
+    pub(crate) fn rewrite(&mut self, range: Range<T>)
+        requires cursor { begins_at range.first self.old.ranges ≡ true }
+        requires room { IsWithin self.old.window (with_range range self.old.ranges) }
+        ensures { self.new ≡ record self.old { ranges = with_range range self.old.ranges } }
     {
         let slot = slot_of(range.first, self.places.len());
         let next = self.places[slot].next;
         self.places[slot] = Place {
             last: range.last,
             next,
-            reported: range.reported,
-            wait: range.wait,
+            tag: range.tag,
         };
     }
 
     // the range that begins at an offset
-    pub(crate) fn read(&self, at: u64) -> Range
+    pub(crate) fn read(&self, at: u64) -> Range<T>
         requires { begins_at at self.now.ranges ≡ true }
         ensures value { through at self.now.ranges ≡ ahead at self.now.ranges ++ result ∷ [] }
         ensures first { result.first ≡ at }
@@ -216,19 +193,18 @@ impl LinkedRanges {
         Range {
             first: at,
             last: place.last,
-            reported: place.reported,
-            wait: place.wait,
+            tag: place.tag,
         }
     }
 
-    // the first offset of the range behind a place
-    pub(crate) fn next_of(&self, seat: Option<u64>) -> Option<u64>
-        requires { IsSeat seat self.now.ranges }
-        ensures value { result ≡ first_of (behind seat self.now.ranges) }
+    // the first offset of the range after a place
+    pub(crate) fn next_of(&self, cursor: Option<u64>) -> Option<u64>
+        requires { IsCursor cursor self.now.ranges }
+        ensures value { result ≡ first_of (following cursor self.now.ranges) }
         ensures within { IsWithin self.now.window self.now.ranges }
         ensures room { self.now.window < 2 ^ 64 }
     {
-        let Some(at) = seat else {
+        let Some(at) = cursor else {
             return self.first();
         };
         if at == self.tail {
@@ -241,9 +217,9 @@ impl LinkedRanges {
     // the last range that begins before an offset, which the next search begins with
     pub(crate) fn seek(&mut self, offset: u64) -> Option<u64>
         ensures kept { self.new ≡ self.old }
-        ensures seat { IsSeat result self.old.ranges }
+        ensures cursor { IsCursor result self.old.ranges }
         ensures before { IsBelow offset (before result self.old.ranges) }
-        ensures behind { IsFrom offset (behind result self.old.ranges) }
+        ensures following { IsFrom offset (following result self.old.ranges) }
         ensures within { IsWithin self.old.window self.old.ranges }
         ensures room { self.old.window < 2 ^ 64 }
     {
@@ -271,7 +247,7 @@ impl LinkedRanges {
     }
 }
 
-// the place of an offset in a ring of so many
+// the place of an offset in a ring of this many
 fn slot_of(offset: u64, places: usize) -> usize
     requires { 0 < places }
     ensures value { result ≡ offset % places }

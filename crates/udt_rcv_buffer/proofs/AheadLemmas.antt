@@ -5,13 +5,13 @@ use Rattle.std.specs.List.{range_with_len}
 use Rattle.std.proofs.lemmas.Bool.{cases_lt, lt-ltb, le-ltb, lt-leb, le-leb, eq-eqb, ne_eqb}
 use Rattle.std.proofs.lemmas.List.Folds.{list_any-append}
 use Rattle.std.proofs.lemmas.Option.{slice_get-get_or}
-use Rattle.udt_model.specs.Losses.{Missing, is_missing}
+use Rattle.udt_ranges.specs.Offsets.{has_offset}
 use Rattle.udt_model.specs.ReceiveBlocks.{PlacedBlock, is_taken}
-use Rattle.udt_ranges.specs.declared.links.Range.{Range}
-use Rattle.udt_ranges.specs.Ranges.{Linked, Rises, items_of, items_of_range}
-use Rattle.udt_ranges.specs.Seats.{IsSeat, before, behind, beyond, begins_at}
+use Rattle.udt_ranges.specs.declared.range.Range.{Range}
+use Rattle.udt_ranges.specs.Ranges.{Item, Linked, Rises, items_of, items_of_range}
+use Rattle.udt_ranges.specs.Cursors.{IsCursor, before, following, beyond, begins_at}
 use Rattle.udt_ranges.proofs.ItemLemmas.{item_of, items_of-cons}
-use Rattle.udt_ranges.proofs.SeatLemmas.{is_split}
+use Rattle.udt_ranges.proofs.CursorLemmas.{is_split}
 use Rattle.udt_ranges.proofs.PlaceLemmas.{whole}
 use Rattle.udt_ring.specs.Parts.{Part}
 use Rattle.udt_ring.proofs.TurnLemmas.{slice_get-drop}
@@ -20,22 +20,22 @@ use Rattle.udt_rcv_buffer.specs.PlacedParts.{placed_from, IsUsed, IsUnused}
 use Rattle.udt_rcv_buffer.specs.Taken.{taken_of, HoldsTaken}
 use Rattle.udt_rcv_buffer.proofs.PlacedLemmas.{is_taken-part}
 
--- behind the parts up to this place these ranges hold what is taken, as far as there are parts
-pub record IsAhead (ranges : List Range) (base at : ℕ) (parts : List (Part Head)) : Type 0 where
+-- after the parts up to this place these ranges hold what is taken, as far as there are parts
+pub record IsAhead (ranges : List (Range (Unit {0}))) (base at : ℕ) (parts : List (Part Head)) : Type 0 where
   pub within : at ≤ length parts
   pub rises : Rises (base + at) (base + length parts) ranges
   pub limit : Rises (base + at) (2 ^ 62) ranges
-  pub rest : (offset : ℕ) → base + at ≤ offset → is_missing offset (items_of ranges) ≡ is_taken offset (placed_from base parts)
+  pub rest : (offset : ℕ) → base + at ≤ offset → has_offset offset (items_of ranges) ≡ is_taken offset (placed_from base parts)
 
 -- ---- which offsets ranges hold
 
 -- those of blocks are taken
-is_missing-taken : (offset : ℕ) (blocks : List PlacedBlock) → is_missing offset (taken_of blocks) ≡ is_taken offset blocks
+is_missing-taken : (offset : ℕ) (blocks : List PlacedBlock) → has_offset offset (taken_of blocks) ≡ is_taken offset blocks
 is_missing-taken offset [] = refl
 is_missing-taken offset (block ∷ blocks) = ap (λ (b : Bool). eqb block.offset offset || b) (is_missing-taken offset blocks)
 
 -- of offsets in a row, those from the first one on
-missing_row : (offset from count : ℕ) (r : Range) → is_missing offset (map (item_of r) (range_with_len from count)) ≡ (leb from offset && ltb offset (from + count))
+missing_row : (offset from count : ℕ) (r : Range (Unit {0})) → has_offset offset (map (item_of r) (range_with_len from count)) ≡ (leb from offset && ltb offset (from + count))
 missing_row offset from zero r = elim (cases_lt offset from) [
   | inl lt ↦ rw (lt-leb from offset lt) refl
   | inr le ↦ rw (le-leb from offset le, le-ltb offset (from + 0) (omega (arith, le))) refl
@@ -52,14 +52,14 @@ missing_row offset from (suc count) r =
     ]
 
 -- the first range or the others
-missing_cons : (offset : ℕ) (r : Range) (rs : List Range) → is_missing offset (items_of (r ∷ rs)) ≡ ((leb r.first offset && ltb offset (r.first + (r.last + 1 - r.first))) || is_missing offset (items_of rs))
+missing_cons : (offset : ℕ) (r : Range (Unit {0})) (rs : List (Range (Unit {0}))) → has_offset offset (items_of (r ∷ rs)) ≡ ((leb r.first offset && ltb offset (r.first + (r.last + 1 - r.first))) || has_offset offset (items_of rs))
 missing_cons offset r rs =
-    ap (is_missing offset) (items_of-cons r rs)
-    ∙ list_any-append (λ (m : Missing). eqb m.offset offset) (items_of_range r) (items_of rs)
-    ∙ ap (λ (b : Bool). b || is_missing offset (items_of rs)) (missing_row offset r.first (r.last + 1 - r.first) r)
+    ap (has_offset offset) (items_of-cons r rs)
+    ∙ list_any-append (λ (m : Item (Unit {0})). eqb m.offset offset) (items_of_range r) (items_of rs)
+    ∙ ap (λ (b : Bool). b || has_offset offset (items_of rs)) (missing_row offset r.first (r.last + 1 - r.first) r)
 
 -- none below them
-missing_below : (offset low high : ℕ) (rs : List Range) → Rises low high rs → offset < low → is_missing offset (items_of rs) ≡ false
+missing_below : (offset low high : ℕ) (rs : List (Range (Unit {0}))) → Rises low high rs → offset < low → has_offset offset (items_of rs) ≡ false
 unfolding Rises items_of
 missing_below offset low high [] rises lt = refl
 missing_below offset low high (r ∷ rs) rises lt =
@@ -69,17 +69,17 @@ missing_below offset low high (r ∷ rs) rises lt =
 
 -- ---- the walk begins and ends
 
-pub ahead_first : (l : Linked) (base : ℕ) (parts : List (Part Head)) → HoldsTaken l base parts → IsAhead l.ranges base 0 parts
+pub ahead_first : (l : Linked (Unit {0})) (base : ℕ) (parts : List (Part Head)) → HoldsTaken l base parts → IsAhead l.ranges base 0 parts
 ahead_first l base parts held =
     let e : base + 0 ≡ base = omega arith in
     record {
       within = omega arith;
       rises = rw e held.rises;
       limit = rw e held.limit;
-      rest = λ offset from. ap (is_missing offset) held.items ∙ is_missing-taken offset (placed_from base parts);
+      rest = λ offset from. ap (has_offset offset) held.items ∙ is_missing-taken offset (placed_from base parts);
     }
 
--- behind the last range no part is used
+-- after the last range no part is used
 pub ahead_none : (base at : ℕ) (parts : List (Part Head)) → IsAhead [] base at parts → All IsUnused (drop at parts)
 unfolding items_of
 ahead_none base at parts ahead = λ k d lt.
@@ -90,14 +90,14 @@ ahead_none base at parts ahead = λ k d lt.
 -- ---- the next range
 
 -- its place in the list
-pub next_seat : (seat : Option ℕ) (ranges : List Range) (r : Range) (rs : List Range) (low high : ℕ) → IsSeat seat ranges → Rises low high ranges → behind seat ranges ≡ r ∷ rs
+pub next_cursor : (cursor : Option ℕ) (ranges : List (Range (Unit {0}))) (r : Range (Unit {0})) (rs : List (Range (Unit {0}))) (low high : ℕ) → IsCursor cursor ranges → Rises low high ranges → following cursor ranges ≡ r ∷ rs
     → (begins_at r.first ranges ≡ true) × (beyond r.first ranges ≡ rs)
-next_seat seat ranges r rs low high is_seat rises is =
-    let all : before seat ranges ++ r ∷ rs ≡ ranges = ap (λ xs. before seat ranges ++ xs) (sym is) ∙ whole seat ranges is_seat in
-    let s = is_split r.first low high (before seat ranges) r rs refl (rw all rises) in
+next_cursor cursor ranges r rs low high is_cursor rises is =
+    let all : before cursor ranges ++ r ∷ rs ≡ ranges = ap (λ xs. before cursor ranges ++ xs) (sym is) ∙ whole cursor ranges is_cursor in
+    let s = is_split r.first low high (before cursor ranges) r rs refl (rw all rises) in
     (rw all at s.begins, rw all at s.beyond_is)
 
-module _ (r : Range) (rs : List Range) (base at : ℕ) (parts : List (Part Head)) (ahead : IsAhead (r ∷ rs) base at parts) where
+module _ (r : Range (Unit {0})) (rs : List (Range (Unit {0}))) (base at : ℕ) (parts : List (Part Head)) (ahead : IsAhead (r ∷ rs) base at parts) where
   -- it begins no earlier than the walk stands, and ends within the parts
   pub range_bounds : (base + at ≤ r.first) × (r.first ≤ r.last) × (r.last < base + length parts) × (r.last < 2 ^ 62)
   unfolding Rises
@@ -108,18 +108,18 @@ module _ (r : Range) (rs : List Range) (base at : ℕ) (parts : List (Part Head)
   unfolding Rises
   range_gap place part from to found =
       let rises = ahead.rises in
-      let below : is_missing (base + place) (items_of (r ∷ rs)) ≡ false = missing_below (base + place) r.first (base + length parts) (r ∷ rs) (omega arith, rises.1, rises.2, rises.3) to in
+      let below : has_offset (base + place) (items_of (r ∷ rs)) ≡ false = missing_below (base + place) r.first (base + length parts) (r ∷ rs) (omega arith, rises.1, rises.2, rises.3) to in
       sym (is_taken-part parts base place part found) ∙ sym (ahead.rest (base + place) (omega (arith, from))) ∙ below
 
   -- its own are
   pub range_used : (place : ℕ) (part : Part Head) → r.first ≤ base + place → base + place ≤ r.last → slice_get parts place ≡ Some part → IsUsed part
   range_used place part from to found =
       let start = range_bounds.0 in
-      let here : is_missing (base + place) (items_of (r ∷ rs)) ≡ true =
+      let here : has_offset (base + place) (items_of (r ∷ rs)) ≡ true =
       missing_cons (base + place) r rs ∙ rw (le-leb r.first (base + place) from, lt-ltb (base + place) (r.first + (r.last + 1 - r.first)) (omega (arith, from, to))) refl in
       sym (is_taken-part parts base place part found) ∙ sym (ahead.rest (base + place) (omega (arith, start, from))) ∙ here
 
-  -- and behind it the others are ahead
+  -- and after it the others are ahead
   pub range_next : IsAhead rs base (r.last - base + 1) parts
   unfolding Rises
   range_next =
@@ -136,7 +136,7 @@ module _ (r : Range) (rs : List Range) (base at : ℕ) (parts : List (Part Head)
         limit = rw e limit.3;
         rest = λ offset from.
             let later : r.last + 1 ≤ offset = rw e at from in
-            let others : is_missing offset (items_of (r ∷ rs)) ≡ is_missing offset (items_of rs) =
+            let others : has_offset offset (items_of (r ∷ rs)) ≡ has_offset offset (items_of rs) =
             missing_cons offset r rs ∙ rw (le-leb r.first offset (omega (arith, order, later)), le-ltb offset (r.first + (r.last + 1 - r.first)) (omega (arith, order, later))) refl in
             sym others ∙ ahead.rest offset (omega (arith, start, order, later));
       }

@@ -53,11 +53,11 @@ module _ (b : Inside) (ok : IsReceived b) where
       → take count (drop b.marks.given (joined b.ring.list)) ≡ take count (waiting_of (received_of b))
   run_first count le =
       let front = joined (take b.marks.run b.ring.list) in
-      let behind = joined (drop b.marks.run b.ring.list) in
-      let split : joined b.ring.list ≡ front ++ behind = ap joined (sym (take-append-drop b.marks.run b.ring.list)) ∙ joined-append (take b.marks.run b.ring.list) (drop b.marks.run b.ring.list) in
+      let after = joined (drop b.marks.run b.ring.list) in
+      let split : joined b.ring.list ≡ front ++ after = ap joined (sym (take-append-drop b.marks.run b.ring.list)) ∙ joined-append (take b.marks.run b.ring.list) (drop b.marks.run b.ring.list) in
       let long : b.marks.given ≤ length front = omega (arith, le, ok.marked.bytes) in
       let longer : count ≤ length (drop b.marks.given front) = omega (arith, le, ok.marked.bytes, length-drop b.marks.given front) in
-      rw (split, drop-append-le b.marks.given front behind long, take-append-le count (drop b.marks.given front) behind longer, waiting_is) refl
+      rw (split, drop-append-le b.marks.given front after long, take-append-le count (drop b.marks.given front) after longer, waiting_is) refl
 
   pub all_bytes : b.marks.bytes ≤ length (joined b.ring.list)
   all_bytes = omega (arith, ok.marked.bytes, joined-take_le b.marks.run b.ring.list)
@@ -65,8 +65,8 @@ module _ (b : Inside) (ok : IsReceived b) where
 -- ---- a block is placed
 
 -- an unused part isn't in the run
-behind_run : (marks : Marks) (parts : List (Part Head)) (place : ℕ) (part : Part Head) → IsMarked marks parts → slice_get parts place ≡ Some part → part.head.used ≡ false → marks.run ≤ place
-behind_run marks parts place part m found unused = elim (cases_lt place marks.run) [
+past_run : (marks : Marks) (parts : List (Part Head)) (place : ℕ) (part : Part Head) → IsMarked marks parts → slice_get parts place ≡ Some part → part.head.used ≡ false → marks.run ≤ place
+past_run marks parts place part m found unused = elim (cases_lt place marks.run) [
   | inl lt ↦ absurd (false≢true (sym unused ∙ used_at parts marks.run place part m.used lt found))
   | inr le ↦ le
 ]
@@ -74,7 +74,7 @@ behind_run marks parts place part m found unused = elim (cases_lt place marks.ru
 pub placed_marked : (marks new : Marks) (parts : List (Part Head)) (place : ℕ) (part with : Part Head) → IsMarked marks parts → slice_get parts place ≡ Some part → part.head.used ≡ false
     → new.run ≡ marks.run → new.bytes ≡ marks.bytes → IsMarked new (set parts place with)
 placed_marked marks new parts place part with m found unused run bytes =
-    let same = take-set-le marks.run parts place with (behind_run marks parts place part m found unused) in
+    let same = take-set-le marks.run parts place with (past_run marks parts place part m found unused) in
     record {
       within = omega (arith, run, length-set parts place with, m.within);
       used = rw (run, same) m.used;
@@ -96,13 +96,13 @@ placed_settled given (first ∷ parts) (suc place) part with settled found unuse
 -- the first part stays as it was, where it isn't among them
 pub consumed_settled : (given at count : ℕ) (parts : List (Part Head)) → 0 < at → IsSettled given parts → IsSettled given (consume_parts at count parts)
 unfolding consume_parts
-consumed_settled given at zero parts behind settled = settled
-consumed_settled given at (suc count) parts behind settled = behind_first (consume_parts at count parts) (at + count) (omega (arith, behind)) (consumed_settled given at count parts behind settled)
+consumed_settled given at zero parts after settled = settled
+consumed_settled given at (suc count) parts after settled = past_first (consume_parts at count parts) (at + count) (omega (arith, after)) (consumed_settled given at count parts after settled)
   where
-    behind_first : (ps : List (Part Head)) (i : ℕ) → 0 < i → IsSettled given ps → IsSettled given (set ps i consumed_part)
-    behind_first [] i some h = h
-    behind_first (p ∷ ps) zero some h = absurd (omega (arith, some))
-    behind_first (p ∷ ps) (suc i) some h = h
+    past_first : (ps : List (Part Head)) (i : ℕ) → 0 < i → IsSettled given ps → IsSettled given (set ps i consumed_part)
+    past_first [] i some h = h
+    past_first (p ∷ ps) zero some h = absurd (omega (arith, some))
+    past_first (p ∷ ps) (suc i) some h = h
 
 -- no more was given than is there then
 pub consumed_given : (given at count : ℕ) (parts : List (Part Head)) (marks : Marks) → IsSettled given parts
@@ -148,6 +148,6 @@ pub message_bytes : (parts : List (Part Head)) (first count len : ℕ) → len �
     → (len ≤ length (joined (drop first parts))) × (take len (joined (drop first parts)) ≡ joined (take count (drop first parts)))
 message_bytes parts first count len is =
     let front = joined (take count (drop first parts)) in
-    let behind = joined (drop count (drop first parts)) in
-    let split : joined (drop first parts) ≡ front ++ behind = ap joined (sym (take-append-drop count (drop first parts))) ∙ joined-append (take count (drop first parts)) (drop count (drop first parts)) in
-    (omega (arith, is, joined-take_le count (drop first parts)), rw split (take_at front behind len (sym is)))
+    let after = joined (drop count (drop first parts)) in
+    let split : joined (drop first parts) ≡ front ++ after = ap joined (sym (take-append-drop count (drop first parts))) ∙ joined-append (take count (drop first parts)) (drop count (drop first parts)) in
+    (omega (arith, is, joined-take_le count (drop first parts)), rw split (take_at front after len (sym is)))

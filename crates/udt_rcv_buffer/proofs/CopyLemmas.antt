@@ -5,7 +5,7 @@ use Rattle.std.proofs.lemmas.List.{take_at, drop_at, drop-drop, length-append, l
 use Rattle.udt_rcv_buffer.specs.declared.head.Head.{Head}
 use Rattle.udt_ring.specs.Parts.{Part, joined}
 
--- what is left of two lists behind so many elements
+-- what is left of two lists after this many elements
 drop_parts : (n : ℕ) (xs ys : List ℕ) → drop n (xs ++ ys) ≡ drop (min n (length xs)) xs ++ drop (n - min n (length xs)) ys
 drop_parts zero xs ys = let e : min zero (length xs) ≡ 0 = omega arith in rw e refl
 drop_parts (suc n) [] ys = let e : min (suc n) 0 ≡ 0 = omega arith in let f : suc n - 0 ≡ suc n = omega arith in rw (e, f) refl
@@ -14,7 +14,7 @@ drop_parts (suc n) (x ∷ xs) ys =
     let f : suc n - suc (min n (length xs)) ≡ n - min n (length xs) = omega arith in
     rw (e, f) (drop_parts n xs ys)
 
--- and the first so many of two lists
+-- and the first this many of two lists
 take_parts : (n : ℕ) (xs ys : List ℕ) → take n (xs ++ ys) ≡ take (min (length xs) n) xs ++ take (n - min (length xs) n) ys
 take_parts zero xs ys = let e : min (length xs) 0 ≡ 0 = omega arith in rw e refl
 take_parts (suc n) [] ys = let e : min 0 (suc n) ≡ 0 = omega arith in let f : suc n - 0 ≡ suc n = omega arith in rw (e, f) refl
@@ -41,7 +41,7 @@ coming parts i skip left part unread found is =
     rw all (drop_parts skip part.bytes others ∙ ap (λ (bs : List ℕ). bs ++ later) (sym is)) in
     ap (take left) rest ∙ take_parts left unread later
 
--- behind the last part nothing comes
+-- after the last part nothing comes
 pub none_coming : (parts : List (Part Head)) (i skip left : ℕ) → length parts ≤ i → take left (drop skip (joined (drop i parts))) ≡ []
 none_coming parts i skip left past =
     let none : drop i parts ≡ [] = drop_all i parts past in

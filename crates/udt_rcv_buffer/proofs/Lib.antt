@@ -8,3 +8,4 @@ pub mod WalkLemmas
 pub mod ReceivedLemmas
 pub mod BufferLemmas
 pub mod WholeLemmas
+pub mod MoveLemmas

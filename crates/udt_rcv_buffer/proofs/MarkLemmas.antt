@@ -63,9 +63,9 @@ consumed marks new parts i part m found run bytes =
           let changed = take-set-lt marks.run i parts consumed_part lt in
           let is : new.bytes ≡ marks.bytes - length part.bytes = rw (lt-ltb i marks.run lt) at bytes in
           (rw changed (All-set IsUsed (take marks.run parts) i consumed_part refl m.used), rw changed (omega (arith, is, less, m.bytes)))
-      | inr behind ↦
-          let same = take-set-le marks.run parts i consumed_part behind in
-          let is : new.bytes ≡ marks.bytes = rw (le-ltb i marks.run behind) at bytes in
+      | inr after ↦
+          let same = take-set-le marks.run parts i consumed_part after in
+          let is : new.bytes ≡ marks.bytes = rw (le-ltb i marks.run after) at bytes in
           (rw same m.used, rw same (is ∙ m.bytes))
     ] in
     record {

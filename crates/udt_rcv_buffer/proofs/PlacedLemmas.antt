@@ -19,7 +19,7 @@ placed_from-unused (part ∷ parts) base unused =
     let here : part.head.used ≡ false = All-head IsUnused part parts unused in
     rw here (placed_from-unused parts (base + 1) (All-tail IsUnused part parts unused))
 
--- each block stands at this offset or behind it
+-- each block stands at this offset or after it
 unfoldable pub AreFrom : ℕ → List PlacedBlock → Type 0
 AreFrom low [] = Unit {0}
 AreFrom low (block ∷ blocks) = (low ≤ block.offset) × AreFrom low blocks
@@ -86,7 +86,7 @@ put_block-here true block first others same from =
     rw (le-ltb block.offset first.offset (omega (arith, same)), eq-eqb block.offset first.offset same) refl
 put_block-here false block first others same from = put_block-first block others from
 
--- a later block goes behind the first part's
+-- a later block goes after the first part's
 put_block-later : (used : Bool) (block first : PlacedBlock) (others : List PlacedBlock) → first.offset < block.offset
     → put_block block (cond used (first ∷ others) others) ≡ cond used (first ∷ put_block block others) (put_block block others)
 unfolding put_block

@@ -3,10 +3,10 @@ use Rattle.std.proofs.Common.{◌≡◌, ℕ, zero, suc, ◌+◌, ◌-◌, ◌^�
 use Rattle.std.specs.Prelude.{All}
 use Rattle.std.proofs.lemmas.Bool.{cases_lt, cases_Bool, lt-ltb, le-ltb, eqb-true, eq-eqb, ne_eqb, and_parts, or_right}
 use Rattle.std.proofs.lemmas.List.Elements.{All-head, All-tail, filter-append}
-use Rattle.udt_model.specs.Losses.{Missing, without_missing}
 use Rattle.udt_model.specs.ReceiveBlocks.{PlacedBlock, Beginning, put_block, beginning}
-use Rattle.udt_ranges.specs.declared.links.Range.{Range}
-use Rattle.udt_ranges.specs.Ranges.{Linked, Rises, IsMaximal, items_of, items_of_range}
+use Rattle.udt_ranges.specs.declared.range.Range.{Range}
+use Rattle.udt_ranges.specs.Merging.{IsMaximal, untagged}
+use Rattle.udt_ranges.specs.Ranges.{Item, Linked, Rises, items_of, items_of_range, with_items, without_items, KeepsBounds, KeepsBoundsWith}
 use Rattle.udt_ranges.specs.Offsets.{offsets_in, Rising}
 use Rattle.udt_ranges.proofs.RisingLemmas.{Rises-lower, Rises-higher}
 use Rattle.udt_ranges.proofs.ItemLemmas.{item_of, filter_all, filter_row_none, filter-false, items_of_range-split, Rises-from}
@@ -33,8 +33,8 @@ Rising-taken (part ∷ parts) base =
       | false ↦ Rising-lower (base + 1) base (base + suc (length parts)) (offsets_in (taken_of (placed_from (base + 1) parts))) (omega arith) others
     ]
 
--- so none is below an offset that they begin behind
-none_below : (x low high : ℕ) (ms : List Missing) → x ≤ low → Rising low high (offsets_in ms) → filter (λ m. ltb m.offset x) ms ≡ []
+-- so none is below an offset that they begin after
+none_below : (x low high : ℕ) (ms : List (Item (Unit {0}))) → x ≤ low → Rising low high (offsets_in ms) → filter (λ m. ltb m.offset x) ms ≡ []
 unfolding Rising
 none_below x low high [] le rising = refl
 none_below x low high (m ∷ ms) le rising =
@@ -42,12 +42,12 @@ none_below x low high (m ∷ ms) le rising =
     rw (le-ltb m.offset x (omega (arith, from))) (none_below x (m.offset + 1) high ms (omega (arith, from)) rising.2)
 
 -- and all are above it
-all_above : (x low high : ℕ) (ms : List Missing) → x < low → Rising low high (offsets_in ms) → filter (λ m. ltb x m.offset) ms ≡ ms
+all_above : (x low high : ℕ) (ms : List (Item (Unit {0}))) → x < low → Rising low high (offsets_in ms) → filter (λ m. ltb x m.offset) ms ≡ ms
 unfolding Rising
 all_above x low high [] lt rising = refl
 all_above x low high (m ∷ ms) lt rising =
     let from : low ≤ m.offset = rising.0 in
-    rw (lt-ltb x m.offset (omega (arith, from))) (ap (λ (ns : List Missing). m ∷ ns) (all_above x (m.offset + 1) high ms (omega (arith, from)) rising.2))
+    rw (lt-ltb x m.offset (omega (arith, from))) (ap (λ (ns : List (Item (Unit {0}))). m ∷ ns) (all_above x (m.offset + 1) high ms (omega (arith, from)) rising.2))
 
 -- the run ends below what bounds them
 run_below : (parts : List (Part Head)) (base run high : ℕ) → run ≤ length parts → All IsUsed (take run parts) → base ≤ high → Rising base high (offsets_in (taken_of (placed_from base parts))) → base + run ≤ high
@@ -61,25 +61,25 @@ run_below (part ∷ parts) base (suc run) high within used le rising =
     let others = run_below parts (base + 1) run high (omega (arith, within)) (All-tail IsUsed part (take run parts) used) (omega (arith, below)) there.2 in
     omega (arith, others)
 
-pub run_limit : (marks : Marks) (l : Linked) (base : ℕ) (parts : List (Part Head)) → IsMarked marks parts → HoldsTaken l base parts → base ≤ 2 ^ 62 → base + marks.run ≤ 2 ^ 62
+pub run_limit : (marks : Marks) (l : Linked (Unit {0})) (base : ℕ) (parts : List (Part Head)) → IsMarked marks parts → HoldsTaken l base parts → base ≤ 2 ^ 62 → base + marks.run ≤ 2 ^ 62
 run_limit marks l base parts m held limit =
     run_below parts base marks.run (2 ^ 62) m.within m.used limit (rw held.items at (Rising-items base (2 ^ 62) l.ranges held.limit))
 
 -- ---- offsets are put in
 
--- a range without reports
-abbrev taken_range : ℕ → ℕ → Range
-taken_range from last = record { first = from; last = last; reported = 0; wait = 0 }
+-- a range of taken offsets
+abbrev taken_range : ℕ → ℕ → Range (Unit {0})
+taken_range from last = record { first = from; last = last; tag = tt }
 
 -- what a list has with the offsets of a range in it
-abbrev pub with_taken : ℕ → ℕ → List Missing → List Missing
-with_taken from last ms = filter (λ m. ltb m.offset from) ms ++ items_of_range (taken_range from last) ++ filter (λ m. ltb last m.offset) ms
+abbrev pub with_taken : ℕ → ℕ → List (Item (Unit {0})) → List (Item (Unit {0}))
+with_taken from last is = with_items (taken_range from last) is
 
 -- a range of one offset has that one
-one_item : (at : ℕ) → items_of_range (taken_range at at) ≡ record { offset = at; reported = 0; wait = 0 } ∷ []
+one_item : (at : ℕ) → items_of_range (taken_range at at) ≡ record { offset = at; tag = tt } ∷ []
 one_item at = let one : at + 1 - at ≡ 1 = omega arith in rw one refl
 
--- a block brings its own offset
+-- a block gives its own offset
 pub put_taken : (block : PlacedBlock) (blocks : List PlacedBlock) (low high : ℕ) → Rising low high (offsets_in (taken_of blocks)) → taken_of (put_block block blocks) ≡ with_taken block.offset block.offset (taken_of blocks)
 unfolding Rising put_block
 put_taken block [] low high rising = rw (one_item block.offset) refl
@@ -92,17 +92,17 @@ put_taken block (first ∷ others) low high rising =
     elim (cases_lt at next) [
       | inl before ↦ rw (lt-ltb at next before, none_below at next high (taken_of (first ∷ others)) (omega (arith, before)) all, all_above at (next + 1) high (taken_of others) (omega (arith, before)) rising.2, one_item at) refl
       | inr from_next ↦ elim (cases_lt next at) [
-        | inl behind ↦
+        | inl after ↦
             let others_is = put_taken block others (next + 1) high rising.2 in
-            rw (le-ltb at next from_next, ne_eqb at next (λ e. absurd (omega (arith, e, behind))), lt-ltb next at behind) (ap (λ (ms : List Missing). record { offset = next; reported = 0; wait = 0 } ∷ ms) others_is)
-        | inr not_behind ↦
-            let same : at ≡ next = omega (arith, from_next, not_behind) in
-            rw (le-ltb at next from_next, eq-eqb at next same, le-ltb next at not_behind, none_below at (next + 1) high (taken_of others) (omega (arith, same)) rising.2, all_above at (next + 1) high (taken_of others) (omega (arith, same)) rising.2, one_item at) refl
+            rw (le-ltb at next from_next, ne_eqb at next (λ e. absurd (omega (arith, e, after))), lt-ltb next at after) (ap (λ (ms : List (Item (Unit {0}))). record { offset = next; tag = tt } ∷ ms) others_is)
+        | inr not_after ↦
+            let same : at ≡ next = omega (arith, from_next, not_after) in
+            rw (le-ltb at next from_next, eq-eqb at next same, le-ltb next at not_after, none_below at (next + 1) high (taken_of others) (omega (arith, same)) rising.2, all_above at (next + 1) high (taken_of others) (omega (arith, same)) rising.2, one_item at) refl
       ]
     ]
 
--- a test behind another is both in one
-filter_twice : (p q r : Missing → Bool) (ms : List Missing) → ((m : Missing) → (q m && p m) ≡ r m) → filter p (filter q ms) ≡ filter r ms
+-- a test after another is both in one
+filter_twice : (p q r : Item (Unit {0}) → Bool) (ms : List (Item (Unit {0}))) → ((m : Item (Unit {0})) → (q m && p m) ≡ r m) → filter p (filter q ms) ≡ filter r ms
 filter_twice p q r [] both = refl
 filter_twice p q r (m ∷ ms) both = elim (cases_Bool (q m)) [
   | inl passes ↦
@@ -114,21 +114,21 @@ filter_twice p q r (m ∷ ms) both = elim (cases_Bool (q m)) [
 ]
 
 -- all offsets of a range pass a test
-range_all : (p : Missing → Bool) (from last : ℕ) → from ≤ last → ((m : Missing) → from ≤ m.offset → m.offset < last + 1 → p m ≡ true) → filter p (items_of_range (taken_range from last)) ≡ items_of_range (taken_range from last)
+range_all : (p : Item (Unit {0}) → Bool) (from last : ℕ) → from ≤ last → ((m : Item (Unit {0})) → from ≤ m.offset → m.offset < last + 1 → p m ≡ true) → filter p (items_of_range (taken_range from last)) ≡ items_of_range (taken_range from last)
 unfolding items_of Rises
 range_all p from last order all =
     let row = items_of_range (taken_range from last) in
     let is : filter p (row ++ []) ≡ row ++ [] = filter_all p from (last + 1) (taken_range from last ∷ []) (omega arith, order, omega arith, tt) all in
     rw (append-nil row) at is
 
--- one offset more goes behind the range
-with_taken_more : (from last : ℕ) (ms : List Missing) → from ≤ last → with_taken (last + 1) (last + 1) (with_taken from last ms) ≡ with_taken from (last + 1) ms
+-- one offset more goes after the range
+with_taken_more : (from last : ℕ) (ms : List (Item (Unit {0}))) → from ≤ last → with_taken (last + 1) (last + 1) (with_taken from last ms) ≡ with_taken from (last + 1) ms
 with_taken_more from last ms order =
-    let p : Missing → Bool = λ m. ltb m.offset (last + 1) in
-    let q : Missing → Bool = λ m. ltb (last + 1) m.offset in
-    let below = filter (λ (m : Missing). ltb m.offset from) ms in
+    let p : Item (Unit {0}) → Bool = λ m. ltb m.offset (last + 1) in
+    let q : Item (Unit {0}) → Bool = λ m. ltb (last + 1) m.offset in
+    let below = filter (λ (m : Item (Unit {0})). ltb m.offset from) ms in
     let row = items_of_range (taken_range from last) in
-    let above = filter (λ (m : Missing). ltb last m.offset) ms in
+    let above = filter (λ (m : Item (Unit {0})). ltb last m.offset) ms in
     let below_below : filter p below ≡ below = filter_twice p (λ m. ltb m.offset from) (λ m. ltb m.offset from) ms (λ m. elim (cases_lt m.offset from) [
       | inl lt ↦ rw (lt-ltb m.offset from lt, lt-ltb m.offset (last + 1) (omega (arith, lt, order))) refl
       | inr le ↦ rw (le-ltb m.offset from le) refl
@@ -155,7 +155,7 @@ with_taken_more from last ms order =
     items_of_range-split (taken_range from (last + 1)) (last + 1) (omega (arith, order)) (omega arith) in
     rw (lower, upper, longer) (simp append_assoc)
 
--- parts that are consumed bring their offsets
+-- parts that are consumed take their offsets
 pub consumed_taken : (base at more : ℕ) (parts : List (Part Head)) → at + suc more ≤ length parts
     → taken_of (placed_from base (consume_parts at (suc more) parts)) ≡ with_taken (base + at) (base + at + more) (taken_of (placed_from base parts))
 unfolding consume_parts
@@ -176,7 +176,7 @@ consumed_taken base at (suc more) parts within =
 -- ---- the base moves
 
 -- it moves on
-beginning_later : (blocks : List PlacedBlock) (base given : ℕ) → base ≤ (beginning base given blocks).base
+pub beginning_later : (blocks : List PlacedBlock) (base given : ℕ) → base ≤ (beginning base given blocks).base
 unfolding beginning
 beginning_later [] base given = omega arith
 beginning_later (block ∷ others) base given = elim (cases_Bool (eqb block.offset base && leb (length block.bytes) given)) [
@@ -185,18 +185,18 @@ beginning_later (block ∷ others) base given = elim (cases_Bool (eqb block.offs
 ]
 
 -- nothing is cut below all offsets
-cut_none : (from to low high : ℕ) (ms : List Missing) → to < low → Rising low high (offsets_in ms) → without_missing from to ms ≡ ms
-unfolding without_missing Rising
+cut_none : (from to low high : ℕ) (ms : List (Item (Unit {0}))) → to < low → Rising low high (offsets_in ms) → without_items from to ms ≡ ms
+unfolding without_items Rising
 cut_none from to low high [] lt rising = refl
 cut_none from to low high (m ∷ ms) lt rising =
     let at : low ≤ m.offset = rising.0 in
     let stays : (ltb m.offset from || ltb to m.offset) ≡ true = rw (lt-ltb to m.offset (omega (arith, at, lt))) (or_right (ltb m.offset from) true refl) in
-    rw stays (ap (λ (ns : List Missing). m ∷ ns) (cut_none from to (m.offset + 1) high ms (omega (arith, at, lt)) rising.2))
+    rw stays (ap (λ (ns : List (Item (Unit {0}))). m ∷ ns) (cut_none from to (m.offset + 1) high ms (omega (arith, at, lt)) rising.2))
 
 -- what is cut is what the base passes
 pub cut_taken : (blocks : List PlacedBlock) (from to base given high : ℕ) → from ≤ base → Rising base high (offsets_in (taken_of blocks)) → to + 1 ≡ (beginning base given blocks).base
-    → without_missing from to (taken_of blocks) ≡ taken_of (beginning base given blocks).placed
-unfolding beginning without_missing Rising
+    → without_items from to (taken_of blocks) ≡ taken_of (beginning base given blocks).placed
+unfolding beginning without_items Rising
 cut_taken [] from to base given high le rising is = refl
 cut_taken (block ∷ others) from to base given high le rising is = elim (cases_Bool (eqb block.offset base && leb (length block.bytes) given)) [
   | inl passed ↦
@@ -222,9 +222,9 @@ beginning_stays (block ∷ others) base given is = elim (cases_Bool (eqb block.o
 -- ---- the ranges keep holding what is taken
 
 -- a range of offsets is put in
-pub holds_more : (l new : Linked) (base from last : ℕ) (parts parts' : List (Part Head)) → HoldsTaken l base parts → new.window ≡ l.window → IsMaximal new.ranges
+pub holds_more : (l new : Linked (Unit {0})) (base from last : ℕ) (parts parts' : List (Part Head)) → HoldsTaken l base parts → new.window ≡ l.window → IsMaximal untagged new.ranges
     → base ≤ from → last < base + length parts → last < 2 ^ 62 → length parts' ≡ length parts
-    → ((low high : ℕ) → low ≤ from → last < high → Rises low high l.ranges → Rises low high new.ranges)
+    → KeepsBoundsWith (taken_range from last) l.ranges new.ranges
     → items_of new.ranges ≡ with_taken from last (items_of l.ranges) → taken_of (placed_from base parts') ≡ with_taken from last (taken_of (placed_from base parts))
     → HoldsTaken new base parts'
 holds_more l new base from last parts parts' held window maximal low high limit len within items placed = record {
@@ -236,22 +236,22 @@ holds_more l new base from last parts parts' held window maximal low high limit 
 }
 
 -- there is room for it
-pub near : (l : Linked) (base from last : ℕ) (parts : List (Part Head)) → HoldsTaken l base parts → base ≤ from → last < base + length parts
+pub near : (l : Linked (Unit {0})) (base from last : ℕ) (parts : List (Part Head)) → HoldsTaken l base parts → base ≤ from → last < base + length parts
     → Rises (last + 1 - l.window) (from + l.window) l.ranges
 near l base from last parts held low high =
     Rises-lower base (last + 1 - l.window) (from + l.window) l.ranges (omega (arith, held.window, high))
     (Rises-higher base (base + length parts) (from + l.window) l.ranges (omega (arith, held.window, low)) held.rises)
 
 -- what the base passed is cut
-pub holds_less : (l new : Linked) (base base' given given' : ℕ) (parts parts' : List (Part Head)) → HoldsTaken l base parts → new.window ≡ l.window → IsMaximal new.ranges
-    → base < base' → length parts' ≡ length parts → ((low high : ℕ) → Rises low high l.ranges → Rises low high new.ranges)
-    → items_of new.ranges ≡ without_missing base (base' - 1) (items_of l.ranges)
+pub holds_less : (l new : Linked (Unit {0})) (base base' given given' : ℕ) (parts parts' : List (Part Head)) → HoldsTaken l base parts → new.window ≡ l.window → IsMaximal untagged new.ranges
+    → base < base' → length parts' ≡ length parts → KeepsBounds l.ranges new.ranges
+    → items_of new.ranges ≡ without_items base (base' - 1) (items_of l.ranges)
     → beginning base given (placed_from base parts) ≡ record { base = base'; given = given'; placed = placed_from base' parts' }
     → HoldsTaken new base' parts'
 holds_less l new base base' given given' parts parts' held window maximal moved len within items front =
     let base_is : (beginning base given (placed_from base parts)).base ≡ base' = ap (λ (b : Beginning). b.base) front in
     let cut = cut_taken (placed_from base parts) base (base' - 1) base given (base + length parts) (omega arith) (Rising-taken parts base) (omega (arith, base_is, moved)) in
-    let all : items_of new.ranges ≡ taken_of (placed_from base' parts') = items ∙ ap (without_missing base (base' - 1)) held.items ∙ cut ∙ ap (λ (b : Beginning). taken_of b.placed) front in
+    let all : items_of new.ranges ≡ taken_of (placed_from base' parts') = items ∙ ap (without_items base (base' - 1)) held.items ∙ cut ∙ ap (λ (b : Beginning). taken_of b.placed) front in
     let rises = within base (base + length parts) held.rises in
     let rising : Rising base' (base' + length parts') (offsets_in (items_of new.ranges)) = rw all (Rising-taken parts' base') in
     let from = IsFrom-offsets base' base (base + length parts) (base' + length parts') new.ranges rises rising in
@@ -264,7 +264,7 @@ holds_less l new base base' given given' parts parts' held window maximal moved 
     }
 
 -- nothing was passed
-pub holds_same : (l : Linked) (base base' given given' : ℕ) (parts parts' : List (Part Head)) → HoldsTaken l base parts → base' ≡ base → length parts' ≡ length parts
+pub holds_same : (l : Linked (Unit {0})) (base base' given given' : ℕ) (parts parts' : List (Part Head)) → HoldsTaken l base parts → base' ≡ base → length parts' ≡ length parts
     → beginning base given (placed_from base parts) ≡ record { base = base'; given = given'; placed = placed_from base' parts' }
     → HoldsTaken l base' parts'
 holds_same l base base' given given' parts parts' held same len front =

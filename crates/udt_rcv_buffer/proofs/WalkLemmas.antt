@@ -329,7 +329,7 @@ sought-gap base from to gapless begun parts lt within unused =
     let all : from + suc (to - from - 1) ≡ to = omega (arith, lt) in
     rw all at (missing_some (to - from - 1) base from gapless begun parts (omega (arith, all, within)) (λ at part low high there. unused at part low (omega (arith, all, high)) there))
 
--- behind the last part that is used nothing is found
+-- after the last part that is used nothing is found
 pub sought-past : (base place : ℕ) (gapless : Bool) (begun : Option Begun) (parts : List (Part Head)) → All IsUnused (drop place parts) → sought base place gapless begun parts ≡ None
 unfolding message_from up_to_last
 sought-past base place gapless None parts unused = rw (placed_from-unused (drop place parts) (base + place) unused) refl

@@ -11,8 +11,8 @@ use Rattle.udt_rcv_buffer.specs.Whole.{IsRun, Ends, Goes, ShownIsWhole}
 -- a message that goes up to a last block, by its blocks
 record FromRun (offset number : ℕ) (block : PlacedBlock) (others : List PlacedBlock) (m : WholeMessage) : Type 0 where
   rest : List PlacedBlock
-  behind : List PlacedBlock
-  blocks : others ≡ rest ++ behind
+  after : List PlacedBlock
+  blocks : others ≡ rest ++ after
   run : IsRun number offset (block ∷ rest)
   first : m.first ≡ offset
   count : m.count ≡ suc (length rest)
@@ -32,7 +32,7 @@ run_more offset number block next others m (Some w) later is at unconsumed same 
     let same_m = same_Some (with_first block w) m is in
     record {
       rest = next ∷ rest.rest;
-      behind = rest.behind;
+      after = rest.after;
       blocks = ap (λ (bs : List PlacedBlock). next ∷ bs) rest.blocks;
       run = rw (← at) (Goes block (next ∷ rest.rest) unconsumed same more (rw at rest.run));
       first = sym (ap (λ (x : WholeMessage). x.first) same_m) ∙ at;
@@ -59,7 +59,7 @@ run_by offset number block others m on is = elim (cases_Bool (goes_on offset num
             let e = same_Some (record { first = offset; count = 1; bytes = block.bytes }) m found in
             record {
               rest = [];
-              behind = others;
+              after = others;
               blocks = refl;
               run = rw (← at) (Ends block unconsumed same last);
               first = sym (ap (λ (w : WholeMessage). w.first) e);
@@ -82,8 +82,8 @@ record Picks (offset : ℕ) (gapless : Bool) (blocks : List PlacedBlock) (m : Wh
   before : List PlacedBlock
   first : PlacedBlock
   others : List PlacedBlock
-  behind : List PlacedBlock
-  placed : blocks ≡ before ++ (first ∷ others ++ behind)
+  after : List PlacedBlock
+  placed : blocks ≡ before ++ (first ∷ others ++ after)
   begins : first.flags.first ≡ true
   run : IsRun first.flags.message m.first (first ∷ others)
   count : m.count ≡ length (first ∷ others)
@@ -91,14 +91,14 @@ record Picks (offset : ℕ) (gapless : Bool) (blocks : List PlacedBlock) (m : Wh
   gapless_so_far : first.flags.order ≡ true → gapless ≡ true
   in_order : first.flags.order ≡ true → (n : ℕ) → offset ≤ n → n < m.first → is_taken n blocks ≡ true
 
-taken_later : (n : ℕ) (block : PlacedBlock) (others : List PlacedBlock) → is_taken n others ≡ true → is_taken n (block ∷ others) ≡ true
+pub taken_later : (n : ℕ) (block : PlacedBlock) (others : List PlacedBlock) → is_taken n others ≡ true → is_taken n (block ∷ others) ≡ true
 taken_later n block others taken = rw taken (or_true (eqb block.offset n))
   where
     or_true : (b : Bool) → (b || true) ≡ true
     or_true true = refl
     or_true false = refl
 
-taken_here : (block : PlacedBlock) (others : List PlacedBlock) (n : ℕ) → block.offset ≡ n → is_taken n (block ∷ others) ≡ true
+pub taken_here : (block : PlacedBlock) (others : List PlacedBlock) (n : ℕ) → block.offset ≡ n → is_taken n (block ∷ others) ≡ true
 taken_here block others n at = rw (eq-eqb block.offset n at) refl
 
 -- it is among the later blocks
@@ -107,7 +107,7 @@ picks_later offset gapless block others m p = record {
   before = block ∷ p.before;
   first = p.first;
   others = p.others;
-  behind = p.behind;
+  after = p.after;
   placed = ap (λ (bs : List PlacedBlock). block ∷ bs) p.placed;
   begins = p.begins;
   run = p.run;
@@ -133,7 +133,7 @@ picks_here offset gapless block others m found begun =
       before = [];
       first = block;
       others = run.rest;
-      behind = run.behind;
+      after = run.after;
       placed = ap (λ (bs : List PlacedBlock). block ∷ bs) run.blocks;
       begins = parts.0;
       run = subst (λ (n : ℕ). IsRun block.flags.message n (block ∷ run.rest)) (sym run.first) run.run;
@@ -176,7 +176,7 @@ shown_is_whole r m is =
       before = p.before;
       first = p.first;
       others = p.others;
-      behind = p.behind;
+      after = p.after;
       placed = p.placed;
       begins = p.begins;
       run = p.run;

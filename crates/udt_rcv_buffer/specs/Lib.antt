@@ -6,3 +6,4 @@ pub mod Buffers
 pub mod Answers
 pub mod Room
 pub mod Whole
+pub mod Moves

@@ -5,7 +5,7 @@ use Rattle.udt_rcv_buffer.specs.declared.head.Head.{Head}
 use Rattle.udt_ring.specs.Parts.{Part, joined}
 use Rattle.udt_rcv_buffer.specs.PlacedParts.{IsUsed, IsUnused}
 
--- the parts of the run are used and have so many bytes
+-- the parts of the run are used and have this many bytes
 pub record IsMarked (marks : Marks) (parts : List (Part Head)) : Type 0 where
   pub within : marks.run ≤ length parts
   pub used : All IsUsed (take marks.run parts)

@@ -23,7 +23,7 @@ begun_then (Some b) head place len gapless =
     then Some (record { first = b.first; number = b.number; len = b.len + len })
     else begins head place len gapless
 
--- so many parts from this one on, as a message
+-- this many parts from this one on, as a message
 abbrev pub message_in : ℕ → ℕ → ℕ → List (Part Head) → WholeMessage
 message_in base first count parts =
     record { first = base + first; count = count; bytes = joined (take count (drop first parts)) }
@@ -37,7 +37,8 @@ abbrev pub sought : ℕ → ℕ → Bool → Option Begun → List (Part Head) �
 sought base place gapless None parts = message_from (base + place) gapless (placed_from (base + place) (drop place parts))
 sought base place gapless (Some b) parts =
     option_or
-    (option_map (followed_by (message_in base b.first (place - b.first) parts)) (up_to_last (base + place) b.number (placed_from (base + place) (drop place parts))))
+    (option_map (followed_by (message_in base b.first (place - b.first) parts))
+    (up_to_last (base + place) b.number (placed_from (base + place) (drop place parts))))
     (message_from (base + place) gapless (placed_from (base + place) (drop place parts)))
 
 -- a message that was begun has bytes of the parts from its first on
@@ -49,7 +50,7 @@ pub record IsBegun (place : ℕ) (parts : List (Part Head)) (b : Begun) : Type 0
 abbrev pub MayHaveBegun : Option Begun → ℕ → List (Part Head) → Type 0
 MayHaveBegun begun place parts = (b : Begun) → begun ≡ Some b → IsBegun place parts b
 
--- so many parts, all before this place, with so many bytes
+-- this many parts, all before this place, with this many bytes
 pub record IsFound (found : Found) (to : ℕ) (parts : List (Part Head)) : Type 0 where
   pub some : 0 < found.count
   pub within : found.first + found.count ≤ to

@@ -27,7 +27,7 @@ placed_from offset (part ∷ parts) =
 abbrev pub consumed_part : Part Head
 consumed_part = record { head = CONSUMED; bytes = [] }
 
--- the parts with so many from this place on consumed
+-- the parts with this many from this place on consumed
 unfoldable pub consume_parts : ℕ → ℕ → List (Part Head) → List (Part Head)
 consume_parts at zero parts = parts
 consume_parts at (suc count) parts = slice_set (consume_parts at count parts) (at + count) consumed_part
@@ -37,7 +37,7 @@ pub record IsGiven (given : ℕ) (part : Part Head) : Type 0 where
   pub block : part.head.used ≡ true → given < length part.bytes
   pub none : part.head.used ≡ false → given ≡ 0
 
--- so many bytes of the first part were given
+-- this many bytes of the first part were given
 abbrev pub IsSettled : ℕ → List (Part Head) → Type 0
 IsSettled given [] = given ≡ 0
 IsSettled given (part ∷ parts) = IsGiven given part

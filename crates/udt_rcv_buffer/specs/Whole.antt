@@ -2,10 +2,13 @@
 use Rattle.std.specs.Prelude.{◌≡◌, ℕ, ◌+◌, ◌<◌, ◌≤◌, true, false, List, [], ◌∷◌, ◌++◌, length, flat_map, Some}
 use Rattle.udt_model.specs.ReceiveBlocks.{PlacedBlock, ReceiveBlocks, WholeMessage, is_taken, next_message}
 
--- the blocks follow one another from this offset on, are unconsumed and of one message, and the last of them, alone, has the last flag
+-- the blocks follow one another from this offset on, are unconsumed and of one message, and the last of them, alone,
+-- has the last flag
 pub data IsRun (number : ℕ) : ℕ → List PlacedBlock → Type 0 where
-  Ends : (block : PlacedBlock) → block.consumed ≡ false → block.flags.message ≡ number → block.flags.last ≡ true → IsRun number block.offset (block ∷ [])
-  Goes : (block : PlacedBlock) (others : List PlacedBlock) → block.consumed ≡ false → block.flags.message ≡ number → block.flags.last ≡ false
+  Ends : (block : PlacedBlock) → block.consumed ≡ false → block.flags.message ≡ number → block.flags.last ≡ true
+      → IsRun number block.offset (block ∷ [])
+  Goes : (block : PlacedBlock) (others : List PlacedBlock) → block.consumed ≡ false → block.flags.message ≡ number
+      → block.flags.last ≡ false
       → IsRun number (block.offset + 1) others → IsRun number block.offset (block ∷ others)
 
 -- the message's bytes are those of blocks that stand among the placed ones
@@ -13,8 +16,8 @@ pub record IsWhole (r : ReceiveBlocks) (m : WholeMessage) : Type 0 where
   pub before : List PlacedBlock
   pub first : PlacedBlock
   pub others : List PlacedBlock
-  pub behind : List PlacedBlock
-  pub placed : r.placed ≡ before ++ (first ∷ others ++ behind)
+  pub after : List PlacedBlock
+  pub placed : r.placed ≡ before ++ (first ∷ others ++ after)
   pub begins : first.flags.first ≡ true
   pub run : IsRun first.flags.message m.first (first ∷ others)
   pub count : m.count ≡ length (first ∷ others)

@@ -26,7 +26,7 @@ pub struct RcvBuffer {
     base: u64,
     marks: Marks,
     // the offsets of all parts that are used
-    taken: LinkedRanges,
+    taken: LinkedRanges<()>,
 }
 
 impl Model for RcvBuffer {
@@ -45,7 +45,7 @@ impl RcvBuffer {
     ghost use Rattle.udt_rcv_buffer.specs.Answers.{placed_as, got_of, shown_in};
     ghost use Rattle.udt_rcv_buffer.specs.Room.{KeepsRoom};
 
-    /// Takes the memory of so many blocks with so many bytes each. `start` is the first offset.
+    /// Takes the memory of this many blocks with this many bytes each. `start` is the first offset.
     pub fn new(
         alloc: Global,
         blocks: u32,
@@ -67,7 +67,7 @@ impl RcvBuffer {
             run: 0,
             bytes: 0,
         };
-        let taken = LinkedRanges::new(alloc, blocks)?;
+        let taken = LinkedRanges::new(alloc, blocks, ())?;
         Ok(RcvBuffer {
             ring,
             base: start,
@@ -106,8 +106,7 @@ impl RcvBuffer {
         self.taken.insert(Range {
             first: offset,
             last: offset,
-            reported: 0,
-            wait: 0,
+            tag: (),
         });
         Placed::New
     }

@@ -6,7 +6,7 @@ ghost use Rattle.udt_ring.specs.Parts.{joined};
 use crate::head::Head;
 use udt_ring::{Ring, write};
 
-/// Copies so many bytes of the parts from this one on, behind those that are skipped.
+/// Copies this many bytes of the parts from this one on, after those that are skipped.
 pub fn copy_out(ring: &Ring<Head>, first: usize, skip: usize, count: usize, into: &mut [u8])
     requires first { first ≤ length ring.now.list }
     requires few { length ring.now.list ≤ 2 ^ 32 }

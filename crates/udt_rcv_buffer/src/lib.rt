@@ -13,7 +13,7 @@ mod tests;
 
 pub use answers::{Got, Placed};
 pub use buffer::RcvBuffer;
-pub use laws::shown_is_whole;
+pub use laws::{base_moves, shown_is_whole};
 use std::alloc::AllocError;
 pub use udt_model::Flags;
 

@@ -56,11 +56,11 @@ impl Marks {
         }
     }
 
-    /// Consumes so many parts from a place on, where the first part has the base.
+    /// Consumes this many parts from a place on, where the first part has the base.
     pub fn consume(
         &mut self,
         ring: &mut Ring<Head>,
-        taken: &mut LinkedRanges,
+        taken: &mut LinkedRanges<()>,
         base: u64,
         at: usize,
         count: usize,
@@ -92,13 +92,12 @@ impl Marks {
         taken.insert(Range {
             first,
             last: first + (count as u64 - 1),
-            reported: 0,
-            wait: 0,
+            tag: (),
         });
     }
 
     /// Frees the first parts, as far as all their bytes were given, and counts the base on.
-    pub fn settle(&mut self, ring: &mut Ring<Head>, taken: &mut LinkedRanges, base: &mut u64)
+    pub fn settle(&mut self, ring: &mut Ring<Head>, taken: &mut LinkedRanges<()>, base: &mut u64)
         requires marked { IsMarked self.old ring.old.list }
         requires run { EndsRun self.old.run ring.old.list }
         requires given { self.old.given ≤ self.old.bytes }

@@ -10,7 +10,7 @@ use crate::head::Head;
 use udt_ranges::LinkedRanges;
 use udt_ring::Ring;
 
-/// A message of which all blocks so far stand one behind another: the part of its first block, its
+/// A message of which all blocks so far stand one after another: the part of its first block, its
 /// number, and its bytes.
 #[derive(Clone, Copy)]
 pub struct Begun {
@@ -97,28 +97,28 @@ fn pass(
 
 /// The message that is read next. The first part has the base, and `taken` the offsets of the parts
 /// that are used. A gap between two ranges is passed in one step.
-pub fn next_message(ring: &Ring<Head>, taken: &LinkedRanges, base: u64) -> Option<Found>
+pub fn next_message(ring: &Ring<Head>, taken: &LinkedRanges<()>, base: u64) -> Option<Found>
     requires held { HoldsTaken taken.now base ring.now.list }
     ensures some { IfSome result (λ found. IsNext found base ring.now.list) }
     ensures none { IfNone result (message_from base true (placed_from base ring.now.list) ≡ None) }
     ensures limit { IfSome result (λ found. base + found.first + found.count ≤ 2 ^ 62) }
 {
-    let mut seat = None;
+    let mut cursor = None;
     let mut at = 0;
     let mut gapless = true;
     let mut begun = None;
-    while let Some(range) = taken.next_range(seat) {
+    while let Some(range) = taken.next_range(cursor) {
         let first = (range.first - base) as usize;
-        let behind = (range.last - base) as usize + 1;
+        let end = (range.last - base) as usize + 1;
         if at < first {
             gapless = false;
             begun = None;
         }
-        if let Some(found) = pass(ring, first, behind, gapless, &mut begun) {
+        if let Some(found) = pass(ring, first, end, gapless, &mut begun) {
             return Some(found);
         }
-        seat = Some(range.first);
-        at = behind;
+        cursor = Some(range.first);
+        at = end;
     }
     None
 }

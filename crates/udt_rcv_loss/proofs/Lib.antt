@@ -1,4 +1,6 @@
+pub mod ListedLemmas
 pub mod MissingLemmas
 pub mod RunLemmas
 pub mod ReportLemmas
 pub mod PlainLemmas
+pub mod DueLemmas

@@ -3,41 +3,43 @@ use Rattle.std.proofs.Common.{◌≡◌, ℕ, zero, suc, ◌+◌, ◌-◌, ◌<�
 use Rattle.std.specs.List.{range_with_len}
 use Rattle.std.proofs.lemmas.Bool.{lt-ltb, le-ltb, ne_eqb, eq-eqb, cases_lt, cases_order, cases_eq, or_right}
 use Rattle.udt_model.specs.Losses.{Missing, MissingRange, LostRange, after_report, reported_at, is_within, without_missing, with_missing, is_missing, missing_ranges, before_missing}
-use Rattle.udt_ranges.specs.declared.links.Range.{Range}
-use Rattle.udt_ranges.specs.Ranges.{Rises, IsWithin, IsMaximal, IsApart, items_of, items_of_range}
-use Rattle.udt_ranges.specs.Offsets.{offsets_in, Rising, least}
+use Rattle.udt_ranges.specs.declared.range.Range.{Range}
+use Rattle.udt_ranges.specs.Ranges.{Rises, IsWithin}
+use Rattle.udt_ranges.specs.Offsets.{Rising, least}
 use Rattle.udt_ranges.proofs.RisingLemmas.{Rises-lower, Rises-higher}
-use Rattle.udt_ranges.proofs.ItemLemmas.{item_of, items_of-cons}
-use Rattle.udt_ranges.proofs.OffsetLemmas.{Rising-items}
-use Rattle.udt_rcv_loss.specs.Absent.{IsInWindow, AllBelow, AllFrom, first_or}
+use Rattle.udt_rcv_loss.specs.Absent.{offsets_in, IsInWindow, AllBelow, AllFrom, first_or}
+use Rattle.udt_ranges.specs.Merging.{IsApart, IsMaximal}
+use Rattle.udt_rcv_loss.specs.declared.last_report.LastReport.{LastReport}
+use Rattle.udt_rcv_loss.specs.Tags.{missing_at, missing_in, missing_in_range, same_report}
+use Rattle.udt_rcv_loss.proofs.ListedLemmas.{Rising-missing, missing_in-cons}
 
 -- the first offset begins the first range
-first_or-cons : (other : ℕ) (r : Range) (rs : List Range) → r.first ≤ r.last → first_or other (items_of (r ∷ rs)) ≡ r.first
-unfolding items_of
+first_or-cons : (other : ℕ) (r : Range LastReport) (rs : List (Range LastReport)) → r.first ≤ r.last → first_or other (missing_in (r ∷ rs)) ≡ r.first
+unfolding missing_in
 first_or-cons other r rs order =
     let e : r.last + 1 - r.first ≡ suc (r.last - r.first) = omega arith in
-    ap (λ n. first_or other (map (item_of r) (range_with_len r.first n) ++ items_of rs)) e
+    ap (λ n. first_or other (map (missing_at r) (range_with_len r.first n) ++ missing_in rs)) e
 
 -- ranges within a window have their offsets within it
-pub IsInWindow-items : (w : ℕ) (rs : List Range) → IsWithin w rs → IsInWindow (record { window = w; missing = items_of rs })
+pub IsInWindow-items : (w : ℕ) (rs : List (Range LastReport)) → IsWithin w rs → IsInWindow (record { window = w; missing = missing_in rs })
 unfolding IsWithin
-IsInWindow-items w [] h = unfold items_of Rising in tt
+IsInWindow-items w [] h = unfold missing_in Rising in tt
 IsInWindow-items w (r ∷ rs) h =
     let first = first_or-cons 0 r rs (unfold Rises in h.1) in
-    subst (λ k. Rising k (k + w) (offsets_in (items_of (r ∷ rs)))) (sym first) (Rising-items r.first (r.first + w) (r ∷ rs) h)
+    subst (λ k. Rising k (k + w) (offsets_in (missing_in (r ∷ rs)))) (sym first) (Rising-missing r.first (r.first + w) (r ∷ rs) h)
 
 -- where all offsets lie below a range, all ranges lie within a window with it
-below_first : (from : ℕ) (r : Range) (rs : List Range) → r.first ≤ r.last → AllBelow from (items_of (r ∷ rs)) → r.first < from
-unfolding items_of AllBelow
+below_first : (from : ℕ) (r : Range LastReport) (rs : List (Range LastReport)) → r.first ≤ r.last → AllBelow from (missing_in (r ∷ rs)) → r.first < from
+unfolding missing_in AllBelow
 below_first from r rs order below =
     let e : r.last + 1 - r.first ≡ suc (r.last - r.first) = omega arith in
-    let h = subst (λ n. AllBelow from (map (item_of r) (range_with_len r.first n) ++ items_of rs)) e below in h.0
+    let h = subst (λ n. AllBelow from (map (missing_at r) (range_with_len r.first n) ++ missing_in rs)) e below in h.0
 
-near_none : (from to w : ℕ) → to < first_or from (items_of []) + w → (to < from + w) × Rises (to + 1 - w) (from + w) []
-unfolding items_of Rises
+near_none : (from to w : ℕ) → to < first_or from (missing_in []) + w → (to < from + w) × Rises {T = LastReport} (to + 1 - w) (from + w) []
+unfolding missing_in Rises
 near_none from to w room = (room, tt)
 
-pub near_from : (from to w : ℕ) (rs : List Range) → IsWithin w rs → AllBelow from (items_of rs) → to < first_or from (items_of rs) + w → (to < from + w) × Rises (to + 1 - w) (from + w) rs
+pub near_from : (from to w : ℕ) (rs : List (Range LastReport)) → IsWithin w rs → AllBelow from (missing_in rs) → to < first_or from (missing_in rs) + w → (to < from + w) × Rises (to + 1 - w) (from + w) rs
 unfolding IsWithin
 near_from from to w [] h below room = near_none from to w room
 near_from from to w (r ∷ rs) h below room =
@@ -57,11 +59,11 @@ unfolding AllBelow
 filter_above from to [] le h = refl
 filter_above from to (m ∷ ms) le h = rw (le-ltb to m.offset (omega (arith, h.0))) (filter_above from to ms le h.1)
 
--- a range put behind all others
-pub with_is : (from to now : ℕ) (ms : List Missing) → from ≤ to → AllBelow from ms → filter (λ m. ltb m.offset from) ms ++ items_of_range (record { first = from; last = to; reported = now; wait = 2 }) ++ filter (λ m. ltb to m.offset) ms ≡ with_missing from to now ms
+-- a range put after all others
+pub with_is : (from to now : ℕ) (ms : List Missing) → from ≤ to → AllBelow from ms → filter (λ m. ltb m.offset from) ms ++ missing_in_range (record { first = from; last = to; tag = record { reported = now; wait = 2 } }) ++ filter (λ m. ltb to m.offset) ms ≡ with_missing from to now ms
 unfolding with_missing
 with_is from to now ms le below =
-    rw (filter_below from ms below, filter_above from to ms le below) (append-nil (ms ++ items_of_range (record { first = from; last = to; reported = now; wait = 2 })))
+    rw (filter_below from ms below, filter_above from to ms le below) (append-nil (ms ++ missing_in_range (record { first = from; last = to; tag = record { reported = now; wait = 2 } })))
 
 -- nothing lies in no range
 outside_all : (from to n : ℕ) → to < from → (ltb n from || ltb to n) ≡ true
@@ -103,20 +105,20 @@ listed_is n k (m ∷ ms) h =
     ]
 
 -- the report of a range
-abbrev pub missing_of : Range → MissingRange
-missing_of r = record { first = r.first; last = r.last; reported = r.reported; wait = r.wait }
+abbrev pub missing_of : Range LastReport → MissingRange
+missing_of r = record { first = r.first; last = r.last; reported = r.tag.reported; wait = r.tag.wait }
 
 -- no range goes on from an offset with this report
-Beyond : Range → ℕ → List MissingRange → Type 0
+Beyond : Range LastReport → ℕ → List MissingRange → Type 0
 Beyond r k [] = Unit {0}
-Beyond r k (y ∷ ys) = (y.first == k && y.reported == r.reported && y.wait == r.wait) ≡ false
+Beyond r k (y ∷ ys) = (y.first == k && y.reported == r.tag.reported && y.wait == r.tag.wait) ≡ false
 
-before_beyond : (r : Range) (a : ℕ) (ys : List MissingRange) → Beyond r (a + 1) ys → before_missing (item_of r a) ys ≡ record { first = a; last = a; reported = r.reported; wait = r.wait } ∷ ys
+before_beyond : (r : Range LastReport) (a : ℕ) (ys : List MissingRange) → Beyond r (a + 1) ys → before_missing (missing_at r a) ys ≡ record { first = a; last = a; reported = r.tag.reported; wait = r.tag.wait } ∷ ys
 unfolding Beyond
 before_beyond r a [] h = refl
 before_beyond r a (y ∷ ys) h = rw h refl
 
-missing_ranges-row : (r : Range) (a n : ℕ) (ms : List Missing) (ys : List MissingRange) → missing_ranges ms ≡ ys → Beyond r (a + n + 1) ys → missing_ranges (map (item_of r) (range_with_len a (suc n)) ++ ms) ≡ record { first = a; last = a + n; reported = r.reported; wait = r.wait } ∷ ys
+missing_ranges-row : (r : Range LastReport) (a n : ℕ) (ms : List Missing) (ys : List MissingRange) → missing_ranges ms ≡ ys → Beyond r (a + n + 1) ys → missing_ranges (map (missing_at r) (range_with_len a (suc n)) ++ ms) ≡ record { first = a; last = a + n; reported = r.tag.reported; wait = r.tag.wait } ∷ ys
 unfolding missing_ranges
 missing_ranges-row r a zero ms ys is h =
     let e : a + 0 ≡ a = omega arith in
@@ -124,7 +126,7 @@ missing_ranges-row r a zero ms ys is h =
 missing_ranges-row r a (suc n) ms ys is h =
     let e : a + suc n ≡ a + 1 + n = omega arith in
     let rest = missing_ranges-row r (a + 1) n ms ys is (rw e at h) in
-    rw (rest, eq-eqb (a + 1) (a + 1) refl, eq-eqb r.reported r.reported refl, eq-eqb r.wait r.wait refl, e) refl
+    rw (rest, eq-eqb (a + 1) (a + 1) refl, eq-eqb r.tag.reported r.tag.reported refl, eq-eqb r.tag.wait r.tag.wait refl, e) refl
 
 eqb_comm : (a b : ℕ) → eqb a b ≡ eqb b a
 eqb_comm a b =
@@ -133,27 +135,32 @@ eqb_comm a b =
       | inr differs ↦ rw (ne_eqb a b differs, ne_eqb b a (λ same. differs (sym same))) refl
     ]
 
-beyond_apart : (r : Range) (rs : List Range) → IsApart r rs → Beyond r (r.last + 1) (map missing_of rs)
+and_assoc : (a b c : Bool) → (a && (b && c)) ≡ ((a && b) && c)
+and_assoc true b c = refl
+and_assoc false b c = refl
+
+beyond_apart : (r : Range LastReport) (rs : List (Range LastReport)) → IsApart same_report r rs → Beyond r (r.last + 1) (map missing_of rs)
 unfolding Beyond
 beyond_apart r [] h = tt
 beyond_apart r (s ∷ rs) h =
-    rw (eqb_comm s.first (r.last + 1), eqb_comm s.reported r.reported, eqb_comm s.wait r.wait) h
+    rw (eqb_comm s.first (r.last + 1), eqb_comm s.tag.reported r.tag.reported, eqb_comm s.tag.wait r.tag.wait)
+    (sym (and_assoc (eqb (r.last + 1) s.first) (eqb r.tag.reported s.tag.reported) (eqb r.tag.wait s.tag.wait)) ∙ h)
 
-missing_ranges-step : (low high : ℕ) (r : Range) (rs : List Range) → Rises low high (r ∷ rs) → IsApart r rs → missing_ranges (items_of rs) ≡ map missing_of rs → missing_ranges (items_of (r ∷ rs)) ≡ map missing_of (r ∷ rs)
+missing_ranges-step : (low high : ℕ) (r : Range LastReport) (rs : List (Range LastReport)) → Rises low high (r ∷ rs) → IsApart same_report r rs → missing_ranges (missing_in rs) ≡ map missing_of rs → missing_ranges (missing_in (r ∷ rs)) ≡ map missing_of (r ∷ rs)
 unfolding Rises
 missing_ranges-step low high r rs h apart rest =
     let e : r.last + 1 - r.first ≡ suc (r.last - r.first) = omega arith in
     let f : r.first + (r.last - r.first) ≡ r.last = omega arith in
     let gap = subst (λ k. Beyond r (k + 1) (map missing_of rs)) (sym f) (beyond_apart r rs apart) in
-    ap missing_ranges (items_of-cons r rs)
-    ∙ ap (λ n. missing_ranges (map (item_of r) (range_with_len r.first n) ++ items_of rs)) e
-    ∙ missing_ranges-row r r.first (r.last - r.first) (items_of rs) (map missing_of rs) rest gap
-    ∙ ap (λ k. record { first = r.first; last = k; reported = r.reported; wait = r.wait } ∷ map missing_of rs) f
+    ap missing_ranges (missing_in-cons r rs)
+    ∙ ap (λ n. missing_ranges (map (missing_at r) (range_with_len r.first n) ++ missing_in rs)) e
+    ∙ missing_ranges-row r r.first (r.last - r.first) (missing_in rs) (map missing_of rs) rest gap
+    ∙ ap (λ k. record { first = r.first; last = k; reported = r.tag.reported; wait = r.tag.wait } ∷ map missing_of rs) f
 
 -- ranges that are as long as they can be are the ranges of their packets
-pub missing_ranges-items : (low high : ℕ) (rs : List Range) → Rises low high rs → IsMaximal rs → missing_ranges (items_of rs) ≡ map missing_of rs
+pub missing_ranges-items : (low high : ℕ) (rs : List (Range LastReport)) → Rises low high rs → IsMaximal same_report rs → missing_ranges (missing_in rs) ≡ map missing_of rs
 unfolding IsMaximal
-missing_ranges-items low high [] h maximal = unfold items_of missing_ranges in refl
+missing_ranges-items low high [] h maximal = unfold missing_in missing_ranges in refl
 missing_ranges-items low high (r ∷ rs) h maximal =
     missing_ranges-step low high r rs h maximal.0 (missing_ranges-items (r.last + 1) high rs (unfold Rises in h.3) maximal.1)
 

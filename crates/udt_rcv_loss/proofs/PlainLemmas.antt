@@ -67,13 +67,13 @@ row_last now from to k ms le is =
     append_assoc ms (map (listed now) (range_with_len from k)) (listed now to ∷ [])
     ∙ ap (λ xs. ms ++ xs) (ap (λ n. map (listed now) (range_with_len from k) ++ listed now n ∷ []) (sym f) ∙ sym (row_push now from k) ∙ ap (λ n. map (listed now) (range_with_len from n)) (sym e))
 
--- the due runs from a packet on: one that is due goes before those behind it
+-- the due runs from a packet on: one that is due goes before those after it
 pub due-more : (now rtt : ℕ) (m : Missing) (all rest : List Missing) → all ≡ m ∷ rest → due_ranges now rtt all ≡ cond (is_due now rtt m) (before_ranges m.offset (due_ranges now rtt rest)) (due_ranges now rtt rest)
 unfolding ranges_of
 due-more now rtt m all rest is =
     elim (cases_Bool (is_due now rtt m)) [ inl due ↦ rw (is, due) refl | inr early ↦ rw (is, early) refl ]
 
--- all of the list is behind its end
+-- all of the list is after its end
 pub due-none : (now rtt n : ℕ) (ms : List Missing) → n ≡ length ms → due_ranges now rtt (drop n ms) ≡ []
 unfolding ranges_of
 due-none now rtt n ms is = rw (drop_all n ms (omega arith)) refl

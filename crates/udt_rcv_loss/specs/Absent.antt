@@ -1,12 +1,16 @@
 -- The packets that a receiver waits for, and the window that they lie in.
-use Rattle.std.specs.Prelude.{ℕ, ◌+◌, ◌<◌, ◌≤◌, List, [], ◌∷◌}
+use Rattle.std.specs.Prelude.{ℕ, ◌+◌, ◌<◌, ◌≤◌, List, [], ◌∷◌, map}
 use Rattle.udt_model.specs.Losses.{Missing}
-use Rattle.udt_ranges.specs.Offsets.{offsets_in, Rising}
+use Rattle.udt_ranges.specs.Offsets.{Rising}
 
 -- what a receiver's list is seen as: the room that its offsets have, and the packets with their reports
 pub record MissingList : Type 0 where
   pub window : ℕ
   pub missing : List Missing
+
+-- the offsets of packets, without their reports
+abbrev pub offsets_in : List Missing → List ℕ
+offsets_in missing = map (λ m. m.offset) missing
 
 -- the least offset, or another one where there is none
 abbrev pub first_or : ℕ → List Missing → ℕ

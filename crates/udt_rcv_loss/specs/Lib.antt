@@ -1,3 +1,5 @@
+pub mod Tags
+pub mod SameReports
 pub mod Absent
 pub mod Reports
 pub mod Inside

@@ -2,9 +2,11 @@
 #![tactic(auto)]
 
 mod due;
+mod last_report;
 mod list;
 #[cfg(test)]
 mod plain;
+mod renew;
 mod report;
 #[cfg(test)]
 mod tests;

@@ -2,6 +2,8 @@
 
 use crate::OutOfMemory;
 use crate::due::choose;
+use crate::last_report::LastReport;
+use crate::renew::report as renew;
 use crate::report::Ranges;
 use std::alloc::Global;
 use std::marker::Model;
@@ -11,7 +13,7 @@ use udt_ranges::{LinkedRanges, Range};
 /// trips pass from it to the next, in rising order. Only `new` takes memory.
 #[derive(Drop)]
 pub struct RcvLoss {
-    ranges: LinkedRanges,
+    ranges: LinkedRanges<LastReport>,
 }
 
 impl Model for RcvLoss {
@@ -29,19 +31,23 @@ impl Model for RcvLoss {
 impl RcvLoss {
     ghost use Rattle.std.specs.Prelude.{◌≡◌, ◌+◌, ◌<◌, ◌≤◌, [], length, IfOk};
     ghost use Rattle.udt_model.specs.Losses.{with_missing, without_missing, is_missing, missing_ranges, report, after_report};
-    ghost use Rattle.udt_ranges.specs.Offsets.{offsets_in, least};
-    ghost use Rattle.udt_rcv_loss.specs.Absent.{MissingList, IsInWindow, AllBelow, first_or};
-    ghost use Rattle.udt_rcv_loss.specs.Reports.{Report};
+    ghost use Rattle.udt_ranges.specs.Offsets.{least};
+    ghost use Rattle.udt_rcv_loss.specs.Absent.{MissingList, offsets_in, IsInWindow, AllBelow, first_or};
+    ghost use Rattle.udt_rcv_loss.specs.Reports.{words_of, RangesRise, AreListed};
 
     /// An empty list for offsets within a window, with the memory that it will ever have.
     pub fn new(alloc: Global, window: u32) -> Result<RcvLoss, OutOfMemory>
         ensures { IfOk result (λ l. l ≡ record { window = window; missing = [] }) }
     {
-        let ranges = LinkedRanges::new(alloc, window)?;
+        let blank = LastReport {
+            reported: 0,
+            wait: 0,
+        };
+        let ranges = LinkedRanges::new(alloc, window, blank)?;
         Ok(RcvLoss { ranges })
     }
 
-    /// Adds all offsets of a range behind those that are listed, reported now.
+    /// Adds all offsets of a range after those that are listed, reported now.
     pub fn add(&mut self, from: u64, to: u64, now: u64)
         requires order { from ≤ to }
         requires above { AllBelow from self.old.missing }
@@ -51,8 +57,10 @@ impl RcvLoss {
         self.ranges.insert(Range {
             first: from,
             last: to,
-            reported: now,
-            wait: 2,
+            tag: LastReport {
+                reported: now,
+                wait: 2,
+            },
         });
     }
 
@@ -88,19 +96,23 @@ impl RcvLoss {
         self.ranges.count()
     }
 
-    /// Writes down what is to be reported at this moment, with round trips of so many microseconds:
-    /// the first runs of offsets that are due, as many as fit into so many words.
+    /// Writes down what is to be reported at this moment, with round trips of this many microseconds:
+    /// the first runs of offsets that are due, as many as fit into this many words.
     pub fn due(&mut self, now: u64, rtt: u64, words: u32, into: &mut Ranges)
         requires { words ≤ into.old.words }
         ensures kept { into.new.words ≡ into.old.words }
         ensures value { into.new.ranges ≡ report now rtt words self.old.missing }
-        ensures next { self.new ≡ record self.old { missing = after_report now into.new.ranges self.old.missing } }
+        ensures next { self.new
+            ≡ record self.old { missing = after_report now into.new.ranges self.old.missing } }
+        ensures fits { words_of into.new.ranges ≤ words }
+        ensures rise { RangesRise 0 into.new.ranges }
+        ensures listed { AreListed into.new.ranges self.old.missing }
     {
         into.clear();
         let last = match choose(&self.ranges, now, rtt, words, into) {
             None => return,
             Some(last) => last,
         };
-        self.ranges.report(last, now, rtt);
+        renew(&mut self.ranges, last, now, rtt);
     }
 }

@@ -64,8 +64,8 @@ impl Model for PlainRcvLoss {
 impl PlainRcvLoss {
     ghost use Rattle.std.specs.Prelude.{◌≡◌, ◌≤◌, [], length, OnOk, OnErr, IfOk};
     ghost use Rattle.udt_model.specs.Losses.{with_missing, without_missing, is_missing, missing_ranges, due_ranges, report, after_report};
-    ghost use Rattle.udt_ranges.specs.Offsets.{offsets_in, least};
-    ghost use Rattle.udt_rcv_loss.specs.Absent.{MissingList};
+    ghost use Rattle.udt_ranges.specs.Offsets.{least};
+    ghost use Rattle.udt_rcv_loss.specs.Absent.{MissingList, offsets_in};
 
     pub fn new(alloc: Global, window: u32) -> PlainRcvLoss
         ensures { result ≡ record { window = window; missing = [] } }
@@ -79,7 +79,8 @@ impl PlainRcvLoss {
 
     pub fn add(&mut self, from: u64, to: u64, now: u64) -> Result<(), AllocError>
         requires { from ≤ to }
-        ensures { OnOk result (self.new ≡ record self.old { missing = with_missing from to now self.old.missing }) }
+        ensures { OnOk result (self.new
+            ≡ record self.old { missing = with_missing from to now self.old.missing }) }
     {
         for k in 0..to - from {
             self.missing.push(Item {
@@ -97,7 +98,8 @@ impl PlainRcvLoss {
     }
 
     pub fn remove_range(&mut self, from: u64, to: u64) -> Result<(), AllocError>
-        ensures ok { OnOk result (self.new ≡ record self.old { missing = without_missing from to self.old.missing }) }
+        ensures ok { OnOk result (self.new
+            ≡ record self.old { missing = without_missing from to self.old.missing }) }
         ensures err { OnErr result (self.new ≡ self.old) }
     {
         let missing = self.missing.iter().copied();
@@ -109,7 +111,8 @@ impl PlainRcvLoss {
     }
 
     pub fn remove(&mut self, n: u64) -> Result<bool, AllocError>
-        ensures ok { OnOk result (self.new ≡ record self.old { missing = without_missing n n self.old.missing }) }
+        ensures ok { OnOk result (self.new
+            ≡ record self.old { missing = without_missing n n self.old.missing }) }
         ensures value { IfOk result (λ listed. listed ≡ is_missing n self.old.missing) }
     {
         let listed = self.missing.iter().any(|lost| lost.offset == n);
@@ -140,10 +143,11 @@ impl PlainRcvLoss {
         count
     }
 
-    // the first of the longest runs of due offsets, as many as fit into so many words
+    // the first of the longest runs of due offsets, as many as fit into this many words
     pub fn due(&mut self, now: u64, rtt: u64, words: u32) -> Result<Vec<Ends>, AllocError>
         ensures value { IfOk result (λ taken. taken.items ≡ report now rtt words self.old.missing) }
-        ensures next { IfOk result (λ taken. self.new ≡ record self.old { missing = after_report now taken.items self.old.missing }) }
+        ensures next { IfOk result (λ taken. self.new
+            ≡ record self.old { missing = after_report now taken.items self.old.missing }) }
     {
         let taken = fitting(self.alloc, self.runs(now, rtt)?, words)?;
         let missing = self.missing.iter().copied();
@@ -168,7 +172,7 @@ impl PlainRcvLoss {
     }
 }
 
-// the first runs that fit into so many words
+// the first runs that fit into this many words
 fn fitting(alloc: Global, runs: VecDeque<Ends>, words: u32) -> Result<Vec<Ends>, AllocError>
     ensures { IfOk result (λ taken. taken.items ≡ fitting_ranges words runs.items) }
 {
@@ -224,7 +228,7 @@ fn put_before(runs: &mut VecDeque<Ends>, offset: u64) -> Result<(), AllocError>
     Ok(())
 }
 
-// puts a packet that is due before the runs behind it
+// puts a packet that is due before the runs after it
 fn put_due(runs: &mut VecDeque<Ends>, lost: Item, now: u64, rtt: u64) -> Result<(), AllocError>
     ensures { OnOk result (runs.new.items
         ≡ (if due_then now rtt lost then before_ranges lost.offset runs.old.items else runs.old.items)) }

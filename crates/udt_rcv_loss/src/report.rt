@@ -43,7 +43,7 @@ impl Model for Ranges {
 impl Ranges {
     ghost use Rattle.std.specs.Prelude.{◌≡◌, ◌<◌, ◌++◌, ◌∷◌, [], length, slice_get, Some, IfOk};
 
-    /// No ranges, with room for so many words.
+    /// No ranges, with room for this many words.
     pub fn new(alloc: Global, words: u32) -> Result<Ranges, OutOfMemory>
         ensures { IfOk result (λ r. r ≡ record { words = words; ranges = [] }) }
     {
@@ -74,10 +74,11 @@ impl Ranges {
         self.ends.clear();
     }
 
-    // puts a range behind the others
+    // puts a range after the others
     pub(crate) fn push(&mut self, first: u64, last: u64)
         requires { length self.old.ranges < self.old.words }
-        ensures { self.new ≡ record self.old { ranges = self.old.ranges ++ record { first = first; last = last } ∷ [] } }
+        ensures { self.new
+            ≡ record self.old { ranges = self.old.ranges ++ record { first = first; last = last } ∷ [] } }
     {
         let _ = self.ends.push(Ends { first, last });
     }

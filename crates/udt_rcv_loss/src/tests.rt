@@ -70,7 +70,8 @@ impl Model for Both {
 
     ghost view = { λ b. b.next };
 
-    ghost invariant = { λ b. (AllBelow b.next b.linked.missing) × (AllFrom b.base b.linked.missing) × (b.linked.window ≡ 64) × (b.into.words ≡ 64) × (b.base ≤ b.next) × (b.next ≤ 2 ^ 40) };
+    ghost invariant = { λ b. (AllBelow b.next b.linked.missing) × (AllFrom b.base b.linked.missing)
+        × (b.linked.window ≡ 64) × (b.into.words ≡ 64) × (b.base ≤ b.next) × (b.next ≤ 2 ^ 40) };
 }
 
 impl Both {
@@ -89,20 +90,20 @@ impl Both {
     }
 
     // whether both say the same of an offset
-    fn remove(&mut self, behind: u64) -> Result<bool, Fail>
-        requires { behind < 64 }
+    fn remove(&mut self, by: u64) -> Result<bool, Fail>
+        requires { by < 64 }
     {
-        let n = self.base + behind;
+        let n = self.base + by;
         let plain = self.plain.remove(n)?;
         let linked = self.linked.remove(n);
         Ok(plain == linked)
     }
 
-    fn remove_range(&mut self, behind: u64, more: u64) -> Result<(), Fail>
-        requires behind { behind < 64 }
+    fn remove_range(&mut self, by: u64, more: u64) -> Result<(), Fail>
+        requires by { by < 64 }
         requires more { more < 8 }
     {
-        let from = self.base + behind;
+        let from = self.base + by;
         let to = from + more;
         self.plain.remove_range(from, to)?;
         self.linked.remove_range(from, to);

@@ -22,7 +22,7 @@ place_within (suc count) room (suc place) lt =
 over : ℕ → List ℕ → List ℕ → List ℕ
 over at bytes memory = take at memory ++ bytes ++ drop (at + length bytes) memory
 
--- in the part behind the first, the write is so many bytes nearer
+-- in the part after the first, the write is this many bytes nearer
 drop-over : (room at : ℕ) (bytes memory : List ℕ) → room + at ≤ length memory → drop room (over (room + at) bytes memory) ≡ over at bytes (drop room memory)
 unfolding over
 drop-over room at bytes memory le =
@@ -49,7 +49,7 @@ module _ {H : Type 0} where
   length-parts_in room [] memory = refl
   length-parts_in room (place ∷ places) memory = ap suc (length-parts_in room places (drop room memory))
 
-  -- a part's bytes begin behind the memory of the places before it
+  -- a part's bytes begin after the memory of the places before it
   pub get-parts_in : (room : ℕ) (places : List (Place H)) (memory : List ℕ) (k : ℕ) (place : Place H) → slice_get places k ≡ Some place
       → slice_get (parts_in room places memory) k ≡ Some (record { head = place.head; bytes = take place.len (drop (k * room) memory) })
   unfolding parts_in

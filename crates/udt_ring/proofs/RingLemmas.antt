@@ -8,8 +8,8 @@ use Rattle.std.proofs.lemmas.List.Elements.{All-append, All-take, All-drop}
 use Rattle.udt_ring.specs.declared.ring.Place.{Place}
 use Rattle.udt_ring.specs.declared.ring.Ring.TheInside.{Inside}
 use Rattle.udt_ring.specs.Parts.{Part, turned, joined, empty_part}
-use Rattle.udt_ring.specs.Rings.{behind, parts_in, parts_of, IsRing}
-use Rattle.udt_ring.proofs.TurnLemmas.{get-turned-before, get-turned-behind, set-turned-before, set-turned-behind, turned-before, turned-behind}
+use Rattle.udt_ring.specs.Rings.{following, parts_in, parts_of, IsRing}
+use Rattle.udt_ring.proofs.TurnLemmas.{get-turned-before, get-turned-following, set-turned-before, set-turned-following, turned-before, turned-following}
 use Rattle.udt_ring.proofs.PartLemmas.{length-parts_in, place_within, get-parts_in, written-parts_in, parts_in-short, parts_in-replicate}
 use Rattle.udt_ring.proofs.JoinedLemmas.{joined_fits}
 
@@ -18,24 +18,24 @@ pub length-turned : {X : Type 0} (at : ℕ) (xs : List X) → at ≤ length xs �
 length-turned at xs le = omega (arith, length-append (drop at xs) (take at xs), length-drop at xs, length-take at xs)
 
 -- a look-up by the place
-get-turned : {X : Type 0} (at i : ℕ) (xs : List X) → at ≤ length xs → i < length xs → slice_get (turned at xs) i ≡ slice_get xs (behind at i (length xs))
+get-turned : {X : Type 0} (at i : ℕ) (xs : List X) → at ≤ length xs → i < length xs → slice_get (turned at xs) i ≡ slice_get xs (following at i (length xs))
 get-turned at i xs within lt = elim (cases_lt (at + i) (length xs)) [
   | inl before ↦ rw (lt-ltb (at + i) (length xs) before) (get-turned-before at i xs before)
-  | inr past ↦ rw (le-ltb (at + i) (length xs) past) (get-turned-behind at i xs within past lt)
+  | inr past ↦ rw (le-ltb (at + i) (length xs) past) (get-turned-following at i xs within past lt)
 ]
 
 -- a change by the place
-set-turned : {X : Type 0} (at i : ℕ) (xs : List X) (x : X) → at ≤ length xs → i < length xs → turned at (set xs (behind at i (length xs)) x) ≡ set (turned at xs) i x
+set-turned : {X : Type 0} (at i : ℕ) (xs : List X) (x : X) → at ≤ length xs → i < length xs → turned at (set xs (following at i (length xs)) x) ≡ set (turned at xs) i x
 set-turned at i xs x within lt = elim (cases_lt (at + i) (length xs)) [
   | inl before ↦ rw (lt-ltb (at + i) (length xs) before) (set-turned-before at i xs x before)
-  | inr past ↦ rw (le-ltb (at + i) (length xs) past) (set-turned-behind at i xs x within past lt)
+  | inr past ↦ rw (le-ltb (at + i) (length xs) past) (set-turned-following at i xs x within past lt)
 ]
 
 -- a beginning that comes later still
-turned-behind-by : {X : Type 0} (at by : ℕ) (xs : List X) → at ≤ length xs → by ≤ length xs → turned (behind at by (length xs)) xs ≡ turned by (turned at xs)
-turned-behind-by at by xs within le = elim (cases_lt (at + by) (length xs)) [
+turned-following-by : {X : Type 0} (at by : ℕ) (xs : List X) → at ≤ length xs → by ≤ length xs → turned (following at by (length xs)) xs ≡ turned by (turned at xs)
+turned-following-by at by xs within le = elim (cases_lt (at + by) (length xs)) [
   | inl before ↦ rw (lt-ltb (at + by) (length xs) before) (turned-before at by xs (omega arith))
-  | inr past ↦ rw (le-ltb (at + by) (length xs) past) (turned-behind at by xs within past le)
+  | inr past ↦ rw (le-ltb (at + by) (length xs) past) (turned-following at by xs within past le)
 ]
 
 -- nothing, filled up
@@ -56,36 +56,36 @@ module _ {H : Type 0} (r : Inside H) (ring : IsRing r) where
       length-turned r.first (parts_in r.room r.places.items r.memory.items) (omega (arith, ring.first, len)) ∙ len
 
   -- the part at a place
-  pub part_is : (i : ℕ) (place : Place H) → i < length r.places.items → slice_get r.places.items (behind r.first i (length r.places.items)) ≡ Some place
-      → slice_get (parts_of r).list i ≡ Some (record { head = place.head; bytes = take place.len (drop (behind r.first i (length r.places.items) * r.room) r.memory.items) })
+  pub part_is : (i : ℕ) (place : Place H) → i < length r.places.items → slice_get r.places.items (following r.first i (length r.places.items)) ≡ Some place
+      → slice_get (parts_of r).list i ≡ Some (record { head = place.head; bytes = take place.len (drop (following r.first i (length r.places.items) * r.room) r.memory.items) })
   part_is i place lt there =
       let all = parts_in r.room r.places.items r.memory.items in
       let len = length-parts_in r.room r.places.items r.memory.items in
       let found = get-turned r.first i all (omega (arith, ring.first, len)) (omega (arith, len, lt)) in
-      rw len at found ∙ get-parts_in r.room r.places.items r.memory.items (behind r.first i (length r.places.items)) place there
+      rw len at found ∙ get-parts_in r.room r.places.items r.memory.items (following r.first i (length r.places.items)) place there
 
   -- its memory
   pub place_fits : (at : ℕ) → at < length r.places.items → at * r.room + r.room ≤ length r.memory.items
   place_fits at lt = omega (arith, place_within (length r.places.items) r.room at lt, ring.memory)
 
   -- writing a part
-  pub put_is : (i : ℕ) (head : H) (bytes : List ℕ) → i < length r.places.items → behind r.first i (length r.places.items) < length r.places.items → length bytes ≤ r.room
-      → turned r.first (parts_in r.room (set r.places.items (behind r.first i (length r.places.items)) (record { head = head; len = length bytes })) (take (behind r.first i (length r.places.items) * r.room) r.memory.items ++ bytes ++ drop (behind r.first i (length r.places.items) * r.room + length bytes) r.memory.items))
+  pub put_is : (i : ℕ) (head : H) (bytes : List ℕ) → i < length r.places.items → following r.first i (length r.places.items) < length r.places.items → length bytes ≤ r.room
+      → turned r.first (parts_in r.room (set r.places.items (following r.first i (length r.places.items)) (record { head = head; len = length bytes })) (take (following r.first i (length r.places.items) * r.room) r.memory.items ++ bytes ++ drop (following r.first i (length r.places.items) * r.room + length bytes) r.memory.items))
       ≡ set (parts_of r).list i (record { head = head; bytes = bytes })
   put_is i head bytes lt below short =
       let len = length-parts_in r.room r.places.items r.memory.items in
       let all = parts_in r.room r.places.items r.memory.items in
       let part : Part H = record { head = head; bytes = bytes } in
-      let written = written-parts_in r.room r.places.items r.memory.items (behind r.first i (length r.places.items)) head bytes ring.short below short ring.memory in
+      let written = written-parts_in r.room r.places.items r.memory.items (following r.first i (length r.places.items)) head bytes ring.short below short ring.memory in
       let changed = set-turned r.first i all part (omega (arith, ring.first, len)) (omega (arith, len, lt)) in
       ap (turned r.first) written ∙ rw len at changed
 
   -- turning
-  pub turn_is : (by : ℕ) → by ≤ length r.places.items → turned (behind r.first by (length r.places.items)) (parts_in r.room r.places.items r.memory.items) ≡ turned by (parts_of r).list
+  pub turn_is : (by : ℕ) → by ≤ length r.places.items → turned (following r.first by (length r.places.items)) (parts_in r.room r.places.items r.memory.items) ≡ turned by (parts_of r).list
   turn_is by le =
       let len = length-parts_in r.room r.places.items r.memory.items in
       let all = parts_in r.room r.places.items r.memory.items in
-      rw len at (turned-behind-by r.first by all (omega (arith, ring.first, len)) (omega (arith, le, len)))
+      rw len at (turned-following-by r.first by all (omega (arith, ring.first, len)) (omega (arith, le, len)))
 
   -- all bytes can be counted
   pub all_fit : length (joined (parts_of r).list) < 2 ^ 64

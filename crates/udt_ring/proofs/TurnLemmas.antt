@@ -27,17 +27,17 @@ module _ {X : Type 0} where
   slice_get-append_right [] ys i = let e : 0 + i ≡ i = omega arith in rw e refl
   slice_get-append_right (x ∷ xs) ys i = let e : suc (length xs) + i ≡ suc (length xs + i) = omega arith in rw e (slice_get-append_right xs ys i)
 
-  -- what is before the end stands so many places later ..
+  -- what is before the end stands this many places later ..
   pub get-turned-before : (at i : ℕ) (xs : List X) → at + i < length xs → slice_get (turned at xs) i ≡ slice_get xs (at + i)
   get-turned-before at i xs lt =
       slice_get-append_left (drop at xs) (take at xs) i (omega (arith, lt, length-drop at xs)) ∙ slice_get-drop at i xs
 
-  -- .. and what is behind it, at the list's beginning
-  pub get-turned-behind : (at i : ℕ) (xs : List X) → at ≤ length xs → length xs ≤ at + i → i < length xs → slice_get (turned at xs) i ≡ slice_get xs (at + i - length xs)
-  get-turned-behind at i xs within behind lt =
-      let place : i ≡ length (drop at xs) + (at + i - length xs) = omega (arith, length-drop at xs, within, behind) in
+  -- .. and what is after it, at the list's beginning
+  pub get-turned-following : (at i : ℕ) (xs : List X) → at ≤ length xs → length xs ≤ at + i → i < length xs → slice_get (turned at xs) i ≡ slice_get xs (at + i - length xs)
+  get-turned-following at i xs within following lt =
+      let place : i ≡ length (drop at xs) + (at + i - length xs) = omega (arith, length-drop at xs, within, following) in
       ap (slice_get (turned at xs)) place ∙ slice_get-append_right (drop at xs) (take at xs) (at + i - length xs)
-      ∙ slice_get-take at (at + i - length xs) xs (omega (arith, within, behind, lt))
+      ∙ slice_get-take at (at + i - length xs) xs (omega (arith, within, following, lt))
 
   -- ---- changes
 
@@ -52,12 +52,12 @@ module _ {X : Type 0} where
       rw (drop-set-add at xs i x, take-set-le at xs (at + i) x (omega arith))
       (sym (set-append_left (drop at xs) (take at xs) i x (omega (arith, lt, length-drop at xs))))
 
-  pub set-turned-behind : (at i : ℕ) (xs : List X) (x : X) → at ≤ length xs → length xs ≤ at + i → i < length xs
+  pub set-turned-following : (at i : ℕ) (xs : List X) (x : X) → at ≤ length xs → length xs ≤ at + i → i < length xs
       → turned at (set xs (at + i - length xs) x) ≡ set (turned at xs) i x
-  set-turned-behind at i xs x within behind lt =
-      let place : i - length (drop at xs) ≡ at + i - length xs = omega (arith, length-drop at xs, within, behind) in
-      let back = set-append_right (drop at xs) (take at xs) (length (drop at xs)) i x refl (omega (arith, length-drop at xs, within, behind)) in
-      rw (drop-set-lt at xs (at + i - length xs) x (omega (arith, within, behind, lt)), take-set-lt at (at + i - length xs) xs x (omega (arith, within, behind, lt)))
+  set-turned-following at i xs x within following lt =
+      let place : i - length (drop at xs) ≡ at + i - length xs = omega (arith, length-drop at xs, within, following) in
+      let back = set-append_right (drop at xs) (take at xs) (length (drop at xs)) i x refl (omega (arith, length-drop at xs, within, following)) in
+      rw (drop-set-lt at xs (at + i - length xs) x (omega (arith, within, following, lt)), take-set-lt at (at + i - length xs) xs x (omega (arith, within, following, lt)))
       (sym (rw place at back))
 
   -- ---- turning on
@@ -82,11 +82,11 @@ module _ {X : Type 0} where
   take-append-add [] ys n = let e : 0 + n ≡ n = omega arith in rw e refl
   take-append-add (x ∷ xs) ys n = let e : suc (length xs) + n ≡ suc (length xs + n) = omega arith in rw (e, take-append-add xs ys n) refl
 
-  pub turned-behind : (at by : ℕ) (xs : List X) → at ≤ length xs → length xs ≤ at + by → by ≤ length xs
+  pub turned-following : (at by : ℕ) (xs : List X) → at ≤ length xs → length xs ≤ at + by → by ≤ length xs
       → turned (at + by - length xs) xs ≡ turned by (turned at xs)
-  turned-behind at by xs within behind le =
+  turned-following at by xs within following le =
       let more = at + by - length xs in
-      let len : by ≡ length (drop at xs) + more = omega (arith, length-drop at xs, within, behind) in
+      let len : by ≡ length (drop at xs) + more = omega (arith, length-drop at xs, within, following) in
       let few : more ≤ at = omega (arith, within, le) in
       let back : drop by (turned at xs) ≡ drop more (take at xs) =
       ap (λ (n : ℕ). drop n (turned at xs)) len ∙ drop-append-add (drop at xs) (take at xs) more in

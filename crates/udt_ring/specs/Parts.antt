@@ -15,14 +15,16 @@ pub record Parts (H : Type 0) : Type 0 where
 -- a part is stored as the pair of its head and its bytes
 abbrev pub part_code : {H : Type 0} → Coded H → Coded (Part H)
 part_code {H} code =
-    code_by (H × List ℕ) (coded× code (coded_list coded_ℕ)) (λ p. (p.head, p.bytes)) (λ p. record { head = p.0; bytes = p.1 }) (λ _. refl)
+    code_by (H × List ℕ) (coded× code (coded_list coded_ℕ))
+    (λ p. (p.head, p.bytes)) (λ p. record { head = p.0; bytes = p.1 }) (λ _. refl)
 
 -- and the parts as the pair of their room and their list
 abbrev pub parts_code : {H : Type 0} → Coded H → Coded (Parts H)
 parts_code {H} code =
-    code_by (ℕ × List (Part H)) (coded× coded_ℕ (coded_list (part_code code))) (λ p. (p.room, p.list)) (λ p. record { room = p.0; list = p.1 }) (λ _. refl)
+    code_by (ℕ × List (Part H)) (coded× coded_ℕ (coded_list (part_code code)))
+    (λ p. (p.room, p.list)) (λ p. record { room = p.0; list = p.1 }) (λ _. refl)
 
--- a list that begins so many places later, where those before come behind all others
+-- a list that begins this many places later, where those before come after all others
 abbrev pub turned : {X : Type 0} → ℕ → List X → List X
 turned by xs = drop by xs ++ take by xs
 
@@ -39,6 +41,6 @@ module _ {H : Type 0} where
   abbrev pub with_part : Parts H → ℕ → H → List ℕ → Parts H
   with_part ring i head bytes = record ring { list = slice_set ring.list i (record { head = head; bytes = bytes }) }
 
-  -- the parts from one so many later on
+  -- the parts from one this many later on
   abbrev pub turned_by : ℕ → Parts H → Parts H
   turned_by by ring = record ring { list = turned by ring.list }

@@ -4,11 +4,11 @@ use Rattle.udt_ring.specs.declared.ring.Place.{Place}
 use Rattle.udt_ring.specs.declared.ring.Ring.TheInside.{Inside}
 use Rattle.udt_ring.specs.Parts.{Part, Parts, turned}
 
--- the place that is so many behind this one, of so many, where the first comes again behind the last
-abbrev pub behind : ℕ → ℕ → ℕ → ℕ
-behind place by places = if nat_lt (place + by) places then place + by else place + by - places
+-- the place that is this many after this one, of this many, where the first comes again after the last
+abbrev pub following : ℕ → ℕ → ℕ → ℕ
+following place by places = if nat_lt (place + by) places then place + by else place + by - places
 
--- the parts of a piece of memory, each with room for so many bytes
+-- the parts of a piece of memory, each with room for this many bytes
 unfoldable pub parts_in : {H : Type 0} → ℕ → List (Place H) → List ℕ → List (Part H)
 parts_in room [] memory = []
 parts_in room (place ∷ places) memory =

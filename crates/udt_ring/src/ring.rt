@@ -1,5 +1,5 @@
 // One piece of memory in equal parts, which follow one another as a ring.
-// The part that is first stands at some place, and behind the last place comes the first one again.
+// The part that is first stands at some place, and after the last place comes the first one again.
 
 ghost use Rattle.std.specs.Prelude.{◌≡◌, ◌+◌, ◌*◌, ◌^◌, ◌<◌, ◌≤◌, ◌++◌, length, take, drop, slice_get, replicate, Some, IfOk};
 
@@ -12,7 +12,7 @@ struct Place<H> {
     len: usize,
 }
 
-/// Parts with room for so many bytes each. Contracts see the list of the parts from the first one
+/// Parts with room for this many bytes each. Contracts see the list of the parts from the first one
 /// on. Only `new` takes memory.
 #[derive(Drop)]
 pub struct Ring<H> {
@@ -46,7 +46,7 @@ pub fn write(memory: &mut [u8], at: usize, bytes: &[u8])
     memory[at..end].copy_from_slice(bytes);
 }
 
-// So many bytes of the memory, from a place on.
+// This many bytes of the memory, from a place on.
 fn bytes_at(memory: &[u8], at: usize, len: usize) -> &[u8]
     requires { at + len ≤ length memory.now }
     ensures { result.now ≡ take len (drop at memory.now) }
@@ -56,9 +56,9 @@ fn bytes_at(memory: &[u8], at: usize, len: usize) -> &[u8]
 
 impl<H: Copy> Ring<H> {
     ghost use Rattle.udt_ring.specs.Parts.{empty_part, joined, with_part, turned_by};
-    ghost use Rattle.udt_ring.specs.Rings.{behind};
+    ghost use Rattle.udt_ring.specs.Rings.{following};
 
-    /// So many parts with room for so many bytes each, of which each has this head and no bytes yet.
+    /// This many parts with room for this many bytes each, of which each has this head and no bytes yet.
     pub fn new(alloc: Global, count: u32, room: u32, head: H) -> Result<Ring<H>, AllocError>
         ensures room { IfOk result (λ ring. ring.room ≡ room) }
         ensures list { IfOk result (λ ring. ring.list ≡ replicate count (empty_part head)) }
@@ -91,7 +91,7 @@ impl<H: Copy> Ring<H> {
             ≡ Some (record { head = result.0; bytes = result.1.now }) }
         ensures fits { length (joined self.now.list) < 2 ^ 64 }
     {
-        let at = Self::place_behind(self.first, i, self.places.len());
+        let at = Self::place_after(self.first, i, self.places.len());
         let place = self.places[at];
         (
             place.head,
@@ -105,26 +105,26 @@ impl<H: Copy> Ring<H> {
         requires room { length bytes.now ≤ self.old.room }
         ensures { self.new ≡ with_part self.old i head bytes.now }
     {
-        let at = Self::place_behind(self.first, i, self.places.len());
+        let at = Self::place_after(self.first, i, self.places.len());
         write(&mut self.memory, at * self.room, bytes);
         let len = bytes.len();
         self.places[at] = Place { head, len };
     }
 
-    /// Lets the ring begin so many parts later: those before come behind all others.
+    /// Lets the ring begin this many parts later: those before come after all others.
     pub fn turn(&mut self, by: usize)
         requires { by ≤ length self.old.list }
         ensures { self.new ≡ turned_by by self.old }
     {
-        self.first = Self::place_behind(self.first, by, self.places.len());
+        self.first = Self::place_after(self.first, by, self.places.len());
     }
 
-    // The place that is so many behind this one, of so many.
-    fn place_behind(place: usize, by: usize, places: usize) -> usize
+    // The place that is this many after this one, of this many.
+    fn place_after(place: usize, by: usize, places: usize) -> usize
         requires place { place ≤ places }
         requires by { by ≤ places }
         requires few { places ≤ 2 ^ 32 }
-        ensures value { result ≡ behind place by places }
+        ensures value { result ≡ following place by places }
         ensures within { result ≤ places }
         ensures below { by < places → result < places }
     {

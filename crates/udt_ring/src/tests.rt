@@ -6,7 +6,7 @@ use std::test::*;
 #[test]
 fn parts_keep_their_bytes_where_the_ring_turns_past_its_end(rt: HostRuntime) -> Result<(), Fail> {
     let mut ring = Ring::new(rt.alloc(), 3, 2, 'n')?;
-    // turn so many, then put this head and these bytes into a part; the heads and bytes of all parts
+    // turn this many, then put this head and these bytes into a part; the heads and bytes of all parts
     let table: [(usize, usize, char, &[u8], [(char, &[u8]); 3]); 4] = [
         (0, 2, 'a', b"aa", [('n', b""), ('n', b""), ('a', b"aa")]),
         (2, 1, 'b', b"b", [('a', b"aa"), ('b', b"b"), ('n', b"")]),

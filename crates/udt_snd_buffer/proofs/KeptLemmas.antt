@@ -46,7 +46,7 @@ keeps_none m payload offset bytes = refl
 
 -- ---- what is taken
 
--- so many bytes fill no more blocks than they fit into
+-- this many bytes fill no more blocks than they fit into
 pub count_within : (len payload blocks : ℕ) → 0 < payload → len ≤ blocks * payload → count_for len payload ≤ blocks
 count_within len payload blocks some le =
     let all : suc blocks * payload ≡ payload + blocks * payload = omega arith in
@@ -88,7 +88,7 @@ kept_found s parts kept offset part is from lt found =
     let there : slice_get (take kept parts) (offset - s.first) ≡ Some part = slice_get-take kept (offset - s.first) parts lt ∙ found in
     rw (le-ltb offset s.first from, is, slice_get-map kept_block_of (take kept parts) (offset - s.first), there) refl
 
--- the parts behind those that are released are kept
+-- the parts after those that are released are kept
 pub released : (parts : List (Part Head)) (kept count : ℕ) → count ≤ kept → kept ≤ length parts
     → map kept_block_of (take (kept - count) (turned count parts)) ≡ drop count (map kept_block_of (take kept parts))
 released parts kept count few within =

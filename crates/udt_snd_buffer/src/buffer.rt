@@ -11,7 +11,7 @@ use std::marker::Model;
 use udt_model::Flags;
 use udt_ring::Ring;
 
-/// A kept block: its bytes, its flags, and the moment after which its message isn't sent again, in
+/// A kept block: its bytes, its flags, and the moment after which its message isn't retransmitted, in
 /// microseconds.
 #[derive(Clone, Copy, Debug, PartialEq, Eq)]
 pub struct Block<'a> {
@@ -42,7 +42,7 @@ impl Model for SndBuffer {
     ghost invariant = { IsBuffer };
 }
 
-// Keeps so many blocks of a message behind those that are kept: the next bytes in each, as many as
+// Keeps this many blocks of a message after those that are kept: the next bytes in each, as many as
 // there are up to the payload. The head is that of the message's middle blocks.
 fn keep(
     ring: &mut Ring<Head>,
@@ -80,7 +80,7 @@ fn keep(
 impl SndBuffer {
     ghost use Rattle.udt_snd_buffer.specs.Shown.{shown, shown_of};
 
-    /// Takes the memory of so many blocks with so many bytes each. The first block that is accepted
+    /// Takes the memory of this many blocks with this many bytes each. The first block that is accepted
     /// has the offset `start`.
     pub fn new(
         alloc: Global,
@@ -106,7 +106,7 @@ impl SndBuffer {
         })
     }
 
-    /// From now on blocks have at most so many bytes.
+    /// From now on blocks have at most this many bytes.
     pub fn set_payload(&mut self, payload: u32)
         requires nothing_kept { self.old.kept ≡ [] }
         requires some { 0 < payload }

@@ -3,7 +3,7 @@
 use udt_model::Flags;
 
 /// What is known of a block beside its bytes: its flags, the moment after which its message isn't
-/// sent again, and the offsets of its message's first and last block.
+/// retransmitted, and the offsets of its message's first and last block.
 #[derive(Clone, Copy, Debug, PartialEq, Eq)]
 pub struct Head {
     pub flags: Flags,

@@ -1,2 +1,2 @@
-pub mod UnreportedLemmas
+pub mod RangeLemmas
 pub mod PlainLemmas

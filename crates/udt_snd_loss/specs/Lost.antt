@@ -1,4 +1,4 @@
--- The offsets that a sender is to send again, and the window that they lie in.
+-- The offsets that a sender is to retransmit, and the window that they lie in.
 use Rattle.std.specs.Prelude.{ℕ, ◌+◌, List}
 use Rattle.udt_ranges.specs.Offsets.{Rising}
 

@@ -1,4 +1,4 @@
-//! The list of offsets that a sender is to send again, held as linked ranges.
+//! The list of offsets that a sender is to retransmit, held as linked ranges.
 #![tactic(auto)]
 
 mod list;

@@ -1,15 +1,15 @@
-// The sender's list over the ring of ranges. Its ranges have no reports.
+// The sender's list over the ring of ranges. Its ranges have no tags.
 
 use crate::OutOfMemory;
 use std::alloc::Global;
 use std::marker::Model;
 use udt_ranges::{LinkedRanges, Range};
 
-/// The offsets that were reported lost and are to be sent again, each once, in rising order. Only
+/// The offsets that were reported lost and are to be retransmitted, each once, in rising order. Only
 /// `new` takes memory.
 #[derive(Drop)]
 pub struct SndLoss {
-    ranges: LinkedRanges,
+    ranges: LinkedRanges<()>,
     // the offset of the last drop, and how many offsets there are
     floor: u64,
     count: u64,
@@ -37,7 +37,7 @@ impl SndLoss {
     pub fn new(alloc: Global, window: u32) -> Result<SndLoss, OutOfMemory>
         ensures { IfOk result (λ l. l ≡ record { window = window; floor = 0; lost = [] }) }
     {
-        let ranges = LinkedRanges::new(alloc, window)?;
+        let ranges = LinkedRanges::new(alloc, window, ())?;
         Ok(SndLoss {
             ranges,
             floor: 0,
@@ -55,8 +55,7 @@ impl SndLoss {
         let removed = self.ranges.insert(Range {
             first: from,
             last: to,
-            reported: 0,
-            wait: 0,
+            tag: (),
         });
         self.count = self.count - removed + (to - from + 1);
     }

@@ -55,7 +55,8 @@ impl PlainSndLoss {
     }
 
     pub fn drop_below(&mut self, n: u64) -> Result<(), AllocError>
-        ensures ok { OnOk result (self.new ≡ record self.old { floor = n; lost = from_offset n self.old.lost }) }
+        ensures ok { OnOk result (self.new
+            ≡ record self.old { floor = n; lost = from_offset n self.old.lost }) }
         ensures err { OnErr result (self.new ≡ self.old) }
     {
         let kept = self
@@ -126,7 +127,7 @@ fn below(alloc: Global, lost: &[u64], from: u64) -> Result<Vec<u64>, AllocError>
     lost.iter().copied().filter(|n| *n < from).collect(alloc)
 }
 
-// puts the offsets of a range behind others
+// puts the offsets of a range after others
 fn push_all(lost: &mut Vec<u64>, from: u64, to: u64) -> Result<(), AllocError>
     requires { from ≤ to }
     ensures { OnOk result (lost.new.items ≡ lost.old.items ++ offsets_between from to) }

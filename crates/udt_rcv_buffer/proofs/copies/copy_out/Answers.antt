@@ -46,11 +46,11 @@ loop-filled-preserved c =
     let piece : length (take c.min-more.result unread) ≡ c.min-more.result = length-take-le c.min-more.result unread (omega (arith, more)) in
     let into = rw piece at written in
     let within : c.loop-filled.filled ≤ length c.loop-filled.into = omega (arith, i.filled, c.requires.room, c.loop-filled.auto.into) in
-    let behind : c.args.count - (c.loop-filled.filled + c.min-more.result) ≡ left - min (length unread) left = omega (arith, more) in
+    let left_is : c.args.count - (c.loop-filled.filled + c.min-more.result) ≡ left - min (length unread) left = omega (arith, more) in
     let front = filled_take c.loop-filled.into c.write.new.memory (take c.min-more.result unread) c.loop-filled.filled c.min-more.result within piece into in
     record {
       filled = omega (arith, more, i.filled);
       part = omega (arith, here);
-      front = rw (c.min-passed.ensures, behind) (filled_more c.loop-filled.into c.write.new.memory (take c.min-more.result unread) (take left (drop c.loop-filled.skip (joined (drop c.loop-filled.part parts)))) later (take c.args.count (drop c.args.skip (joined (drop c.args.first parts)))) c.loop-filled.filled c.min-more.result front coming_now i.front);
+      front = rw (c.min-passed.ensures, left_is) (filled_more c.loop-filled.into c.write.new.memory (take c.min-more.result unread) (take left (drop c.loop-filled.skip (joined (drop c.loop-filled.part parts)))) later (take c.args.count (drop c.args.skip (joined (drop c.args.first parts)))) c.loop-filled.filled c.min-more.result front coming_now i.front);
       rest = filled_drop c.loop-filled.into c.write.new.memory (take c.min-more.result unread) c.args.into.now c.loop-filled.filled c.min-more.result within piece into i.rest;
     }

@@ -1,48 +1,48 @@
 use Rattle.std.proofs.Common.{◌≡◌, ◌+◌, ◌-◌, ◌<◌, ◌≤◌, ◌^◌, true, List, ◌∷◌, length, drop, ap, ◌∙◌, refl, arith}
 use Rattle.udt_model.specs.ReceiveBlocks.{message_from}
-use Rattle.udt_ranges.specs.declared.links.Range.{Range}
-use Rattle.udt_ranges.specs.Seats.{behind, beyond, begins_at}
+use Rattle.udt_ranges.specs.declared.range.Range.{Range}
+use Rattle.udt_ranges.specs.Cursors.{following, beyond, begins_at}
 use Rattle.udt_ranges.proofs.PlaceLemmas.{head_none, head_some}
 use Rattle.udt_rcv_buffer.specs.PlacedParts.{placed_from}
 use Rattle.udt_rcv_buffer.specs.Messages.{sought, MayHaveBegun}
 use Rattle.udt_rcv_buffer.proofs.WalkLemmas.{sought-gap, sought-past}
-use Rattle.udt_rcv_buffer.proofs.AheadLemmas.{IsAhead, ahead_first, ahead_none, next_seat, range_bounds, range_gap, range_used, range_next}
+use Rattle.udt_rcv_buffer.proofs.AheadLemmas.{IsAhead, ahead_first, ahead_none, next_cursor, range_bounds, range_gap, range_used, range_next}
 use Rattle.udt_rcv_buffer.proofs.messages.next_message.Goals as goal
 use Rattle.udt_rcv_buffer.proofs.messages.next_message.Goals.{In-Some, Joined-at-first, then-at-first, else-at-first}
 
 pub loop-range-init : goal.loop-range-init
 loop-range-init c =
     let e : c.args.base + 0 ≡ c.args.base = omega arith in
-    record { seat = tt; ahead = ahead_first c.args.taken.now c.args.base c.args.ring.now.list c.requires.held; begun = λ b is. absurd cc; next = rw e refl }
+    record { cursor = tt; ahead = ahead_first c.args.taken.now c.args.base c.args.ring.now.list c.requires.held; begun = λ b is. absurd cc; next = rw e refl }
 
--- the ranges behind this one
-others : In-Some → List Range
-others c = drop 1 (behind c.loop-range.seat c.args.taken.now.ranges)
+-- the ranges after this one
+others : In-Some → List (Range (Unit {0}))
+others c = drop 1 (following c.loop-range.cursor c.args.taken.now.ranges)
 
-behind_is : (c : In-Some) → behind c.loop-range.seat c.args.taken.now.ranges ≡ c.in-Some.range ∷ others c
+following_is : (c : In-Some) → following c.loop-range.cursor c.args.taken.now.ranges ≡ c.in-Some.range ∷ others c
 unfolding others
-behind_is c = head_some (behind c.loop-range.seat c.args.taken.now.ranges) c.in-Some.range c.in-Some.ensures.value
+following_is c = head_some (following c.loop-range.cursor c.args.taken.now.ranges) c.in-Some.range c.in-Some.ensures.value
 
 ahead : (c : In-Some) → IsAhead (c.in-Some.range ∷ others c) c.args.base c.loop-range.at c.args.ring.now.list
-ahead c = rw (behind_is c) at c.loop-range.invariant.ahead
+ahead c = rw (following_is c) at c.loop-range.invariant.ahead
 
 bounds : (c : In-Some) → (c.args.base + c.loop-range.at ≤ c.in-Some.range.first) × (c.in-Some.range.first ≤ c.in-Some.range.last)
     × (c.in-Some.range.last < c.args.base + length c.args.ring.now.list) × (c.in-Some.range.last < 2 ^ 62)
 bounds c = range_bounds c.in-Some.range (others c) c.args.base c.loop-range.at c.args.ring.now.list (ahead c)
 
-seats : (c : In-Some) → (begins_at c.in-Some.range.first c.args.taken.now.ranges ≡ true) × (beyond c.in-Some.range.first c.args.taken.now.ranges ≡ others c)
-seats c =
+cursors : (c : In-Some) → (begins_at c.in-Some.range.first c.args.taken.now.ranges ≡ true) × (beyond c.in-Some.range.first c.args.taken.now.ranges ≡ others c)
+cursors c =
     let held = c.requires.held in
-    next_seat c.loop-range.seat c.args.taken.now.ranges c.in-Some.range (others c) c.args.base (c.args.base + length c.args.ring.now.list) c.loop-range.invariant.seat held.rises (behind_is c)
+    next_cursor c.loop-range.cursor c.args.taken.now.ranges c.in-Some.range (others c) c.args.base (c.args.base + length c.args.ring.now.list) c.loop-range.invariant.cursor held.rises (following_is c)
 
 pub overflow_sub-first : goal.overflow_sub-first
 overflow_sub-first c = let b = bounds ((goal.at.overflow_sub-first c).In-Some) in omega (arith, b.0)
 
-pub overflow_sub-behind : goal.overflow_sub-behind
-overflow_sub-behind c = let b = bounds ((goal.at.overflow_sub-behind c).In-Some) in omega (arith, b.0, b.1)
+pub overflow_sub-end : goal.overflow_sub-end
+overflow_sub-end c = let b = bounds ((goal.at.overflow_sub-end c).In-Some) in omega (arith, b.0, b.1)
 
-pub overflow_add-behind : goal.overflow_add-behind
-overflow_add-behind c = let b = bounds ((goal.at.overflow_add-behind c).In-Some) in omega (arith, b.3)
+pub overflow_add-end : goal.overflow_add-end
+overflow_add-end c = let b = bounds ((goal.at.overflow_add-end c).In-Some) in omega (arith, b.3)
 
 -- ---- the parts of the range
 
@@ -58,7 +58,7 @@ pass-requires-clause-used c = λ place part from to found.
     let b = bounds here in
     range_used c.in-Some.range (others here) c.args.base c.loop-range.at c.args.ring.now.list (ahead here) place part (omega (arith, b.0, from)) (omega (arith, b.0, b.1, to)) found
 
-module _ (c : Joined-at-first) (rs : List Range) (range_ahead : IsAhead (c.in-Some.range ∷ rs) c.args.base c.loop-range.at c.args.ring.now.list) where
+module _ (c : Joined-at-first) (rs : List (Range (Unit {0}))) (range_ahead : IsAhead (c.in-Some.range ∷ rs) c.args.base c.loop-range.at c.args.ring.now.list) where
   -- where the walk stands at the range already, all is as before
   at_range : c.in-Some.range.first - c.args.base ≤ c.loop-range.at → c.loop-range.at ≡ c.in-Some.range.first - c.args.base
   at_range le = let b = range_bounds c.in-Some.range rs c.args.base c.loop-range.at c.args.ring.now.list range_ahead in omega (arith, b.0, le)
@@ -108,16 +108,16 @@ returns-in-Some-pass-clause-limit c =
 pub loop-range-smaller : goal.loop-range-smaller
 loop-range-smaller c =
     let here = (goal.at.loop-range-smaller c).In-Some in
-    omega (arith, ap (λ (rs : List Range). length rs) (behind_is here), ap (λ (rs : List Range). length rs) (seats here).1)
+    omega (arith, ap (λ (rs : List (Range (Unit {0}))). length rs) (following_is here), ap (λ (rs : List (Range (Unit {0}))). length rs) (cursors here).1)
 
 pub loop-range-preserved : goal.loop-range-preserved
 loop-range-preserved c =
     let here = (goal.at.loop-range-preserved c).In-Some in
     let e = c.in_default-pass.ensures.none in
-    let seat = seats here in
+    let cursor = cursors here in
     record {
-      seat = seat.0;
-      ahead = rw seat.1 (range_next c.in-Some.range (others here) c.args.base c.loop-range.at c.args.ring.now.list (ahead here));
+      cursor = cursor.0;
+      ahead = rw cursor.1 (range_next c.in-Some.range (others here) c.args.base c.loop-range.at c.args.ring.now.list (ahead here));
       begun = e.has;
       next = next_is ((goal.at.loop-range-preserved c).Joined-at-first) (others here) (ahead here) ∙ e.next c.args.base;
     }
@@ -125,5 +125,5 @@ loop-range-preserved c =
 pub returns-clause-none : goal.returns-clause-none
 returns-clause-none c =
     let i = c.loop-range.invariant in
-    let none = head_none (behind c.loop-range.seat c.args.taken.now.ranges) c.in_default.ensures.value in
+    let none = head_none (following c.loop-range.cursor c.args.taken.now.ranges) c.in_default.ensures.value in
     i.next ∙ sought-past c.args.base c.loop-range.at c.loop-range.gapless c.loop-range.begun c.args.ring.now.list (ahead_none c.args.base c.loop-range.at c.args.ring.now.list (rw none at i.ahead))

@@ -19,7 +19,7 @@ used : (c : After-ended) → (part_of c).head.used ≡ true
 unfolding part_of
 used c = c.requires.used c.loop-i.i (part_of c) c.loop-i.auto.i c.loop-i-test.true c.part.ensures.value
 
--- what the walk knows behind it
+-- what the walk knows after it
 step : (c : After-ended) (base : ℕ) → Passes base c.loop-i.i c.args.gapless c.loop-i.begun c.go_on.result c.args.ring.now.list (part_of c)
 unfolding part_of
 step c base =

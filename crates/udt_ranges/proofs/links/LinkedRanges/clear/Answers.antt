@@ -1,123 +1,80 @@
 use Rattle.std.proofs.Common.{◌≡◌, ◌+◌, ltb, length, filter, sym, ap, ◌∙◌, arith}
 use Rattle.std.proofs.lemmas.Bool.{lt-ltb}
 use Rattle.udt_ranges.specs.Ranges.{items_of}
-use Rattle.udt_ranges.specs.Seats.{before, behind}
-use Rattle.udt_ranges.proofs.PlaceLemmas.{whole, bounds}
-use Rattle.udt_ranges.proofs.ItemLemmas.{Rises-back, Rises-from, Rises-trimmed, IsFrom-trimmed, filter-trimmed, length-trimmed, filter_all}
+use Rattle.udt_ranges.specs.Cursors.{before, following}
+use Rattle.udt_ranges.proofs.PlaceLemmas.{Bounds, bounds_after, whole}
+use Rattle.udt_ranges.proofs.ItemLemmas.{Rises-from, Rises-trimmed, IsFrom-trimmed, filter-trimmed, length-trimmed, filter_all}
 use Rattle.udt_ranges.proofs.MaximalLemmas.{IsMaximal-trimmed}
 use Rattle.udt_ranges.proofs.EditLemmas.{trimmed-same, length_within}
 use Rattle.udt_ranges.proofs.links.LinkedRanges.clear.Goals as goal
+use Rattle.udt_ranges.proofs.links.LinkedRanges.clear.Given.{Over}
+use Rattle.udt_ranges.proofs.links.LinkedRanges.clear.Goals.{After-trim_next-count, Then-count-eq0}
 
--- where nothing was trimmed off, nothing is left up to the offset
-pub returns-then-count-eq0-clause-rises : goal.returns-then-count-eq0-clause-rises
-returns-then-count-eq0-clause-rises c = λ low high h.
-    let s = c.clear.self in
-    let seat = c.args.seat in
-    let to = c.args.to in
-    let i = c.clear.invariant in
-    let e = c.trim_next-count.ensures in
-    let back = behind seat s.ranges in
-    let b = bounds s.window s.ranges e.was_within in
-    let rises = Rises-back b.low b.high (before seat s.ranges) back (rw (whole seat s.ranges i.seat) b.rises) in
-    let same : behind seat c.trim_next-count.new.self.ranges ≡ back = e.behind ∙ trimmed-same to b.low b.high back rises (sym e.value ∙ c.if-count-eq0.true) in
-    rw same (i.rises low high h)
+-- what is after the place rises
+back : (g : Over) (c : After-trim_next-count g) → Bounds (following c.args.cursor c.clear.self.ranges)
+back g c = bounds_after c.clear.self.window c.args.cursor c.clear.self.ranges c.clear.invariant.cursor c.trim_next-count.ensures.was_within
 
-pub returns-then-count-eq0-clause-behind : goal.returns-then-count-eq0-clause-behind
-returns-then-count-eq0-clause-behind c =
-    let s = c.clear.self in
-    let seat = c.args.seat in
-    let to = c.args.to in
-    let i = c.clear.invariant in
-    let e = c.trim_next-count.ensures in
-    let back = behind seat s.ranges in
-    let b = bounds s.window s.ranges e.was_within in
-    let rises = Rises-back b.low b.high (before seat s.ranges) back (rw (whole seat s.ranges i.seat) b.rises) in
-    let same : behind seat c.trim_next-count.new.self.ranges ≡ back = e.behind ∙ trimmed-same to b.low b.high back rises (sym e.value ∙ c.if-count-eq0.true) in
-    rw same (IsFrom-trimmed to b.low b.high back rises (sym e.value ∙ c.if-count-eq0.true))
+-- where nothing was trimmed off, it stays
+same : (g : Over) (c : Then-count-eq0 g) (b : Bounds (following c.args.cursor c.clear.self.ranges)) → following c.args.cursor c.trim_next-count.new.self.ranges ≡ following c.args.cursor c.clear.self.ranges
+same g c b = c.trim_next-count.ensures.following ∙ trimmed-same c.args.to b.low b.high _ b.rises (sym c.trim_next-count.ensures.value ∙ c.if-count-eq0.true)
+
+pub returns-then-count-eq0-clause-bounds : goal.returns-then-count-eq0-clause-bounds
+returns-then-count-eq0-clause-bounds g c = λ low high h.
+    let at = goal.at.returns-then-count-eq0-clause-bounds g c in
+    rw (same g at.Then-count-eq0 (back g at.After-trim_next-count)) (c.clear.invariant.bounds low high h)
+
+pub returns-then-count-eq0-clause-following : goal.returns-then-count-eq0-clause-following
+returns-then-count-eq0-clause-following g c =
+    let at = goal.at.returns-then-count-eq0-clause-following g c in
+    let b = back g at.After-trim_next-count in
+    rw (same g at.Then-count-eq0 b) (IsFrom-trimmed c.args.to b.low b.high _ b.rises (sym c.trim_next-count.ensures.value ∙ c.if-count-eq0.true))
 
 pub returns-then-count-eq0-clause-items : goal.returns-then-count-eq0-clause-items
-returns-then-count-eq0-clause-items c =
-    let s = c.clear.self in
-    let seat = c.args.seat in
-    let to = c.args.to in
-    let i = c.clear.invariant in
-    let e = c.trim_next-count.ensures in
-    let back = behind seat s.ranges in
-    let b = bounds s.window s.ranges e.was_within in
-    let rises = Rises-back b.low b.high (before seat s.ranges) back (rw (whole seat s.ranges i.seat) b.rises) in
-    let same : behind seat c.trim_next-count.new.self.ranges ≡ back = e.behind ∙ trimmed-same to b.low b.high back rises (sym e.value ∙ c.if-count-eq0.true) in
-    let from = IsFrom-trimmed to b.low b.high back rises (sym e.value ∙ c.if-count-eq0.true) in
-    ap items_of same
-    ∙ sym (filter_all (λ m. ltb to m.offset) (to + 1) b.high back (Rises-from (to + 1) b.low b.high back from rises) (λ m low high. lt-ltb to m.offset (omega arith)))
-    ∙ i.items
+returns-then-count-eq0-clause-items g c =
+    let at = goal.at.returns-then-count-eq0-clause-items g c in
+    let b = back g at.After-trim_next-count in
+    let from = IsFrom-trimmed c.args.to b.low b.high _ b.rises (sym c.trim_next-count.ensures.value ∙ c.if-count-eq0.true) in
+    ap items_of (same g at.Then-count-eq0 b)
+    ∙ sym (filter_all (λ m. ltb c.args.to m.offset) (c.args.to + 1) b.high _ (Rises-from (c.args.to + 1) b.low b.high _ from b.rises) (λ m low high. lt-ltb c.args.to m.offset (omega arith)))
+    ∙ c.clear.invariant.items
 
 pub returns-then-count-eq0-clause-maximal : goal.returns-then-count-eq0-clause-maximal
-returns-then-count-eq0-clause-maximal c = λ h.
-    let s = c.clear.self in
-    let seat = c.args.seat in
-    let to = c.args.to in
-    let i = c.clear.invariant in
-    let e = c.trim_next-count.ensures in
-    let back = behind seat s.ranges in
-    let b = bounds s.window s.ranges e.was_within in
-    let rises = Rises-back b.low b.high (before seat s.ranges) back (rw (whole seat s.ranges i.seat) b.rises) in
-    let same : behind seat c.trim_next-count.new.self.ranges ≡ back = e.behind ∙ trimmed-same to b.low b.high back rises (sym e.value ∙ c.if-count-eq0.true) in
-    rw same (i.maximal h)
+returns-then-count-eq0-clause-maximal g c = λ h.
+    let at = goal.at.returns-then-count-eq0-clause-maximal g c in
+    rw (same g at.Then-count-eq0 (back g at.After-trim_next-count)) (c.clear.invariant.maximal h)
 
 pub returns-then-count-eq0-clause-value : goal.returns-then-count-eq0-clause-value
-returns-then-count-eq0-clause-value c =
-    let s = c.clear.self in
-    let seat = c.args.seat in
-    let to = c.args.to in
-    let i = c.clear.invariant in
-    let e = c.trim_next-count.ensures in
-    let back = behind seat s.ranges in
-    let b = bounds s.window s.ranges e.was_within in
-    let rises = Rises-back b.low b.high (before seat s.ranges) back (rw (whole seat s.ranges i.seat) b.rises) in
-    let same : behind seat c.trim_next-count.new.self.ranges ≡ back = e.behind ∙ trimmed-same to b.low b.high back rises (sym e.value ∙ c.if-count-eq0.true) in
-    rw same i.counted
+returns-then-count-eq0-clause-value g c =
+    let at = goal.at.returns-then-count-eq0-clause-value g c in
+    rw (same g at.Then-count-eq0 (back g at.After-trim_next-count)) c.clear.invariant.counted
 
 pub overflow_add-removed : goal.overflow_add-removed
-overflow_add-removed c =
-    let s = c.clear.self in
-    let seat = c.args.seat in
-    let to = c.args.to in
+overflow_add-removed g c =
+    let b = back g ((goal.at.overflow_add-removed g c).After-trim_next-count) in
     let i = c.clear.invariant in
     let e = c.trim_next-count.ensures in
-    let back = behind seat s.ranges in
-    let b = bounds s.window s.ranges e.was_within in
-    let rises = Rises-back b.low b.high (before seat s.ranges) back (rw (whole seat s.ranges i.seat) b.rises) in
     let old = c.args.self.now in
-    omega (arith, i.counted, i.kept, e.room, e.value, length-trimmed to b.low b.high back rises, length_within old.window (before seat old.ranges) (behind seat old.ranges) (rw (whole seat old.ranges c.requires.seat) c.requires.within))
+    omega (arith, i.counted, i.kept, e.room, e.value, length-trimmed c.args.to b.low b.high _ b.rises, length_within old.window (before c.args.cursor old.ranges) (following c.args.cursor old.ranges) (rw (whole c.args.cursor old.ranges c.requires.cursor) c.requires.within))
 
 pub clear-smaller : goal.clear-smaller
-clear-smaller c =
-    let s = c.clear.self in
-    let seat = c.args.seat in
-    let to = c.args.to in
-    let i = c.clear.invariant in
+clear-smaller g c =
+    let b = back g ((goal.at.clear-smaller g c).After-trim_next-count) in
     let e = c.trim_next-count.ensures in
-    let back = behind seat s.ranges in
-    let b = bounds s.window s.ranges e.was_within in
-    let rises = Rises-back b.low b.high (before seat s.ranges) back (rw (whole seat s.ranges i.seat) b.rises) in
-    omega (arith, e.value, length-trimmed to b.low b.high back rises, ap (λ xs. length (items_of xs)) e.behind)
+    omega (arith, e.value, length-trimmed c.args.to b.low b.high _ b.rises, ap (λ xs. length (items_of xs)) e.following)
 
 pub clear-preserved : goal.clear-preserved
-clear-preserved c =
-    let s = c.clear.self in
-    let seat = c.args.seat in
-    let to = c.args.to in
+clear-preserved g c =
+    let b = back g ((goal.at.clear-preserved g c).After-trim_next-count) in
     let i = c.clear.invariant in
     let e = c.trim_next-count.ensures in
-    let back = behind seat s.ranges in
-    let b = bounds s.window s.ranges e.was_within in
-    let rises = Rises-back b.low b.high (before seat s.ranges) back (rw (whole seat s.ranges i.seat) b.rises) in
+    let back = following c.args.cursor c.clear.self.ranges in
+    let to = c.args.to in
     record {
       kept = e.kept ∙ i.kept;
-      seat = e.seat;
+      cursor = e.cursor;
       front = e.before ∙ i.front;
-      items = ap (λ xs. filter (λ m. ltb to m.offset) (items_of xs)) e.behind ∙ filter-trimmed to b.low b.high back rises ∙ i.items;
-      counted = omega (arith, i.counted, e.value, length-trimmed to b.low b.high back rises, ap (λ xs. length (items_of xs)) e.behind);
-      rises = λ low high h. rw e.behind (Rises-trimmed to low high back (i.rises low high h));
-      maximal = λ h. rw e.behind (IsMaximal-trimmed to back (i.maximal h));
+      items = ap (λ xs. filter (λ m. ltb to m.offset) (items_of xs)) e.following ∙ filter-trimmed to b.low b.high back b.rises ∙ i.items;
+      counted = omega (arith, i.counted, e.value, length-trimmed to b.low b.high back b.rises, ap (λ xs. length (items_of xs)) e.following);
+      bounds = λ low high h. rw e.following (Rises-trimmed to low high back (i.bounds low high h));
+      maximal = λ h. rw e.following (IsMaximal-trimmed g.T.Tag.same to back (i.maximal h));
     }

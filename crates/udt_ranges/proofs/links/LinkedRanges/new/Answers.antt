@@ -6,9 +6,9 @@ use Rattle.udt_ranges.proofs.links.LinkedRanges.new.Goals as goal
 
 pub invariant_of-result : goal.invariant_of-result
 unfolding Rises walk
-invariant_of-result c =
+invariant_of-result g c =
     record { rises = tt; tail_is = λ some. absurd (omega arith); hint_is = λ some. absurd (omega arith) }
 
 pub returns : goal.returns
 unfolding walk
-returns c = seen_as _ _ _ _ (omega (arith, c.in_ok-places.ensures.len, c.in_ok-places.places.ok.0)) refl
+returns g c = seen_as _ _ _ _ (omega (arith, c.new-places.ensures.len, c.in_ok-resize.ensures.len)) refl

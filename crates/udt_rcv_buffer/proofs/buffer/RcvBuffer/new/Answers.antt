@@ -6,7 +6,8 @@ use Rattle.udt_rcv_buffer.specs.declared.head.Head.{Head}
 use Rattle.udt_rcv_buffer.specs.declared.head.TheConstants.{MISSING}
 use Rattle.udt_ring.specs.Parts.{Part, empty_part}
 use Rattle.udt_rcv_buffer.specs.PlacedParts.{IsUnused}
-use Rattle.udt_ranges.specs.Ranges.{Rises, IsMaximal, items_of}
+use Rattle.udt_ranges.specs.Merging.{IsMaximal}
+use Rattle.udt_ranges.specs.Ranges.{Rises, items_of}
 use Rattle.udt_rcv_buffer.specs.Taken.{HoldsTaken}
 use Rattle.udt_rcv_buffer.proofs.PlacedLemmas.{placed_from-unused}
 use Rattle.udt_rcv_buffer.proofs.BufferLemmas.{none_settled, none_marked, none_first}

@@ -1,4 +1,6 @@
-use Rattle.std.proofs.Common.{◌∙◌}
+use Rattle.std.proofs.Common.{ap, ◌∙◌}
+use Rattle.udt_ranges.specs.Offsets.{least}
+use Rattle.udt_rcv_loss.proofs.ListedLemmas.{offsets_in-missing}
 use Rattle.udt_ranges.proofs.PlaceLemmas.{bounds}
 use Rattle.udt_ranges.proofs.OffsetLemmas.{least-items}
 use Rattle.udt_rcv_loss.proofs.MissingLemmas.{IsInWindow-items}
@@ -8,7 +10,7 @@ pub returns-clause-value : goal.returns-clause-value
 returns-clause-value c =
     let l = c.self.inside in
     let b = bounds l.ranges.window l.ranges.ranges c.self.invariant.within in
-    rw (← c.self.view_is) (c.first.ensures.value ∙ least-items b.low b.high l.ranges.ranges b.rises)
+    rw (← c.self.view_is) (c.first.ensures.value ∙ least-items b.low b.high l.ranges.ranges b.rises ∙ ap least (offsets_in-missing l.ranges.ranges))
 
 pub returns-clause-within : goal.returns-clause-within
 returns-clause-within c =

@@ -7,7 +7,7 @@ pub invariant_of-self-2 : goal.invariant_of-self-2
 invariant_of-self-2 c =
     let b = c.self.inside in
     let i = c.self.invariant in
-    let from = b.base + c.args.behind in
+    let from = b.base + c.args.by in
     let e = c.remove_range-2.ensures in (
       subst (λ l. AllBelow b.next l.missing) (sym e) (AllBelow-without b.next from (from + c.args.more) b.linked.missing i.0),
       subst (λ l. AllFrom b.base l.missing) (sym e) (AllFrom-without b.base from (from + c.args.more) b.linked.missing i.1),

@@ -15,30 +15,30 @@ some g c =
     let same = ap (λ (p : Parts g.row.H.Denot). length p.list) c.self.view_is in
     omega (arith, len, same, c.requires)
 
-pub place_behind-at-requires-clause-by : goal.place_behind-at-requires-clause-by
-place_behind-at-requires-clause-by g c = omega (arith, some g ((goal.at.place_behind-at-requires-clause-by g c).After-len), c.len.ensures, c.self.inside.places.ok.0)
+pub place_after-at-requires-clause-by : goal.place_after-at-requires-clause-by
+place_after-at-requires-clause-by g c = omega (arith, some g ((goal.at.place_after-at-requires-clause-by g c).After-len), c.len.ensures, c.self.inside.places.ok.0)
 
 pub index-place-requires : goal.index-place-requires
 index-place-requires g c =
-    omega (arith, some g ((goal.at.index-place-requires g c).After-len), c.len.ensures, c.self.inside.places.ok.0, c.place_behind-at.ensures.below)
+    omega (arith, some g ((goal.at.index-place-requires g c).After-len), c.len.ensures, c.self.inside.places.ok.0, c.place_after-at.ensures.below)
 
 pub bytes_at-requires : goal.bytes_at-requires
 bytes_at-requires g c =
     let r = c.self.inside in
-    let lt : c.place_behind-at.result < length r.places.items =
-    omega (arith, some g ((goal.at.bytes_at-requires g c).After-len), c.len.ensures, r.places.ok.0, c.place_behind-at.ensures.below) in
+    let lt : c.place_after-at.result < length r.places.items =
+    omega (arith, some g ((goal.at.bytes_at-requires g c).After-len), c.len.ensures, r.places.ok.0, c.place_after-at.ensures.below) in
     let place : Place g.row.H.Denot = c.index-place.result.now in
-    let short : place.len ≤ r.room = rw c.index-place.ensures (All-get_or (λ (p : Place g.row.H.Denot). p.len ≤ r.room) r.places.items c.place_behind-at.result place lt c.self.invariant.short) in
-    omega (arith, short, place_fits r c.self.invariant c.place_behind-at.result lt, c.deref.ensures.len, r.memory.ok.0)
+    let short : place.len ≤ r.room = rw c.index-place.ensures (All-get_or (λ (p : Place g.row.H.Denot). p.len ≤ r.room) r.places.items c.place_after-at.result place lt c.self.invariant.short) in
+    omega (arith, short, place_fits r c.self.invariant c.place_after-at.result lt, c.deref.ensures.len, r.memory.ok.0)
 
 pub returns-clause-value : goal.returns-clause-value
 returns-clause-value g c =
     let r = c.self.inside in
     let one = some g ((goal.at.returns-clause-value g c).After-len) in
     let all : c.len.result ≡ length r.places.items = omega (arith, c.len.ensures, r.places.ok.0) in
-    let lt : c.place_behind-at.result < length r.places.items = omega (arith, one, all, c.place_behind-at.ensures.below) in
-    let at = rw all at c.place_behind-at.ensures.value in
-    let there = slice_get_read r.places.items (length r.places.items) c.place_behind-at.result c.index-place.result.now refl lt c.index-place.ensures in
+    let lt : c.place_after-at.result < length r.places.items = omega (arith, one, all, c.place_after-at.ensures.below) in
+    let at = rw all at c.place_after-at.ensures.value in
+    let there = slice_get_read r.places.items (length r.places.items) c.place_after-at.result c.index-place.result.now refl lt c.index-place.ensures in
     rw (c.bytes_at.ensures, c.deref.ensures.value, ← c.self.view_is, at) (part_is r c.self.invariant c.args.i c.index-place.result.now one (rw at at there))
 
 -- the bytes of all parts lie in memory

@@ -11,15 +11,15 @@ few g c =
     let same = ap (λ (p : Parts g.row.H.Denot). length p.list) c.self.view_is in
     omega (arith, count_is c.self.inside c.self.invariant, same, c.requires)
 
-pub place_behind-self-inside-requires-clause-by : goal.place_behind-self-inside-requires-clause-by
-place_behind-self-inside-requires-clause-by g c =
-    omega (arith, few g ((goal.at.place_behind-self-inside-requires-clause-by g c).After-len), c.len.ensures, c.self.inside.places.ok.0)
+pub place_after-self-inside-requires-clause-by : goal.place_after-self-inside-requires-clause-by
+place_after-self-inside-requires-clause-by g c =
+    omega (arith, few g ((goal.at.place_after-self-inside-requires-clause-by g c).After-len), c.len.ensures, c.self.inside.places.ok.0)
 
 pub returns : goal.returns
 returns g c =
     let r = c.self.inside in
     let le = few g ((goal.at.returns g c).After-len) in
     let all : c.len.result ≡ length r.places.items = omega (arith, c.len.ensures, r.places.ok.0) in
-    let first = rw all at c.place_behind-self-inside.ensures.value in
+    let first = rw all at c.place_after-self-inside.ensures.value in
     let list = turn_is r c.self.invariant c.args.by le in
     rw (first, list, ← c.self.view_is) refl

@@ -3,7 +3,7 @@ use Rattle.udt_snd_buffer.specs.Buffers.{send_blocks_of}
 use Rattle.udt_snd_buffer.proofs.KeptLemmas.{kept_found}
 use Rattle.udt_snd_buffer.proofs.buffer.SndBuffer.part.Goals as goal
 
--- the block is in the part that is as far behind the first one
+-- the block is in the part that is as far after the first one
 pub returns : goal.returns
 returns c =
     let b = c.self.inside in

@@ -31,7 +31,6 @@ invariant_of-self c =
     record {
       maximal = i.maximal;
       rises = Rises-higher c.args.n high (c.args.n + l.ranges.window) l.ranges.ranges (omega (arith, floor, c.requires)) (Rises-from c.args.n l.floor high l.ranges.ranges from i.rises);
-      unreported = i.unreported;
       counted = i.counted;
     }
 

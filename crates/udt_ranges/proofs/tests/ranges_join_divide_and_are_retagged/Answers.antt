@@ -1,6 +1,7 @@
 use Rattle.std.proofs.Common.{ap}
-use Rattle.udt_ranges.specs.Ranges.{IsMaximal, Rises}
-use Rattle.udt_ranges.proofs.tests.ranges_join_divide_and_are_reported.Goals as goal
+use Rattle.udt_ranges.specs.Ranges.{Rises}
+use Rattle.udt_ranges.specs.Merging.{IsMaximal}
+use Rattle.udt_ranges.proofs.tests.ranges_join_divide_and_are_retagged.Goals as goal
 
 -- no ranges lie anywhere
 pub invariant_of-eight : goal.invariant_of-eight
