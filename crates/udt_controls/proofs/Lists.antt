@@ -68,7 +68,7 @@ rises_between_decreases before between keep =
 
 -- ---- a decrease
 
--- one call that isn't an acknowledgement
+-- one call that isn't an ACK
 falls_by_one :
     (a : Additive) (call : Call) → IsWindowed a → (KeepsWindow a call → ⊥)
     → (after_call additive a call).window ≤ a.window

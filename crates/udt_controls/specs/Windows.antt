@@ -3,15 +3,16 @@ use Rattle.std.proofs.Common.{ℕ, ◌+◌, ◌<◌, ◌≤◌, List, [], ◌∷
 use Rattle.std.specs.Prelude.{nat_lt}
 use Rattle.std.proofs.lemmas.Bool.{cond_both}
 use Rattle.std.proofs.lemmas.Nat.{mod_below}
-use Rattle.udt_model.specs.Rate.{Call, OnAck, OnNak, OnTimeout, after_call, after_calls, StaysInBounds, is_new_loss, largest_window}
+use Rattle.udt_model.specs.Rate.{Call, OnAck, OnNak, OnTimeout, after_call, after_calls, StaysInBounds, is_new_loss}
+use Rattle.udt_model.specs.declared.limits.TheConstants.{LEAST_WINDOW, GREATEST_WINDOW}
 use Rattle.udt_model.specs.Controls.{Additive, starting, doubling, adding, halved, additive}
 
 -- a state that calls can lead to: the window is at least two packets and at most the largest, and
 -- the rest is less than a window
 pub record IsWindowed (a : Additive) : Type 0 where
-  pub least : 2 ≤ a.window
-  pub most : a.window ≤ largest_window
-  pub threshold : a.threshold ≤ largest_window
+  pub least : LEAST_WINDOW ≤ a.window
+  pub most : a.window ≤ GREATEST_WINDOW
+  pub threshold : a.threshold ≤ GREATEST_WINDOW
   pub rest : a.rest < a.window
 
 -- growth keeps to such states

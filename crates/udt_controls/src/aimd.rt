@@ -1,19 +1,11 @@
 // The control whose window adds and halves.
 ghost use Rattle.std.specs.Prelude.{◌≡◌, ℕ, ◌+◌, ◌-◌, ◌*◌, ◌/◌, ◌%◌, ◌^◌, ◌<◌, ◌≤◌, max, min};
-ghost use Rattle.udt_model.specs.Rate.{is_new_loss, largest_window};
-ghost use Rattle.udt_model.specs.Controls.{starting, grown, cut, begun_again, half_of};
+ghost use Rattle.udt_model.specs.declared.limits.TheConstants.{GREATEST_WINDOW};
+ghost use Rattle.udt_model.specs.Controls.{additive, half_of};
 
 use std::marker::Model;
-use udt_rate::{Control, Seen};
-
-/// The window that a connection begins with, in packets.
-const FIRST_WINDOW: u32 = 16;
-
-/// The largest window, in packets.
-const LARGEST_WINDOW: u32 = 65_536;
-
-/// The least window, in packets, which a timeout leaves.
-const LEAST_WINDOW: u32 = 2;
+use udt_model::{FIRST_WINDOW, GREATEST_WINDOW, LEAST_WINDOW};
+use udt_rate::{Control, Seen, is_new};
 
 /// A control without a period. Below its threshold the window grows by what is acknowledged, from
 /// there on by one packet for each window that is acknowledged. The first loss of a flight halves
@@ -42,24 +34,14 @@ impl Model for Aimd {
 impl Control for Aimd {
     ghost use Rattle.udt_controls.specs.Windows.{additive_stays_in_bounds};
 
-    ghost started = { λ packet flow. starting };
-
-    ghost window_of = { λ a. a.window };
-
-    ghost period_of = { λ a. 0 };
-
-    ghost after_ack = { grown };
-
-    ghost after_nak = { cut };
-
-    ghost after_timeout = { begun_again };
+    ghost ways = { additive };
 
     ghost stays_in_bounds = { additive_stays_in_bounds };
 
     fn start(_packet: u32, _flow: u32) -> Self {
         Aimd {
             window: FIRST_WINDOW,
-            threshold: LARGEST_WINDOW,
+            threshold: GREATEST_WINDOW,
             rest: 0,
             last_dec: None,
         }
@@ -100,12 +82,12 @@ impl Control for Aimd {
     }
 }
 
-/// The window with so many packets more, which is no larger than the largest one.
+/// The window with this many packets more, which is no larger than the largest one.
 fn raised(window: u32, packets: u128) -> u32
     requires { packets < 2 ^ 65 }
-    ensures { result ≡ min (window + packets) largest_window }
+    ensures { result ≡ min (window + packets) GREATEST_WINDOW }
 {
-    (u128::from(window) + packets).min(u128::from(LARGEST_WINDOW)) as u32
+    (u128::from(window) + packets).min(u128::from(GREATEST_WINDOW)) as u32
 }
 
 /// Half of the window, and at least the least one.
@@ -113,14 +95,4 @@ fn half(window: u32) -> u32
     ensures { result ≡ half_of window }
 {
     (window / 2).max(LEAST_WINDOW)
-}
-
-/// Whether no decrease has answered a loss at this offset.
-fn is_new(last_dec: Option<u64>, first: u64) -> bool
-    ensures { result ≡ is_new_loss last_dec first }
-{
-    match last_dec {
-        None => true,
-        Some(last) => first > last,
-    }
 }

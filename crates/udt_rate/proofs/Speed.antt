@@ -15,7 +15,7 @@ ended_is_no_faster n seen none = record { window = omega arith; period = omega (
 same_is_no_faster : (n : Pacing) → IsNoFaster n n
 same_is_no_faster n = record { window = omega arith; period = omega arith }
 
--- a loss report, in slow start or not
+-- a NAK, in slow start or not
 nak_is_no_faster :
     (slow : Bool) (n : Pacing) (first sent : ℕ) (seen : Feedback) → n.slow ≡ slow → IsPaced n
     → IsNoFaster n (reported slow n first sent seen)

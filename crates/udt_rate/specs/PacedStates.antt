@@ -4,7 +4,8 @@ use Rattle.std.proofs.Common.{◌≡◌, ℕ, ◌+◌, ◌*◌, ◌/◌, ◌≤�
 use Rattle.std.specs.Prelude.{nat_le}
 use Rattle.std.proofs.Math.Nat.{div-le_of_le-mul}
 use Rattle.std.proofs.lemmas.Bool.{cond_both}
-use Rattle.udt_model.specs.Rate.{Feedback, Call, OnAck, OnNak, OnTimeout, after_call, after_calls, IsInBounds, StaysInBounds, is_new_loss, Pacing, opening, opened, ended, slowed_down, acknowledged, reported, after_timeout, native, shorter_of, increase_of, syn_nano_millionths, first_window, IsPaced, NativeIsPaced}
+use Rattle.udt_model.specs.Rate.{Feedback, Call, OnAck, OnNak, OnTimeout, after_call, after_calls, IsInBounds, StaysInBounds, is_new_loss, Pacing, opening, opened, ended, slowed_down, acknowledged, reported, after_timeout, native, shorter_of, increase_of, syn_nano_millionths, IsPaced, NativeIsPaced}
+use Rattle.udt_model.specs.declared.limits.TheConstants.{FIRST_WINDOW}
 
 -- a shorter period is no longer
 pub shorter_is_no_longer : (period inc : ℕ) → 1 ≤ period → shorter_of period inc ≤ period
@@ -37,7 +38,7 @@ opened_is_paced n seen h =
       started = h.started;
     }
 
--- an acknowledgement keeps to such states
+-- an ACK keeps to such states
 ack_is_paced :
     (slow : Bool) (n : Pacing) (seen : Feedback) → n.slow ≡ slow → IsPaced n
     → IsPaced (acknowledged slow n seen)
@@ -46,7 +47,8 @@ ack_is_paced true n seen is_slow h =
     (λ _. ended_is_paced (opened n seen) seen (opened_is_paced n seen h))
     (λ _. opened_is_paced n seen h)
 ack_is_paced false n seen is_slow h =
-    let short = shorter_is_no_longer n.period_nanos (increase_of seen.capacity n.period_nanos n.packet_bytes) (h.started is_slow) in
+    let inc = increase_of seen.capacity n.period_nanos n.packet_bytes in
+    let short = shorter_is_no_longer n.period_nanos inc (h.started is_slow) in
     record {
       packet = h.packet;
       window = omega arith;
@@ -69,7 +71,7 @@ slowed_is_paced n sent is_over h =
       started = λ _. omega (arith, h.started is_over);
     }
 
--- a loss report does
+-- a NAK does
 nak_is_paced :
     (slow : Bool) (n : Pacing) (first sent : ℕ) (seen : Feedback) → n.slow ≡ slow → IsPaced n
     → IsPaced (reported slow n first sent seen)
@@ -120,5 +122,5 @@ native_stays_in_bounds packet flow calls positive allowed =
     paced_is_in_bounds (after_calls native (opening packet flow) calls) (native_is_paced packet flow calls positive allowed)
 
 -- the first window and no period are in these bounds
-pub first_is_in_bounds : IsInBounds first_window 0
+pub first_is_in_bounds : IsInBounds FIRST_WINDOW 0
 first_is_in_bounds = record { least = omega arith; longest = omega arith }

@@ -5,14 +5,15 @@ ghost use Rattle.udt_model.specs.Rate.{increase_of, shorter_of, least_increase, 
 use crate::constants::{SECOND_NANOS, SYN_NANO_MILLIONTHS};
 
 /// By how much the packets of one SYN increase, in millionths of a packet, for a link of this
-/// capacity in packets a second, a sending period in nanoseconds and packets of so many bytes.
+/// capacity in packets a second, a sending period in nanoseconds and packets of this many bytes.
 pub fn increase(capacity: u64, period: u64, packet: u32) -> u64
     requires period { 1 ≤ period }
     requires packet { 1 ≤ packet }
     requires capacity { capacity < 2 ^ 32 }
     ensures value { result ≡ increase_of capacity period packet }
     ensures least { least_increase packet ≤ result }
-    // Each packet a second that the link has to spare brings twelve to 120 millionths.
+    // For each packet a second to spare it is at least 12 millionths; and it is at most 120, or the
+    // least increase where that is more.
     ensures spare_most { result ≤ max (120 * (capacity - speed_at period)) (least_increase packet) }
     ensures spare_least { 12 * (capacity - speed_at period) ≤ result }
     ensures none_spare { capacity ≤ speed_at period → result ≡ least_increase packet }
@@ -25,7 +26,7 @@ pub fn increase(capacity: u64, period: u64, packet: u32) -> u64
     brought(capacity - speed, packet).max(least)
 }
 
-/// The period at which one SYN has so many millionths of a packet more, in nanoseconds.
+/// The period at which one SYN has this many millionths of a packet more, in nanoseconds.
 pub fn shorter(period: u64, inc: u64) -> u64
     ensures value { result ≡ shorter_of period inc }
     ensures least { 1 ≤ result }
@@ -38,7 +39,7 @@ pub fn shorter(period: u64, inc: u64) -> u64
     shorter.max(1)
 }
 
-/// What so many packets a second to spare bring, in millionths of a packet: three halves of the
+/// The increase for this many packets a second to spare, in millionths of a packet: three halves of the
 /// least power of ten that reaches their bits, divided by the bytes of a packet.
 fn brought(spare: u64, packet: u32) -> u64
     requires some { 1 ≤ spare }

@@ -1,29 +1,24 @@
 // What holds of controls over whole lists of calls. Each function does nothing: its clause is the
 // law.
 ghost use Rattle.std.specs.Prelude.{◌≡◌};
-ghost use Rattle.udt_model.specs.Rate.{ways, native, StaysInBounds, NativeIsPaced, PowerIsLeast, LossNeverSpeedsUp, AckNeverLengthensPeriod, SlowStartNeverShrinks, OneDecreaseAFlight};
+ghost use Rattle.udt_model.specs.Rate.{native, StaysInBounds, NativeIsPaced, PowerIsLeast, LossNeverSpeedsUp, AckNeverLengthensPeriod, SlowStartNeverShrinks, OneDecreaseAFlight};
 
 use crate::control::Control;
 use crate::native::Native;
 
-/// Whatever a control is told, it lets two packets be on their way and sends one a second.
+/// After every list of allowed calls, begun at a packet of at least one byte, a control lets two
+/// packets be in flight and sends one a second.
 pub fn every_control_stays_in_bounds<C: Control>()
-    ensures { StaysInBounds
-        (ways C.started C.window_of C.period_of C.after_ack C.after_nak C.after_timeout) }
+    ensures { StaysInBounds C.ways }
 {}
 
 /// The native control is the one of the definitions.
 pub fn native_is_native()
-    ensures { ways
-        ⟦<Native as Control>⟧.started
-        ⟦<Native as Control>⟧.window_of
-        ⟦<Native as Control>⟧.period_of
-        ⟦<Native as Control>⟧.after_ack
-        ⟦<Native as Control>⟧.after_nak
-        ⟦<Native as Control>⟧.after_timeout ≡ native }
+    ensures { ⟦<Native as Control>⟧.ways ≡ native }
 {}
 
-/// Whatever the native control is told, its window is from the first to the largest one. In slow
+/// After every list of allowed calls, begun at a packet of at least one byte, the window of the
+/// native control is from the first to the greatest one. In slow
 /// start it has no period, and afterwards one from a nanosecond to a second.
 #[tactic(auto, using(crate::specs::PacedStates::native_is_paced))]
 pub fn native_is_paced()
@@ -36,13 +31,13 @@ pub fn power_is_least()
     ensures { PowerIsLeast }
 {}
 
-/// A loss report or a timeout never makes the sender faster: no larger window, no shorter period.
+/// A NAK or a timeout never makes the sender faster: no larger window, no shorter period.
 #[tactic(auto, using(crate::proofs::Speed::loss_never_speeds_up))]
 pub fn loss_never_speeds_up()
     ensures { LossNeverSpeedsUp }
 {}
 
-/// After slow start an acknowledgement never makes the period longer.
+/// After slow start an ACK never makes the period longer.
 #[tactic(auto, using(crate::proofs::Speed::ack_never_lengthens_period))]
 pub fn ack_never_lengthens_period()
     ensures { AckNeverLengthensPeriod }

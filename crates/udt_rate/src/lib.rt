@@ -10,7 +10,7 @@ mod steady;
 
 pub use control::{Control, Seen};
 pub use formulas::{increase, shorter};
-pub use native::Native;
+pub use native::{Native, is_new};
 pub use steady::Steady;
 
 #[cfg(test)]

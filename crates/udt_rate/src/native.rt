@@ -1,15 +1,17 @@
 // The native control.
 ghost use Rattle.std.specs.Prelude.{◌≡◌, ℕ, ◌+◌, ◌-◌, ◌*◌, ◌/◌, ◌^◌, ◌<◌, ◌≤◌, max, min};
-ghost use Rattle.udt_model.specs.Rate.{opening, after_ack, after_nak, after_timeout, steady_window, measured_period, bounded_period, longer_of, is_new_loss, largest_window, longest_period};
+ghost use Rattle.udt_model.specs.Rate.{native, steady_window, measured_period, bounded_period, longer_of, is_new_loss};
+ghost use Rattle.udt_model.specs.declared.limits.TheConstants.{GREATEST_WINDOW, GREATEST_PERIOD};
 
-use crate::constants::{FIRST_WINDOW, LARGEST_WINDOW, LONGEST_PERIOD, SECOND_NANOS, SYN_MICROS};
+use crate::constants::SECOND_NANOS;
 use crate::control::{Control, Seen};
 use crate::formulas::{increase, shorter};
 use std::marker::Model;
+use udt_model::{FIRST_WINDOW, GREATEST_PERIOD, GREATEST_WINDOW, SYN};
 
 /// The native control. In slow start the window grows by what is acknowledged. Afterwards the window
-/// is what a round trip takes at the peer's receiving rate, each acknowledgement shortens the
-/// period, and the first loss of a flight makes it longer by an eighth.
+/// is what a round trip takes at the peer's receiving rate, each ACK shortens the period, and the
+/// first loss of a flight makes it longer by an eighth.
 #[derive(Debug, Drop)]
 pub struct Native {
     packet: u32,
@@ -35,17 +37,7 @@ impl Model for Native {
 impl Control for Native {
     ghost use Rattle.udt_rate.specs.PacedStates.{native_stays_in_bounds};
 
-    ghost started = { opening };
-
-    ghost window_of = { λ n. n.window };
-
-    ghost period_of = { λ n. n.period_nanos };
-
-    ghost after_ack = { after_ack };
-
-    ghost after_nak = { after_nak };
-
-    ghost after_timeout = { after_timeout };
+    ghost ways = { native };
 
     ghost stays_in_bounds = { native_stays_in_bounds };
 
@@ -100,12 +92,12 @@ impl Control for Native {
     }
 }
 
-/// The window of slow start after an acknowledgement of so many packets.
+/// The window of slow start after an ACK of this many packets.
 fn opened_window(window: u32, newly: u64) -> u32
-    ensures { result ≡ min (window + newly) largest_window }
+    ensures { result ≡ min (window + newly) GREATEST_WINDOW }
 {
     let grown = u128::from(window) + u128::from(newly);
-    grown.min(u128::from(LARGEST_WINDOW)) as u32
+    grown.min(u128::from(GREATEST_WINDOW)) as u32
 }
 
 /// The window that a round trip takes at the peer's receiving rate.
@@ -113,9 +105,9 @@ fn paced_window(seen: &Seen) -> u32
     requires { seen.now.rate < 2 ^ 32 }
     ensures { result ≡ steady_window seen.now }
 {
-    let micros = u128::from(seen.rtt) + u128::from(SYN_MICROS);
+    let micros = u128::from(seen.rtt) + u128::from(SYN);
     let packets = u128::from(seen.rate) * micros / 1_000_000 + u128::from(FIRST_WINDOW);
-    packets.min(u128::from(LARGEST_WINDOW)) as u32
+    packets.min(u128::from(GREATEST_WINDOW)) as u32
 }
 
 /// The period that slow start ends with.
@@ -126,21 +118,22 @@ fn first_period(window: u32, seen: &Seen) -> u64
     let measured = if seen.rate > 0 {
         u128::from(SECOND_NANOS / seen.rate)
     } else {
-        1000 * (u128::from(seen.rtt) + u128::from(SYN_MICROS)) / u128::from(window)
+        1000 * (u128::from(seen.rtt) + u128::from(SYN)) / u128::from(window)
     };
-    measured.min(u128::from(LONGEST_PERIOD)).max(1) as u64
+    measured.min(u128::from(GREATEST_PERIOD)).max(1) as u64
 }
 
 /// The period that a decrease leaves: longer by an eighth, and at most a second.
 fn longer(period: u64) -> u64
-    requires { period ≤ longest_period }
+    requires { period ≤ GREATEST_PERIOD }
     ensures { result ≡ longer_of period }
 {
-    ((9 * period + 7) / 8).min(LONGEST_PERIOD)
+    ((9 * period + 7) / 8).min(GREATEST_PERIOD)
 }
 
-/// Whether no decrease has answered a loss at this offset.
-fn is_new(last_dec: Option<u64>, first: u64) -> bool
+/// Whether no decrease has answered a loss at this offset: it lies above the greatest offset that was
+/// sent at the last decrease.
+pub fn is_new(last_dec: Option<u64>, first: u64) -> bool
     ensures { result ≡ is_new_loss last_dec first }
 {
     match last_dec {

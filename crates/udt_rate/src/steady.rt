@@ -1,27 +1,19 @@
 // A control for tests.
-ghost use Rattle.udt_model.specs.Rate.{first_window};
+ghost use Rattle.udt_model.specs.declared.limits.TheConstants.{FIRST_WINDOW};
 
-use crate::constants::FIRST_WINDOW;
 use crate::control::{Control, Seen};
+use udt_model::FIRST_WINDOW;
 
 /// A control that stays as it is, whatever it is told: the first window, and no period.
 #[derive(Clone, Copy, Debug, PartialEq, Eq)]
 pub struct Steady;
 
 impl Control for Steady {
+    ghost use Rattle.udt_model.specs.Rate.{ways};
     ghost use Rattle.udt_rate.specs.PacedStates.{first_is_in_bounds};
 
-    ghost started = { λ packet flow. record {} };
-
-    ghost window_of = { λ c. first_window };
-
-    ghost period_of = { λ c. 0 };
-
-    ghost after_ack = { λ c seen. c };
-
-    ghost after_nak = { λ c first sent seen. c };
-
-    ghost after_timeout = { λ c seen. c };
+    ghost ways = { ways (λ packet flow. record {}) (λ c. FIRST_WINDOW) (λ c. 0) (λ c seen. c)
+        (λ c first sent seen. c) (λ c seen. c) };
 
     ghost stays_in_bounds = { λ packet flow calls positive allowed. first_is_in_bounds };
 

@@ -4,18 +4,16 @@ ghost use Rattle.udt_model.specs.Rate.{ways, after_calls, OnAck, OnNak, OnTimeou
 
 use super::*;
 
-/// Tells a control of an acknowledgement, a loss and a timeout, as a socket does that knows no more
+/// Tells a control of an ACK, a NAK and a timeout, as a socket does that knows no more
 /// of it than the trait.
-fn hears<C: Control>(control: &mut C, first: u64, sent: u64, seen: &Seen) -> (u32, u64)
+fn tells<C: Control>(control: &mut C, first: u64, sent: u64, seen: &Seen) -> (u32, u64)
     requires sent { first < sent }
     requires rate { seen.now.rate < 2 ^ 32 }
     requires capacity { seen.now.capacity < 2 ^ 32 }
-    ensures next { control.new ≡ after_calls
-        (ways C.started C.window_of C.period_of C.after_ack C.after_nak C.after_timeout)
-        control.old
+    ensures next { control.new ≡ after_calls C.ways control.old
         (OnAck seen.now ∷ OnNak first sent seen.now ∷ OnTimeout seen.now ∷ []) }
-    ensures window { result.0 ≡ C.window_of control.new }
-    ensures period { result.1 ≡ C.period_of control.new }
+    ensures window { result.0 ≡ C.ways.window_of control.new }
+    ensures period { result.1 ≡ C.ways.period_of control.new }
 {
     control.on_ack(seen);
     control.on_nak(first, sent, seen);
@@ -74,7 +72,7 @@ fn native_goes_through_its_phases(rt: HostRuntime) {
 
     // A loss and a timeout end slow start alike, and neither is a decrease.
     let mut native = Native::start(1500, 8192);
-    assert_eq!(rt; hears(&mut native, 0, 1, &told), (20, 100_000));
+    assert_eq!(rt; tells(&mut native, 0, 1, &told), (20, 100_000));
     let mut steady = Steady::start(1500, 8192);
-    assert_eq!(rt; hears(&mut steady, 0, 1, &told), (16, 0));
+    assert_eq!(rt; tells(&mut steady, 0, 1, &told), (16, 0));
 }

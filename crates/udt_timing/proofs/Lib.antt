@@ -1,5 +1,4 @@
 mod Counts
 pub mod Medians
-mod Turns
 pub mod LastOnes
 pub mod Rates

@@ -1,7 +1,8 @@
 -- What the median of a window is, and where the rates lie that a window tells.
 use Rattle.std.specs.Prelude.{◌≡◌, ℕ, ◌*◌, ◌<◌, ◌≤◌, nat_le, nat_lt, List, [], ◌∷◌, ◌++◌, drop, length, count_by}
 use Rattle.std.specs.List.{All}
-use Rattle.udt_model.specs.Timing.{window_samples, median, near_median, in_a_second}
+use Rattle.udt_model.specs.Timing.{median, near_median, in_a_second}
+use Rattle.udt_model.specs.declared.limits.TheConstants.{SAMPLE_WINDOW}
 
 -- a window with room keeps all that it had, and a full one all but the oldest
 pub record KeepsNewest {X : Type 0} (most : ℕ) (old : List X) (x : X) (new : List X) : Type 0 where
@@ -15,7 +16,7 @@ pub record IsNinthSmallest (samples : List ℕ) (middle : ℕ) : Type 0 where
 
 -- of a full window the median is the ninth smallest
 abbrev pub MedianIsNinth : Type 0
-MedianIsNinth = (samples : List ℕ) → length samples ≡ window_samples → IsNinthSmallest samples (median samples)
+MedianIsNinth = (samples : List ℕ) → length samples ≡ SAMPLE_WINDOW → IsNinthSmallest samples (median samples)
 
 -- no two numbers are the ninth smallest
 abbrev pub NinthIsOne : Type 0
@@ -30,7 +31,7 @@ IsOneInNinth samples capacity =
 
 -- the window is full and keeps more than half of its samples, so it tells a speed
 pub record TellsSpeed (samples : List ℕ) : Type 0 where
-  pub full : length samples ≡ window_samples
+  pub full : length samples ≡ SAMPLE_WINDOW
   pub most : 9 ≤ length (near_median samples)
 
 -- where the kept samples lie between two times, the speed lies between the rates that these tell

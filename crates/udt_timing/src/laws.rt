@@ -8,7 +8,7 @@ pub fn time_is_between()
     ensures { TimeIsBetween }
 {}
 
-/// A smoothed variance lies between the old one and how far the time was off.
+/// A smoothed variance lies between the old one and how far the sample was off the old time.
 pub fn variance_is_between()
     ensures { VarianceIsBetween }
 {}

@@ -1,20 +1,20 @@
-//! Round-trip times, windows of arrival times and the history of acknowledgements.
+//! Round-trip times, windows of arrival times and the history of ACKs.
 #![tactic(auto)]
 
 mod ack_history;
-mod arrivals;
+mod arrival_times;
 mod laws;
 mod round_trip;
 #[cfg(test)]
 mod tests;
 
 pub use ack_history::AckWindow;
-pub use arrivals::Samples;
+pub use arrival_times::Samples;
 pub use laws::{
     kept_are_near, median_is_ninth, ninth_is_one, stays_within_a_minute, time_is_between,
     variance_is_between,
 };
-pub use round_trip::{LONGEST_ROUND_TRIP, Rtt, SYN};
+pub use round_trip::Rtt;
 use std::alloc::AllocError;
 
 /// Memory ran out.

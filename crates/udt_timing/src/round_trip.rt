@@ -1,12 +1,8 @@
 // The round-trip time of a path, smoothed over its samples.
 ghost use Rattle.std.specs.Prelude.{◌≤◌};
-ghost use Rattle.udt_timing.specs.declared.round_trip.TheConstants.{LONGEST_ROUND_TRIP};
+ghost use Rattle.udt_model.specs.declared.limits.TheConstants.{GREATEST_RTT, SYN};
 
-/// The interval at which acknowledgements fall due, in microseconds.
-pub const SYN: u64 = 10_000;
-
-/// A sample counts as no longer than a minute, in microseconds.
-pub const LONGEST_ROUND_TRIP: u64 = 60_000_000;
+use udt_model::{FIRST_RTT, FIRST_RTT_VAR, GREATEST_RTT, SYN};
 
 /// What is known of a path's round-trip time: its smoothed time and how far samples lie off it,
 /// both in microseconds.
@@ -14,8 +10,8 @@ pub const LONGEST_ROUND_TRIP: u64 = 60_000_000;
 pub struct Rtt {
     pub rtt: u64,
     pub var: u64,
-    pub ghost rtt_within: { rtt ≤ LONGEST_ROUND_TRIP },
-    pub ghost var_within: { var ≤ LONGEST_ROUND_TRIP },
+    pub ghost rtt_within: { rtt ≤ GREATEST_RTT },
+    pub ghost var_within: { var ≤ GREATEST_RTT },
 }
 
 impl Rtt {
@@ -28,8 +24,8 @@ impl Rtt {
         ensures { round_trip_of result ≡ unmeasured }
     {
         Rtt {
-            rtt: 100_000,
-            var: 50_000,
+            rtt: FIRST_RTT,
+            var: FIRST_RTT_VAR,
         }
     }
 
@@ -39,16 +35,16 @@ impl Rtt {
         ensures between { IsBetween self.old.rtt (clamped s) self.new.rtt }
         ensures spread { IsBetween self.old.var (gap self.old.rtt (clamped s)) self.new.var }
     {
-        let sample = s.min(LONGEST_ROUND_TRIP);
+        let sample = s.min(GREATEST_RTT);
         let var = (3 * self.var + self.rtt.abs_diff(sample)) / 4;
         let rtt = (7 * self.rtt + sample) / 8;
         *self = Rtt { rtt, var };
     }
 
-    /// How long loss and silence are waited for, in microseconds.
+    /// The unit of the NAK and EXP intervals, 4 RTT + RTTVar + SYN, in microseconds.
     pub fn period(&self) -> u64
         ensures value { result ≡ period_of (round_trip_of self.now) }
-        ensures within { result ≤ 5 * LONGEST_ROUND_TRIP + SYN }
+        ensures within { result ≤ 5 * GREATEST_RTT + SYN }
         ensures at_least { 4 * self.now.rtt + SYN ≤ result }
     {
         4 * self.rtt + self.var + SYN

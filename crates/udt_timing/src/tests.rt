@@ -5,7 +5,7 @@ use std::test::*;
 
 #[test]
 fn windows_tell_their_rates(rt: HostRuntime) -> Result<(), Fail> {
-    // so many of one sample, so many of another; the speed and the capacity that they tell
+    // this many of one sample, this many of another; the speed and the capacity that they tell
     let table = [
         (16, 100, 0, 0, 10_000, 10_000),
         (9, 100, 7, 10_000, 10_000, 10_000),
@@ -46,7 +46,7 @@ fn windows_tell_their_rates(rt: HostRuntime) -> Result<(), Fail> {
 }
 
 #[test]
-fn times_are_smoothed_and_acknowledgements_found(rt: HostRuntime) -> Result<(), Fail> {
+fn times_are_smoothed_and_acks_are_found(rt: HostRuntime) -> Result<(), Fail> {
     let mut known = Rtt::new();
     assert_eq!(rt;
         (known.rtt, known.var, known.period()),
@@ -87,7 +87,15 @@ fn times_are_smoothed_and_acknowledgements_found(rt: HostRuntime) -> Result<(), 
     for number in 0..1_025u32 {
         window.note(number, 7, 8);
     }
-    for (number, found) in [(0, None), (1, Some((7, 8))), (1_024, Some((7, 8)))] {
+    let table = [
+        (0, None),
+        (1, Some((7, 8))),
+        (1_024, Some((7, 8))),
+        (700, Some((7, 8))),
+        (700, None),
+        (701, Some((7, 8))),
+    ];
+    for (number, found) in table {
         assert_eq!(rt; window.take(number), found, "{number}");
     }
     Ok(())

@@ -1,7 +1,7 @@
 use Rattle.std.proofs.Common.{arith}
 use Rattle.std.proofs.lemmas.List.Sorted.{IsNonDecreasingBy-from_sort}
 use Rattle.udt_timing.proofs.Medians.{ninth_of_sorted, median_of_sorted}
-use Rattle.udt_timing.proofs.arrivals.ninth_smallest.Goals as goal
+use Rattle.udt_timing.proofs.arrival_times.ninth_smallest.Goals as goal
 
 pub returns-clause-value : goal.returns-clause-value
 returns-clause-value c =

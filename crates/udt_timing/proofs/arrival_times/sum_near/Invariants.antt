@@ -1,6 +1,6 @@
 use Rattle.std.proofs.Common.{◌≡◌, ◌≤◌, ◌*◌, ◌^◌, length, take, filter, sum}
 use Rattle.udt_model.specs.Timing.{is_near}
-use Rattle.udt_timing.proofs.arrivals.sum_near.Given as goal
+use Rattle.udt_timing.proofs.arrival_times.sum_near.Given as goal
 
 abbrev pub invariant-loop-sample : goal.invariant-loop-sample
 invariant-loop-sample l = record {

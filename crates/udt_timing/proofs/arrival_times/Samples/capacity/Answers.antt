@@ -2,7 +2,7 @@ use Rattle.std.proofs.Common.{◌∙◌, ℕ, List, ap, subst}
 use Rattle.udt_model.specs.Timing.{in_a_second}
 use Rattle.udt_timing.specs.Windows.{IsNinthSmallest}
 use Rattle.udt_timing.proofs.Medians.{ninth_unique}
-use Rattle.udt_timing.proofs.arrivals.Samples.capacity.Goals as goal
+use Rattle.udt_timing.proofs.arrival_times.Samples.capacity.Goals as goal
 
 -- what was sorted out is the ninth smallest, and no other number is
 pub returns-clause-ninth : goal.returns-clause-ninth

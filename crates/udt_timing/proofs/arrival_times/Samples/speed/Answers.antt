@@ -1,7 +1,7 @@
 use Rattle.std.proofs.Common.{◌∙◌, ap, filter, length, sum}
 use Rattle.udt_model.specs.Timing.{median, is_near, near_median, in_a_second}
 use Rattle.udt_timing.proofs.Rates.{speed_between}
-use Rattle.udt_timing.proofs.arrivals.Samples.speed.Goals as goal
+use Rattle.udt_timing.proofs.arrival_times.Samples.speed.Goals as goal
 
 -- what was counted are the samples near the median
 pub returns-clause-between : goal.returns-clause-between

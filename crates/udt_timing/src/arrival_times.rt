@@ -4,12 +4,10 @@ use crate::OutOfMemory;
 use circular_buffer::HeapCircularBuffer;
 use std::alloc::Global;
 use std::marker::Model;
+use udt_model::SAMPLE_WINDOW;
 
 // the microseconds of a second
 const SECOND: u128 = 1_000_000;
-
-/// As many samples are kept.
-const WINDOW: usize = 16;
 
 /// The newest samples of the time between two arrivals, in microseconds. `push` takes no memory.
 #[derive(Drop)]
@@ -24,29 +22,30 @@ impl Model for Samples {
 
     ghost view = { λ s. s.ring.items };
 
-    ghost use Rattle.udt_timing.specs.declared.arrivals.TheConstants.{WINDOW};
+    ghost use Rattle.udt_model.specs.declared.limits.TheConstants.{SAMPLE_WINDOW};
 
-    ghost invariant = { λ s. (s.ring.capacity ≡ WINDOW) × (len s.ring.items ≤ WINDOW) };
+    ghost invariant = { λ s. (s.ring.capacity ≡ SAMPLE_WINDOW) × (len s.ring.items ≤ SAMPLE_WINDOW) };
 }
 
 impl Samples {
     ghost use Rattle.std.specs.Prelude.{◌≡◌, ◌≤◌, ◌<◌, ℕ, [], length, IfOk, IfSome, IfNone};
     ghost use Rattle.udt_model.specs.Timing.{with_sample, speed_of, capacity_of};
+    ghost use Rattle.udt_model.specs.declared.limits.TheConstants.{SAMPLE_WINDOW};
     ghost use Rattle.udt_timing.specs.Windows.{KeepsNewest, TellsSpeed, IsBetweenRates, IsOneInNinth};
 
     /// An empty window, with the memory that it will ever have.
     pub fn new(alloc: Global) -> Result<Samples, OutOfMemory>
         ensures { IfOk result (λ s. s ≡ []) }
     {
-        let ring = HeapCircularBuffer::with_capacity(alloc, WINDOW)?;
+        let ring = HeapCircularBuffer::with_capacity(alloc, SAMPLE_WINDOW)?;
         Ok(Samples { ring })
     }
 
     /// Takes in a sample, in microseconds.
     pub fn push(&mut self, v: u64)
         ensures next { self.new ≡ with_sample self.old v }
-        ensures newest { KeepsNewest WINDOW self.old v self.new }
-        ensures within { length self.new ≤ WINDOW }
+        ensures newest { KeepsNewest SAMPLE_WINDOW self.old v self.new }
+        ensures within { length self.new ≤ SAMPLE_WINDOW }
     {
         self.ring.push_back(v);
     }
@@ -55,7 +54,7 @@ impl Samples {
     pub fn speed(&self) -> u32
         ensures value { result ≡ speed_of self.now }
         ensures between { TellsSpeed self.now → IsBetweenRates self.now result }
-        ensures short { length self.now < WINDOW → result ≡ 0 }
+        ensures short { length self.now < SAMPLE_WINDOW → result ≡ 0 }
     {
         let Some(samples) = self.full() else {
             return 0;
@@ -71,8 +70,8 @@ impl Samples {
     /// The capacity of the link in packets a second, or 0 where the samples tell none.
     pub fn capacity(&self) -> u32
         ensures value { result ≡ capacity_of self.now }
-        ensures ninth { length self.now ≡ WINDOW → IsOneInNinth self.now result }
-        ensures short { length self.now < WINDOW → result ≡ 0 }
+        ensures ninth { length self.now ≡ SAMPLE_WINDOW → IsOneInNinth self.now result }
+        ensures short { length self.now < SAMPLE_WINDOW → result ≡ 0 }
     {
         let Some(samples) = self.full() else {
             return 0;
@@ -81,15 +80,15 @@ impl Samples {
     }
 
     // the samples in order of arrival, once the window is full
-    fn full(&self) -> Option<[u64; WINDOW]>
-        ensures some { IfSome result (λ xs. (xs ≡ self.now) × (length self.now ≡ WINDOW)) }
-        ensures none { IfNone result (length self.now < WINDOW) }
+    fn full(&self) -> Option<[u64; SAMPLE_WINDOW]>
+        ensures some { IfSome result (λ xs. (xs ≡ self.now) × (length self.now ≡ SAMPLE_WINDOW)) }
+        ensures none { IfNone result (length self.now < SAMPLE_WINDOW) }
     {
-        if self.ring.len() < WINDOW {
+        if self.ring.len() < SAMPLE_WINDOW {
             return None;
         }
         let (older, newer) = self.ring.as_slices();
-        let mut samples = [0; WINDOW];
+        let mut samples = [0; SAMPLE_WINDOW];
         samples[..older.len()].copy_from_slice(older);
         samples[older.len()..].copy_from_slice(newer);
         Some(samples)
@@ -101,7 +100,7 @@ ghost use Rattle.udt_model.specs.Timing.{median, is_near, in_a_second as rate_of
 ghost use Rattle.udt_timing.specs.Windows.{IsNinthSmallest};
 
 // sorts a copy
-fn ninth_smallest(samples: [u64; WINDOW]) -> u64
+fn ninth_smallest(samples: [u64; SAMPLE_WINDOW]) -> u64
     ensures value { result ≡ median samples }
     ensures ninth { IsNinthSmallest samples result }
 {
@@ -119,7 +118,7 @@ fn lies_near(middle: u64, sample: u64) -> bool
 }
 
 // how many samples lie near the middle one, and the microseconds that they take together
-fn sum_near(samples: &[u64; WINDOW], middle: u64) -> (u32, u128)
+fn sum_near(samples: &[u64; SAMPLE_WINDOW], middle: u64) -> (u32, u128)
     ensures count { result.0 ≡ length (filter (is_near middle) samples.now) }
     ensures micros { result.1 ≡ sum (filter (is_near middle) samples.now) }
     ensures within { result.0 ≤ 16 }
