@@ -36,7 +36,7 @@ append_empty (x ∷ xs) ys e = absurd (cc)
 pub sees_mine : {E : Type 0} (names : List ℕ) (seen items : List (ℕ × E)) → Sees names seen items → mine_in names items ≡ mine_in names seen
 sees_mine names seen items h = ap (mine_in names) h.is ∙ mine_in-append names seen h.rest ∙ ap (λ ys. mine_in names seen ++ ys) h.none_of ∙ append-nil (mine_in names seen)
 
--- with an item of one's own behind, that much is one's own
+-- with an item of one's own at the end, that much is one's own
 pub mine_in-own : {E : Type 0} (names : List ℕ) (seen found : List (ℕ × E)) (y : ℕ × E) → Sees names seen found → has names y.0 ≡ true → mine_in names (found ++ y ∷ []) ≡ mine_in names seen ++ y ∷ []
 mine_in-own names seen found y h own = mine_in-append names found (y ∷ []) ∙ ap (λ zs. zs ++ mine_in names (y ∷ [])) (sees_mine names seen found h) ∙ ap (λ b. mine_in names seen ++ keep_if b y []) own
 
@@ -65,7 +65,7 @@ begins_both (x ∷ xs) (y ∷ ys) r q e le =
     let h = begins_both xs ys r q tail (omega arith) in
     (h.0, λ i. sym head i ∷ h.1 i)
 
--- what is left behind the longer of the two
+-- what is left after the longer of the two
 pub cancel : {A : Type 0} (xs ys zs : List A) → xs ++ ys ≡ xs ++ zs → ys ≡ zs
 cancel [] ys zs e = e
 cancel (x ∷ xs) ys zs e = cancel xs ys zs (cc)
@@ -121,7 +121,7 @@ seen_whole names seen items h all =
     let none : h.rest ≡ [] = nothing_left h.rest (omega arith) in
     e ∙ ap (λ ys. seen ++ ys) none ∙ append-nil seen
 
-keep_if-empty : {A : Type 0} (b : Bool) (x : A) (xs : List A) → keep_if b x xs ≡ [] → (b ≡ false) × (xs ≡ [])
+pub keep_if-empty : {A : Type 0} (b : Bool) (x : A) (xs : List A) → keep_if b x xs ≡ [] → (b ≡ false) × (xs ≡ [])
 keep_if-empty true x xs e = absurd (cc)
 keep_if-empty false x xs e = (refl, e)
 

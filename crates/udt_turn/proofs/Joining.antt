@@ -20,8 +20,9 @@ use Rattle.udt_turn.proofs.Parts.{here, tickets_same, turn_same, names_same, fit
 use Rattle.udt_turn.proofs.Tells.{sound_seen}
 use Rattle.udt_turn.proofs.Histories.{sees_mine, sees_longer, mine_in-none, last_from-both}
 use Rattle.udt_turn.proofs.Whole.{has_all, whole_has}
+use Rattle.udt_turn.proofs.Shares.{has_left, has_right, share_left, share_right}
 use Rattle.udt_turn.proofs.Lock.{live_parts, has_some, read_back, nothing, staged}
-use Rattle.udt_turn.proofs.Passes.{has_both, has_left, has_right, has_head, no_twice-append, child_both, child_left, child_right, longer_case, none_alone}
+use Rattle.udt_turn.proofs.Passes.{has_both, has_head, no_twice-append, child_both, child_left, child_right, longer_case, none_alone}
 
 module _ {V E : Type 0} (t : Telling V E) (opening : V) where
   -- the joined view has seen the longer history, in the rest of which nothing was made under the names of both
@@ -104,6 +105,8 @@ module _ {V E : Type 0} (t : Telling V E) (opening : V) where
               drawn = let a = mine.drawn in let b = theirs.drawn in omega arith;
               own = has_left v.names u.names v.number mine.own;
               once = no_twice-append v.names u.names mine.once theirs.once (λ m a b. apart (k.names.apart other id u v m there' at (inl b) (inl a)));
+              one = share_left v.names u.names v.seen.items k.items mine.sees;
+              other = share_right v.names u.names u.seen.items k.items theirs.sees;
               above = λ m q. absurd (bad_owned m q);
             })
             (λ h. absurd h);

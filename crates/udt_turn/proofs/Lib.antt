@@ -1,9 +1,11 @@
 mod Views
 mod Histories
+mod Shares
 mod Parts
 mod Whole
 mod Lock
 mod Tells
 mod Passes
+mod Sound
 mod Joining
 mod Opening

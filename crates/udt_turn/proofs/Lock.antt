@@ -33,7 +33,7 @@ module _ {V E : Type 0} (t : Telling V E) (opening : V) where
   -- a view at another stage
   pub staged : (numbers : ℕ) (items : List (ℕ × E)) (v : View V E) (st : Stage E) → IsView t opening numbers items v → Knows st v.seen.items items → ((n : ℕ) → owned_of st ≡ Some n → v.number < n)
       → IsView t opening numbers items (at_stage v st)
-  staged numbers items v st h knows above = record { opened = h.opened; sees = h.sees; told = h.told; knows = knows; last = h.last; drawn = h.drawn; own = h.own; once = h.once; above = above }
+  staged numbers items v st h knows above = record { opened = h.opened; sees = h.sees; told = h.told; knows = knows; last = h.last; drawn = h.drawn; own = h.own; once = h.once; one = h.one; other = h.other; above = above }
 
   -- a pass in the queue is live
   queued_live : (st : Stage E) → 1 ≤ queues st → IsLive st
@@ -180,7 +180,7 @@ module _ {V E : Type 0} (t : Telling V E) (opening : V) where
         takes 0 (Some x),
         ap (λ hs. get_elem? hs 0) free.0,
         rule,
-        ((λ _. record { found = k.items; now = ap (λ c. (w, c)) slot; sees = mine.sees; sound = sound }), (λ ne. absurd (ne (is ∙ ap (λ m. m % 2 ^ 64) (sym ticket))))),
+        ((λ _. record { found = k.items; now = ap (λ c. (w, c)) slot; sees = mine.sees; most = subst (λ (o : V). t.count (value_after t o k.items) < 2 ^ 55) (sym mine.opened) k.history.count; sound = sound }), (λ ne. absurd (ne (is ∙ ap (λ m. m % 2 ^ 64) (sym ticket))))),
       ))
       (λ isnt. (
         v,

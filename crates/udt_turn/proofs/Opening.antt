@@ -3,6 +3,7 @@ use Rattle.std.proofs.Common.{◌≡◌, ℕ, zero, suc, ◌+◌, ◌*◌, ◌^�
 use mathlib.Core.Option.{some, some-ne-none, some-injective}
 use lib.ListN.{get_elem?}
 use Rattle.atomic_table.specs.Table.{opening}
+use Rattle.udt_turn.proofs.Shares.{no_share_is}
 use Rattle.udt_turn.specs.Story.{Telling}
 use Rattle.udt_turn.specs.History.{has}
 use Rattle.udt_turn.specs.Rule.{HasTurn, owned_of, IsLive, IsAlone, Claims, Each, Tickets, IsView, Child, Kept, total_of, parts}
@@ -46,6 +47,8 @@ module _ {V E : Type 0} (t : Telling V E) where
           drawn = omega arith;
           own = refl;
           once = (refl, tt);
+          one = no_share_is (0 ∷ []) [];
+          other = no_share_is (0 ∷ []) [];
           above = λ n o. let b : None ≡ Some n = o in absurd (cc);
         });
         names = record {

@@ -17,14 +17,12 @@ use Rattle.udt_turn.specs.declared.view.Stage.TheVariants.{Idle, Counting, Ownin
 use Rattle.udt_turn.proofs.Views.{total_set, total_same, total_push, total_le, total_ge, total_two, same_at, each_set, each_push}
 use Rattle.udt_turn.proofs.Parts.{apart_set, apart_less, apart_push, here, some_set, some_push, tickets_same, tickets_push, turn_same, turn_push, names_same, each_item_map}
 use Rattle.udt_turn.proofs.Histories.{has-append, append_empty, mine_in-append, last_from-none}
+use Rattle.udt_turn.proofs.Shares.{not_true, no_share_is}
 use Rattle.udt_turn.proofs.Lock.{live_parts, alone_set, read_back}
+use Rattle.udt_turn.proofs.Tells.{sound_seen}
 
 unwrapped : (n : ℕ) → n ≤ 131069 → (n + 1) % 2 ^ 64 ≡ n + 1
 unwrapped n h = omega arith
-
-not_true : (b : Bool) → (b ≡ true → ⊥) → b ≡ false
-not_true true f = absurd (f refl)
-not_true false f = refl
 
 pub has_one : (n m : ℕ) → has (n ∷ []) m ≡ true → n ≡ m
 has_one n m h = tells (eqb n m) refl h
@@ -42,16 +40,6 @@ has_both ms ns m h = either (has ms m) (has ns m) (sym (has-append ms ns m) ∙ 
     either : (a b : Bool) → (a || b) ≡ true → (a ≡ true) ⊎ (b ≡ true)
     either true b h = inl refl
     either false b h = inr h
-
-pub has_left : (ms ns : List ℕ) (m : ℕ) → has ms m ≡ true → has (ms ++ ns) m ≡ true
-has_left ms ns m h = has-append ms ns m ∙ ap (λ b. b || has ns m) h
-
-pub has_right : (ms ns : List ℕ) (m : ℕ) → has ns m ≡ true → has (ms ++ ns) m ≡ true
-has_right ms ns m h = has-append ms ns m ∙ last (has ms m) (has ns m) h
-  where
-    last : (a b : Bool) → b ≡ true → (a || b) ≡ true
-    last true b h = refl
-    last false b h = h
 
 pub child_both : (xs ys : List (ℕ × ℕ)) (p m : ℕ) → Child (xs ++ ys) p m → Child xs p m ⊎ Child ys p m
 child_both [] ys p m c = inr c
@@ -127,7 +115,7 @@ module _ {V E : Type 0} (t : Telling V E) (opening : V) where
       (λ q. let z : draws v.stage < 1 = lt_of_not-le q in omega arith))
 
   -- a look at the numbers that were drawn keeps the rule
-  pub counts_keeps : (slots id : ℕ) (me : Me (Option V) (View V E)) (st : Step (Option V)) → me.0.stage ≡ Idle → Allows (Kept t opening) slots id me 3 (λ n. n) (Counts st me)
+  pub counts_keeps : (slots id : ℕ) (me : Me (Option V) (View V E)) (st : Step (Option V)) → me.0.stage ≡ Idle → Allows (Kept t opening) slots id me 3 (λ n. n) (Counts t st me)
   counts_keeps slots id me st stage s k len at fits =
       let v = me.0 in
       let mine = k.view id v at (subst IsLive (sym stage) tt) in
@@ -148,7 +136,7 @@ module _ {V E : Type 0} (t : Telling V E) (opening : V) where
         turn = turn_same k.served (value_after t opening k.items) s.homes s.views id v w at (λ h. absurd (turn h)) (λ h. absurd (subst HasTurn stage h)) (λ h. absurd (turn h)) k.turn;
         history = k.history;
         view = each_set (λ (u : View V E). IsLive u.stage → IsView t opening k.numbers k.items u) s.views id w (λ j u _ g. k.view j u g)
-            (λ _. record { opened = mine.opened; sees = mine.sees; told = mine.told; knows = knows; last = mine.last; drawn = let f = found in omega arith; own = mine.own; once = mine.once; above = λ m o. let bad : None ≡ Some m = sym owned ∙ o in absurd (cc) });
+            (λ _. record { opened = mine.opened; sees = mine.sees; told = mine.told; knows = knows; last = mine.last; drawn = let f = found in omega arith; own = mine.own; once = mine.once; one = mine.one; other = mine.other; above = λ m o. let bad : None ≡ Some m = sym owned ∙ o in absurd (cc) });
         names = names_same k.numbers k.items s.views id v w at refl refl (owned ∙ sym (ap owned_of stage)) k.names;
         fit = record {
           few = let h = total_set (λ (u : View V E). draws u.stage) s.views id v w at in let z0 : draws v.stage ≡ 0 = ap draws stage in omega arith;
@@ -156,6 +144,7 @@ module _ {V E : Type 0} (t : Telling V E) (opening : V) where
         };
         alone = alone_set t opening k.numbers k.items s.views id v w at live alone k.alone;
       } in
+      let sound = sound_seen t opening s k id v at (subst IsLive (sym stage) tt) in
       let little : total_of (λ (u : View V E). draws u.stage) s.views ≤ total_of parts s.views = draws_fit s k in
       let lower : v.drawn ≤ slice_index s.words 3 = let d = mine.drawn in let f = found in omega arith in
       dite (dec_le 65535 (slice_index s.words 3))
@@ -164,7 +153,7 @@ module _ {V E : Type 0} (t : Telling V E) (opening : V) where
         keeps,
         tt,
         rule Idle refl refl (λ h. h) refl refl (λ h. h) tt (let f = k.fit.few in omega arith),
-        (lower, (λ small. absurd (omega arith)), (λ _. refl)),
+        (lower, (λ small. absurd (omega arith)), (λ _. refl), sound),
       ))
       (λ no. let small : slice_index s.words 3 < 65535 = lt_of_not-le no in
       let all = k.fit.all in (
@@ -172,7 +161,7 @@ module _ {V E : Type 0} (t : Telling V E) (opening : V) where
         keeps,
         tt,
         rule Counting refl refl (λ h. h) refl refl (λ h. h) tt (omega arith),
-        (lower, (λ _. refl), (λ big. absurd (omega arith))),
+        (lower, (λ _. refl), (λ big. absurd (omega arith)), sound),
       ))
 
   -- where the number that is found is drawn
@@ -204,7 +193,7 @@ module _ {V E : Type 0} (t : Telling V E) (opening : V) where
         turn = turn_same k.served (value_after t opening k.items) s.homes s.views id v w at (λ h. absurd (turn h)) (λ h. absurd (subst HasTurn stage h)) (λ h. absurd (turn h)) k.turn;
         history = k.history;
         view = each_set (λ (u : View V E). IsLive u.stage → IsView t opening (k.numbers + 1) k.items u) s.views id w
-            (λ j u _ g live. let h = k.view j u g live in record { opened = h.opened; sees = h.sees; told = h.told; knows = h.knows; last = h.last; drawn = let q = h.drawn in omega arith; own = h.own; once = h.once; above = h.above })
+            (λ j u _ g live. let h = k.view j u g live in record { opened = h.opened; sees = h.sees; told = h.told; knows = h.knows; last = h.last; drawn = let q = h.drawn in omega arith; own = h.own; once = h.once; one = h.one; other = h.other; above = h.above })
             (λ _. record {
               opened = mine.opened;
               sees = mine.sees;
@@ -214,6 +203,8 @@ module _ {V E : Type 0} (t : Telling V E) (opening : V) where
               drawn = let f = found in omega arith;
               own = mine.own;
               once = mine.once;
+              one = mine.one;
+              other = mine.other;
               above = λ m q. let is = (owned m q).0 in let b = (k.names.below id v at v.number (inl mine.own)).0 in omega arith;
             });
         names = record {
@@ -311,7 +302,7 @@ module _ {V E : Type 0} (t : Telling V E) (opening : V) where
         history = k.history;
         view = each_push (λ (u : View V E). IsLive u.stage → IsView t opening k.numbers k.items u) middle right
             (each_set (λ (u : View V E). IsLive u.stage → IsView t opening k.numbers k.items u) s.views id left (λ j u _ g. k.view j u g)
-            (λ _. record { opened = mine.opened; sees = mine.sees; told = mine.told; knows = tt; last = mine.last; drawn = mine.drawn; own = mine.own; once = mine.once; above = λ m q. let bad : None ≡ Some m = q in absurd (cc) }))
+            (λ _. record { opened = mine.opened; sees = mine.sees; told = mine.told; knows = tt; last = mine.last; drawn = mine.drawn; own = mine.own; once = mine.once; one = mine.one; other = mine.other; above = λ m q. let bad : None ≡ Some m = q in absurd (cc) }))
             (λ _. record {
               opened = mine.opened;
               sees = record { rest = mine.sees.rest; is = mine.sees.is; none_of = subst (λ i. mine_in (i ∷ []) mine.sees.rest ≡ []) (sym number) rest_none };
@@ -321,6 +312,8 @@ module _ {V E : Type 0} (t : Telling V E) (opening : V) where
               drawn = mine.drawn;
               own = has_head (number_in v.stage) [];
               once = (refl, tt);
+              one = no_share_is (number_in v.stage ∷ []) k.items;
+              other = no_share_is (number_in v.stage ∷ []) k.items;
               above = λ m q. let bad : None ≡ Some m = q in absurd (cc);
             });
         names = record {

@@ -1,5 +1,5 @@
 -- The kinds of step that publish an item, look at the history, and leave with nothing said keep the rule.
-use Rattle.std.proofs.Common.{◌≡◌, ◌≢◌, ℕ, ◌+◌, ◌*◌, ◌^◌, ◌<◌, ◌≤◌, Bool, true, false, List, [], ◌∷◌, ◌++◌, length, set, Option, Some, refl, sym, ap, ◌∙◌, subst, inl, inr, ⊎_elim, arith}
+use Rattle.std.proofs.Common.{◌≡◌, ◌≢◌, ℕ, ◌+◌, ◌*◌, ◌^◌, ◌<◌, ◌≤◌, List, [], ◌∷◌, ◌++◌, length, set, Option, Some, refl, sym, ap, ◌∙◌, subst, inl, inr, ⊎_elim, arith}
 use Rattle.std.specs.Prelude.{slice_index, slice_set}
 use mathlib.Core.Option.{some}
 use lib.ListN.{get_elem?}
@@ -15,6 +15,7 @@ use Rattle.udt_turn.proofs.Views.{each_set, total_ge}
 use Rattle.udt_turn.proofs.Parts.{here, tickets_same, turn_same, names_same, fit_same, each_item_push}
 use Rattle.udt_turn.proofs.Histories.{value_after-push, may_follow-push, may_follow-front, sees_all, sees_more, seen_whole, begins_more, begins_both, last_from-own, last_from-other, last_from-seen}
 use Rattle.udt_turn.proofs.Whole.{whole_has}
+use Rattle.udt_turn.proofs.Shares.{not_true, no_share_is, share_more, share_seen}
 use Rattle.udt_turn.proofs.Lock.{live_parts, alone_set, read_back}
 
 -- a pass without the turn knows nothing of the history's end
@@ -27,10 +28,6 @@ knows_less Counting seen items more not h = tt
 knows_less (Owning _) seen items more not h = tt
 knows_less Alone seen items more not h = tt
 knows_less Spent seen items more not h = tt
-
-bool_false : (b : Bool) → (b ≡ true → ⊥) → b ≡ false
-bool_false true f = absurd (f refl)
-bool_false false f = refl
 
 module _ {V E : Type 0} (t : Telling V E) (opening : V) where
   -- the history as a view sees it now is sound
@@ -83,13 +80,15 @@ module _ {V E : Type 0} (t : Telling V E) (opening : V) where
       each_set (λ (u : View V E). IsLive u.stage → IsView t opening k.numbers items u) s.views id w
       (λ j u z g live. let h = k.view j u g live in record {
         opened = h.opened;
-        sees = sees_more u.names u.seen.items k.items y (bool_false (has u.names v.number) (λ b. z (k.names.apart j id u v v.number g at (inl b) (inl mine.own)))) h.sees;
+        sees = sees_more u.names u.seen.items k.items y (not_true (has u.names v.number) (λ b. z (k.names.apart j id u v v.number g at (inl b) (inl mine.own)))) h.sees;
         told = begins_more u.told k.items (y ∷ []) h.told;
         knows = knows_less u.stage u.seen.items k.items items (alone j u z g) h.knows;
-        last = h.last ∙ sym (last_from-other t u.names opening k.items y 0 (bool_false (has u.names v.number) (λ b. z (k.names.apart j id u v v.number g at (inl b) (inl mine.own)))));
+        last = h.last ∙ sym (last_from-other t u.names opening k.items y 0 (not_true (has u.names v.number) (λ b. z (k.names.apart j id u v v.number g at (inl b) (inl mine.own)))));
         drawn = h.drawn;
         own = h.own;
         once = h.once;
+        one = share_more u.names k.items y u.one (not_true (has u.names v.number) (λ b. z (k.names.apart j id u v v.number g at (inl b) (inl mine.own)))) h.one;
+        other = share_more u.names k.items y u.other (not_true (has u.names v.number) (λ b. z (k.names.apart j id u v v.number g at (inl b) (inl mine.own)))) h.other;
         above = h.above;
       })
       (λ _. record {
@@ -101,6 +100,8 @@ module _ {V E : Type 0} (t : Telling V E) (opening : V) where
         drawn = mine.drawn;
         own = mine.own;
         once = mine.once;
+        one = no_share_is v.names items;
+        other = no_share_is v.names items;
         above = λ m o. absurd (cc);
       }) in
       let names = names_same k.numbers k.items s.views id v w at refl refl (sym (ap owned_of stage)) k.names in
@@ -178,6 +179,8 @@ module _ {V E : Type 0} (t : Telling V E) (opening : V) where
                 drawn = mine.drawn;
                 own = mine.own;
                 once = mine.once;
+                one = mine.one;
+                other = mine.other;
                 above = λ m o. absurd (cc);
               });
           names = names_same k.numbers k.items s.views id v w at refl refl (sym (ap owned_of stage)) k.names;
@@ -218,6 +221,8 @@ module _ {V E : Type 0} (t : Telling V E) (opening : V) where
                 drawn = mine.drawn;
                 own = mine.own;
                 once = mine.once;
+                one = mine.one;
+                other = mine.other;
                 above = λ m o. absurd (cc);
               });
           names = names_same k.numbers k.items s.views id v w at refl refl (sym (ap owned_of stage)) k.names;
@@ -255,7 +260,7 @@ module _ {V E : Type 0} (t : Telling V E) (opening : V) where
           turn = turn_same k.served (value_after t opening k.items) s.homes s.views id v w at (λ h. h) (λ h. h) (λ _. refl) k.turn;
           history = k.history;
           view = each_set (λ (u : View V E). IsLive u.stage → IsView t opening k.numbers k.items u) s.views id w (λ j u _ g. k.view j u g)
-              (λ _. record { opened = mine.opened; sees = mine.sees; told = (k.items, refl); knows = mine.knows; last = mine.last; drawn = mine.drawn; own = mine.own; once = mine.once; above = mine.above });
+              (λ _. record { opened = mine.opened; sees = mine.sees; told = (k.items, refl); knows = mine.knows; last = mine.last; drawn = mine.drawn; own = mine.own; once = mine.once; one = mine.one; other = mine.other; above = mine.above });
           names = names_same k.numbers k.items s.views id v w at refl refl refl k.names;
           fit = fit_same k.numbers s.views id v w at refl refl k.fit;
           alone = alone_set t opening k.numbers k.items s.views id v w at (live_parts t opening k.numbers k.items v mine) (λ q. subst IsAlone stage q) k.alone;
@@ -267,6 +272,8 @@ module _ {V E : Type 0} (t : Telling V E) (opening : V) where
           begins_both v.told v.seen.items mine.told.0 mine.sees.rest (sym mine.told.1 ∙ mine.sees.is) le,
           let p = total_ge parts s.views id v at in let a = k.fit.all in omega arith,
           mine.once,
+          share_seen v.names v.seen.items k.items v.one mine.sees mine.one,
+          share_seen v.names v.seen.items k.items v.other mine.sees mine.other,
         ),
       )
 

@@ -1,5 +1,6 @@
 -- A history: the value that opened it, and the items in order, each with the number of the pass that made it.
--- It stands for the value after its last item, and is legal where each item may stand behind the value after the items before it, and raises the count by one.
+-- It stands for the value after its last item, and is legal where each item may come after the value of the items before
+-- it, and raises the count by one.
 use Rattle.std.specs.Prelude.{◌≡◌, ℕ, ◌+◌, Bool, true, false, ◌||◌, eqb, if◌then◌else◌, List, [], ◌∷◌, ◌++◌, length, leb}
 use Rattle.udt_turn.specs.Story.{Telling}
 use Rattle.udt_turn.specs.declared.view.History.{History}

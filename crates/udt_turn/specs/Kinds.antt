@@ -4,6 +4,7 @@ use Rattle.atomic_table.specs.Table.{Step, Me, rest}
 use Rattle.udt_turn.specs.Story.{Telling}
 use Rattle.udt_turn.specs.History.{has, mine_in, Begins, longer, shorter, value_of, value_after, IsLegal, last_of}
 use Rattle.udt_turn.specs.Rule.{Sees, Child, NoTwice}
+use Rattle.udt_turn.specs.declared.view.Share.{Share}
 use Rattle.udt_turn.specs.declared.view.View.{View}
 use Rattle.udt_turn.specs.declared.view.Stage.{Stage}
 use Rattle.udt_turn.specs.declared.view.Stage.TheVariants.{Idle, Waiting, Holding, Done, Counting, Owning, Alone, Spent}
@@ -25,14 +26,38 @@ abbrev pub number_in : {E : Type 0} → Stage E → ℕ
 number_in (Owning n) = n
 number_in _ = 0
 
+-- nothing under no names
+abbrev pub no_share : {E : Type 0} → Share E
+no_share = record { names = []; made = [] }
+
 module _ {V E : Type 0} where
+  -- what the pass has made
+  abbrev pub share_of : View V E → Share E
+  share_of v = record { names = v.names; made = mine_in v.names v.seen.items }
+
+  -- a pass that has seen nothing, with these names
+  abbrev pub blank : V → List ℕ → Stage E → View V E
+  blank s names stage =
+      record {
+        number = 0;
+        names = names;
+        made = [];
+        seen = record { opening = s; items = [] };
+        told = [];
+        one = no_share;
+        other = no_share;
+        last = 0;
+        drawn = 0;
+        stage = stage;
+      }
+
   -- the first pass
   abbrev pub newcomer : V → View V E
-  newcomer s = record { number = 0; names = 0 ∷ []; made = []; seen = record { opening = s; items = [] }; told = []; last = 0; drawn = 0; stage = Idle }
+  newcomer s = blank s (0 ∷ []) Idle
 
   -- a pass that was joined into another
   abbrev pub spent : V → View V E
-  spent s = record { number = 0; names = []; made = []; seen = record { opening = s; items = [] }; told = []; last = 0; drawn = 0; stage = Spent }
+  spent s = blank s [] Spent
 
   -- the view at another stage
   abbrev pub at_stage : View V E → Stage E → View V E
@@ -47,7 +72,8 @@ module _ {V E : Type 0} where
     pub first : has v.names 0 ≡ true
     pub children : (p m : ℕ) → Child v.made p m → has v.names m ≡ true
 
-  -- what was seen is legal, where the view is whole all of it was made under its names, the count after the last item of its own is known, and its own number is a name of it
+  -- what was seen is legal, where the view is whole all of it was made under its names, the count after the last item of
+  -- its own is known, and its own number is a name of it
   pub record IsSound (t : Telling V E) (v : View V E) : Type 0 where
     pub legal : IsLegal t v.seen
     pub whole : IsWhole v → mine_in v.names v.seen.items ≡ v.seen.items
@@ -61,8 +87,10 @@ module _ {V E : Type 0} where
   -- the value of the history that it found is in the slot that it took
   pub record Takes (t : Telling V E) (me : Me (Option V) (View V E)) (me' : Me (Option V) (View V E)) : Type 0 where
     pub found : List (ℕ × E)
-    pub now : me' ≡ (at_stage me.0 (Holding (ticket_in me.0.stage) found), (0, Some (value_after t me.0.seen.opening found)) ∷ me.1)
+    pub now : me'
+        ≡ (at_stage me.0 (Holding (ticket_in me.0.stage) found), (0, Some (value_after t me.0.seen.opening found)) ∷ me.1)
     pub sees : Sees me.0.names me.0.seen.items found
+    pub most : t.count (value_after t me.0.seen.opening found) < 2 ^ 55
     pub sound : IsSound t (seeing me.0 found Idle)
 
   -- where its ticket is served it has the turn and the slot, and knows the history that it found; else nothing changes
@@ -73,6 +101,8 @@ module _ {V E : Type 0} where
   abbrev pub saying : Telling V E → View V E → E → View V E
   saying t v e = record v {
     seen = record { opening = v.seen.opening; items = found_in v.stage ++ (v.number, e) ∷ [] };
+    one = no_share;
+    other = no_share;
     last = t.count (t.after (value_after t v.seen.opening (found_in v.stage)) e);
     stage = Done (ticket_in v.stage);
   }
@@ -81,7 +111,7 @@ module _ {V E : Type 0} where
   abbrev pub value_found : Telling V E → View V E → V
   value_found t v = value_after t v.seen.opening (found_in v.stage)
 
-  -- the item may stand behind that value, and these are the count and the bits after it
+  -- the item may come after that value, and these are the count and the bits after it
   pub record Agrees (t : Telling V E) (item : Option E) (before : V) (count bits : ℕ) : Type 0 where
     pub entry : E
     pub named : item ≡ Some entry
@@ -95,7 +125,7 @@ module _ {V E : Type 0} where
   abbrev pub HasTicket : View V E → Type 0
   HasTicket v = (k : ℕ) × (v.stage ≡ Holding k (found_in v.stage))
 
-  -- it has seen the history that it found with its item behind
+  -- it has seen the history that it found with its item at the end
   abbrev pub Says : Telling V E → Option E → Step (Option V) → Me (Option V) (View V E) → ℕ → Me (Option V) (View V E) → Type 0
   Says t item st me n me' = (e : E) → item ≡ Some e
       → (me' ≡ (saying t me.0 e, me.1)) × IsSound t me'.0
@@ -108,7 +138,8 @@ module _ {V E : Type 0} where
   abbrev pub Calls : Step (Option V) → Me (Option V) (View V E) → ℕ → Me (Option V) (View V E) → Type 0
   Calls st me n me' = me' ≡ (at_stage me.0 Idle, rest me.1)
 
-  -- the history that it then has seen begins with what it had seen, goes on with nothing of its own, and stands for a value with this count and these bits
+  -- the history that it then has seen begins with what it had seen, goes on with nothing of its own, and stands for a
+  -- value with this count and these bits
   pub record Shows (t : Telling V E) (me : Me (Option V) (View V E)) (n : ℕ) (me' : Me (Option V) (View V E)) : Type 0 where
     pub found : List (ℕ × E)
     pub now : me' ≡ (seeing me.0 found Idle, me.1)
@@ -121,19 +152,23 @@ module _ {V E : Type 0} where
   abbrev pub Looks : Telling V E → Step (Option V) → Me (Option V) (View V E) → ℕ → Me (Option V) (View V E) → Type 0
   Looks t st me n me' = Shows t me n me'
 
-  -- the view, having learnt that so many numbers were drawn, at another stage
+  -- the view, having learnt that this many numbers were drawn, at another stage
   abbrev pub drawn_to : View V E → ℕ → Stage E → View V E
   drawn_to v n st = record v { drawn = n; stage = st }
 
-  -- it may draw a number where fewer than 65535 were drawn
-  abbrev pub Counts : Step (Option V) → Me (Option V) (View V E) → ℕ → Me (Option V) (View V E) → Type 0
-  Counts st me n me' = (me.0.drawn ≤ n) × (n < 65535 → me' ≡ (drawn_to me.0 n Counting, me.1)) × (65535 ≤ n → me' ≡ (drawn_to me.0 n Idle, me.1))
+  -- it may draw a number where fewer than 65535 were drawn, and what it had seen is sound
+  abbrev pub Counts : Telling V E → Step (Option V) → Me (Option V) (View V E) → ℕ → Me (Option V) (View V E) → Type 0
+  Counts t st me n me' =
+      (me.0.drawn ≤ n) × (n < 65535 → me' ≡ (drawn_to me.0 n Counting, me.1))
+      × (65535 ≤ n → me' ≡ (drawn_to me.0 n Idle, me.1)) × IsSound t me.0
 
   -- it owns the number that it found where that is below 65535
   abbrev pub Numbers : Step (Option V) → Me (Option V) (View V E) → ℕ → Me (Option V) (View V E) → Type 0
-  Numbers st me n me' = (me.0.drawn ≤ n) × (me.0.number < n) × (mine_in (n ∷ []) me.0.seen.items ≡ []) × (n < 65535 → me' ≡ (drawn_to me.0 (n + 1) (Owning n), me.1)) × (65535 ≤ n → me' ≡ (drawn_to me.0 (n + 1) Idle, me.1))
+  Numbers st me n me' =
+      (me.0.drawn ≤ n) × (me.0.number < n) × (mine_in (n ∷ []) me.0.seen.items ≡ [])
+      × (n < 65535 → me' ≡ (drawn_to me.0 (n + 1) (Owning n), me.1)) × (65535 ≤ n → me' ≡ (drawn_to me.0 (n + 1) Idle, me.1))
 
-  -- it owns a number below 65535, which no step of it had shown as drawn, and under which it has seen nothing made
+  -- it owns a number below 65535, which no step of its own had shown as drawn, and under which it has seen nothing made
   pub record HasDrawn (me me' : Me (Option V) (View V E)) : Type 0 where
     pub drew : ℕ
     pub now : me' ≡ (drawn_to me.0 (drew + 1) (Owning drew), me.1)
@@ -154,16 +189,47 @@ module _ {V E : Type 0} where
 
   -- and the number and only name of a new view, which has seen as much and made nothing
   abbrev pub child_of : View V E → View V E
-  child_of v = record { number = number_in v.stage; names = number_in v.stage ∷ []; made = []; seen = v.seen; told = []; last = 0; drawn = v.drawn; stage = Idle }
+  child_of v =
+      record {
+        number = number_in v.stage;
+        names = number_in v.stage ∷ [];
+        made = [];
+        seen = v.seen;
+        told = [];
+        one = no_share;
+        other = no_share;
+        last = 0;
+        drawn = v.drawn;
+        stage = Idle;
+      }
 
   -- the names and pairs of both, and the longer of both histories; the shorter is told
   abbrev pub joined : View V E → View V E → View V E
-  joined v u = record v { names = v.names ++ u.names; made = v.made ++ u.made; seen = record { opening = v.seen.opening; items = longer v.seen.items u.seen.items }; told = shorter v.seen.items u.seen.items; last = max v.last u.last; drawn = max v.drawn u.drawn }
+  joined v u =
+      record v {
+        names = v.names ++ u.names;
+        made = v.made ++ u.made;
+        seen = record {
+          opening = v.seen.opening;
+          items = longer v.seen.items u.seen.items;
+        };
+        told = shorter v.seen.items u.seen.items;
+        one = share_of v;
+        other = share_of u;
+        last = max v.last u.last;
+        drawn = max v.drawn u.drawn;
+      }
 
   -- after a join, what was told is forgotten, being the beginning of what was seen
   abbrev pub Settles : Telling V E → Step (Option V) → Me (Option V) (View V E) → ℕ → Me (Option V) (View V E) → Type 0
-  Settles t st me n me' = (me' ≡ (record me.0 { told = [] }, me.1)) × IsSound t me'.0 × Begins me.0.told me.0.seen.items × (length me.0.names ≤ 65535) × NoTwice me.0.names
+  Settles t st me n me' =
+      (me' ≡ (record me.0 { told = [] }, me.1)) × IsSound t me'.0 × Begins me.0.told me.0.seen.items
+      × (length me.0.names ≤ 65535) × NoTwice me.0.names
+      × (mine_in me.0.one.names me.0.seen.items ≡ me.0.one.made) × (mine_in me.0.other.names me.0.seen.items ≡ me.0.other.made)
 
   -- at the end it has all the names there are exactly where it has as many names as numbers below 65535 were drawn
   abbrev pub Ends : Step (Option V) → Me (Option V) (View V E) → ℕ → Me (Option V) (View V E) → Type 0
-  Ends st me n me' = (length me.0.names ≡ min n 65535 → (me' ≡ (at_stage me.0 Alone, me.1)) × IsWhole me.0) × (length me.0.names ≢ min n 65535 → (me' ≡ me) × (IsWhole me.0 → ⊥))
+  Ends st me n me' =
+      (length me.0.names ≡ min n 65535
+      → (me' ≡ (at_stage me.0 Alone, me.1)) × IsWhole me.0) × (length me.0.names ≢ min n 65535
+      → (me' ≡ me) × (IsWhole me.0 → ⊥))

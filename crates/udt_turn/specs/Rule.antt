@@ -1,5 +1,7 @@
--- The rule of a turn: what its words, its slot, one history and the views of all passes have to do with one another between any two steps.
--- Word 0 tells the value: 256 times its count, and its bits. Word 1 counts the tickets drawn and word 2 those served, both modulo 2 ^ 64. Word 3 counts the pass numbers drawn, and is 1 at first.
+-- The rule of a turn: what its words, its slot, one history and the views of all passes have to do with one another
+-- between any two steps.
+-- Word 0 tells the value: 256 times its count, and its bits. Word 1 counts the tickets drawn and word 2 those served,
+-- both modulo 2 ^ 64. Word 3 counts the pass numbers drawn, and is 1 at first.
 -- The one slot has the value while nobody has the turn.
 use Rattle.std.specs.Prelude.{◌≡◌, ℕ, ◌+◌, ◌*◌, ◌%◌, ◌^◌, ◌<◌, ◌≤◌, min, ◌⊎◌, true, false, List, [], ◌∷◌, ◌++◌, length, Option, Some, None}
 use mathlib.Core.Option as opt
@@ -8,6 +10,7 @@ use lib.ListN.{get_elem?}
 use Rattle.atomic_table.specs.Table.{State}
 use Rattle.udt_turn.specs.Story.{Telling}
 use Rattle.udt_turn.specs.History.{has, mine_in, Begins, value_after, MayFollow, last_from}
+use Rattle.udt_turn.specs.declared.view.Share.{Share}
 use Rattle.udt_turn.specs.declared.view.View.{View}
 use Rattle.udt_turn.specs.declared.view.Stage.{Stage}
 use Rattle.udt_turn.specs.declared.view.Stage.TheVariants.{Waiting, Holding, Done, Counting, Owning, Alone, Spent}
@@ -22,6 +25,11 @@ pub record Sees {E : Type 0} (names : List ℕ) (seen items : List (ℕ × E)) :
   pub rest : List (ℕ × E)
   pub is : items ≡ seen ++ rest
   pub none_of : mine_in names rest ≡ []
+
+-- the items under these names, which are some of the others, are all there
+pub record IsShare {E : Type 0} (names : List ℕ) (items : List (ℕ × E)) (s : Share E) : Type 0 where
+  pub all : mine_in s.names items ≡ s.made
+  pub own : (m : ℕ) → has s.names m ≡ true → has names m ≡ true
 
 -- no number stands twice in the list
 abbrev pub NoTwice : List ℕ → Type 0
@@ -109,21 +117,25 @@ module _ {V E : Type 0} where
 
   -- no two views have the same
   abbrev pub Apart : (View V E → ℕ → Type 0) → List (View V E) → Type 0
-  Apart C views = (i j : ℕ) (u v : View V E) (m : ℕ) → get_elem? views i ≡ some u → get_elem? views j ≡ some v → C u m → C v m → i ≡ j
+  Apart C views =
+      (i j : ℕ) (u v : View V E) (m : ℕ) → get_elem? views i ≡ some u → get_elem? views j ≡ some v → C u m → C v m → i ≡ j
 
   -- the view's ticket is this one
   abbrev pub Tickets : View V E → ℕ → Type 0
   Tickets v n = ticket_of v.stage ≡ Some n
 
-  -- Part 1. The tickets drawn are those served and those that are out. Those that are out are different, and none is before the one that is served
+  -- Part 1. The tickets drawn are those served and those that are out. Those that are out are different, and none is
+  -- before the one that is served
   pub record TicketsInOrder (served drawn : ℕ) (views : List (View V E)) : Type 0 where
     pub out : served + total_of (λ v. queues v.stage) views ≡ drawn
     pub within : Each views (λ v. (n : ℕ) → Tickets v n → (served ≤ n) × (n < drawn))
     pub apart : Apart Tickets views
 
-  -- Part 2. The slot is at home exactly where no view has the turn, and has the value then. A view with the turn has the ticket that is served
+  -- Part 2. The slot is at home exactly where no view has the turn, and has the value then. A view with the turn has the
+  -- ticket that is served
   pub record OneHasTurn (served : ℕ) (value : V) (homes : List (opt.Option (Option V))) (views : List (View V E)) : Type 0 where
-    pub slot : ((homes ≡ some (Some value) ∷ []) × Each views (λ v. HasTurn v.stage → ⊥)) ⊎ ((homes ≡ none ∷ []) × Some_view views (λ v. HasTurn v.stage))
+    pub slot : ((homes ≡ some (Some value) ∷ []) × Each views (λ v. HasTurn v.stage
+        → ⊥)) ⊎ ((homes ≡ none ∷ []) × Some_view views (λ v. HasTurn v.stage))
     pub whose : Each views (λ v. HasTurn v.stage → Tickets v served)
 
   -- Part 4, and part 7: the own number is among the names, and a number that is owned is above it
@@ -131,6 +143,8 @@ module _ {V E : Type 0} where
     pub opened : v.seen.opening ≡ opening
     pub sees : Sees v.names v.seen.items items
     pub told : Begins v.told items
+    pub one : IsShare v.names items v.one
+    pub other : IsShare v.names items v.other
     pub knows : Knows v.stage v.seen.items items
     pub last : v.last ≡ last_from t v.names opening items 0
     pub drawn : v.drawn ≤ numbers
@@ -150,13 +164,15 @@ module _ {V E : Type 0} where
   Named views m = Some_view views (λ v. has v.names m ≡ true)
 
   -- Part 5. Names are different, below word 3 and below 65535. A number has one owner, and is nobody's name while it is owned.
-  -- Each name but 0 was split off by a smaller one, in the view that has that one among its names. Each number that was split off is a name, and so is the number of each item
+  -- Each name but 0 was split off by a smaller one, in the view that has that one among its names. Each number that was
+  -- split off is a name, and so is the number of each item
   pub record NamesInOrder (numbers : ℕ) (items : List (ℕ × E)) (views : List (View V E)) : Type 0 where
     pub below : Each views (λ v. (m : ℕ) → Claims v m → (m < numbers) × (m < 65535))
     pub apart : Apart Claims views
     pub unnamed : Each views (λ v. (m : ℕ) → owned_of v.stage ≡ Some m → has v.names m ≡ false)
     pub first : Named views 0
-    pub split : Each views (λ v. (m : ℕ) → has v.names m ≡ true → 0 < m → Some_view views (λ u. (p : ℕ) × Child u.made p m × (has u.names p ≡ true) × (p < m)))
+    pub split : Each views (λ v. (m : ℕ) → has v.names m ≡ true → 0 < m
+        → Some_view views (λ u. (p : ℕ) × Child u.made p m × (has u.names p ≡ true) × (p < m)))
     pub children : Each views (λ v. (p m : ℕ) → Child v.made p m → Named views m)
     pub makers : EachItem items (Named views)
 

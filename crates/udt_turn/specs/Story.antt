@@ -5,7 +5,7 @@ use Rattle.std.specs.Prelude.{ℕ}
 pub record Telling (V E : Type 0) : Type 1 where
   -- the value after an item
   pub after : V → E → V
-  -- the item may stand behind this value
+  -- the item may come after this value
   pub legal : V → E → Type 0
   -- how many items the value counts
   pub count : V → ℕ

@@ -2,7 +2,7 @@
 use Rattle.std.specs.Prelude.{◌≡◌, ℕ, ◌+◌, ◌^◌, ◌<◌, ◌≤◌, List, [], ◌∷◌, ◌++◌, Option, Some, None}
 use Rattle.atomic_table.specs.Seated.{TableId}
 use Rattle.udt_turn.specs.Story.{Telling}
-use Rattle.udt_turn.specs.History.{mine_in}
+use Rattle.udt_turn.specs.History.{mine_in, Begins, value_of}
 use Rattle.udt_turn.specs.Rule.{Sees}
 use Rattle.udt_turn.specs.Kinds.{seeing, found_in, IsSound}
 use Rattle.udt_turn.specs.declared.story.Story as story
@@ -30,7 +30,8 @@ module _ {V E : Type 0} where
     pub made : after.made ≡ before.made
     pub drawn : after.drawn ≡ before.drawn
 
-  -- the new view has a number of its own, which no step had shown as drawn yet, and it has seen as much and made nothing
+  -- the new view has a number of its own, fresh to what the old one had seen: no step of that one had shown it as drawn.
+  -- It has seen as much and made nothing
   pub record HasBranched (old new : View V E) : Type 0 where
     pub few : new.number < 65535
     pub above : old.number < new.number
@@ -62,7 +63,7 @@ module _ {V E : Type 0} {g : story.Ghosts V E} where
   abbrev pub names_of : Pass V E g → List ℕ
   names_of p = (view_of p).names
 
-  -- the numbers that were split off under its names, each behind its parent
+  -- the numbers that were split off under its names, each after its parent
   abbrev pub made_of : Pass V E g → List (ℕ × ℕ)
   made_of p = (view_of p).made
 
@@ -74,7 +75,7 @@ module _ {V E : Type 0} {g : story.Ghosts V E} where
   abbrev pub mine_of : Pass V E g → List (ℕ × E)
   mine_of p = mine_in (names_of p) (seen_of p).items
 
-  -- so many pass numbers were drawn at some step of it
+  -- the number of pass numbers that were drawn, as its last step on them showed
   abbrev pub drawn_of : Pass V E g → ℕ
   drawn_of p = (view_of p).drawn
 
@@ -89,11 +90,11 @@ module _ {V E : Type 0} {g : story.Ghosts V E} where
   abbrev pub found_of : Pass V E g → History V E
   found_of p = record { opening = (seen_of p).opening; items = found_in (view_of p).stage }
 
-  -- and that history with an item of the pass behind
+  -- and that history with an item of the pass at the end
   abbrev pub with_item : Pass V E g → E → History V E
   with_item p e = record { opening = (found_of p).opening; items = (found_of p).items ++ (number_of p, e) ∷ [] }
 
-  -- that history, with the item behind, is seen afterwards
+  -- that history, with the item at the end, is seen afterwards
   abbrev pub SeesItem : Option E → Pass V E g → Pass V E g → Type 0
   SeesItem item before after = (e : E) → item ≡ Some e → seen_of after ≡ with_item before e
 
@@ -113,6 +114,7 @@ module _ {V E : Type 0} {g : story.Ghosts V E} where
     pub stage : (view_of p).stage ≡ Holding ticket (found_of p).items
     pub opened : (found_of p).opening ≡ opening_of turn
     pub sees : Sees (names_of p) (seen_of p).items (found_of p).items
+    pub most : t.count (value_of t (found_of p)) < 2 ^ 55
     pub sound : IsSound t (seeing (view_of p) (found_of p).items Idle)
 
   -- the same, of whoever has the turn
@@ -122,3 +124,19 @@ module _ {V E : Type 0} {g : story.Ghosts V E} where
   -- the same, of whoever has the turn and the value
   abbrev pub IsHeld : Telling V E → Held V E g → Type 0
   IsHeld t h = IsHolding t h.turn.now h.pass.now
+
+  -- one item of the pass was added, after all that it had seen and whatever others had added since
+  pub record Adds (t : Telling V E) (e : E) (before after : Pass V E g) : Type 0 where
+    pub found : List (ℕ × E)
+    pub later : Begins (seen_of before).items found
+    pub seen : seen_of after ≡ record { opening = (seen_of before).opening; items = found ++ (number_of before, e) ∷ [] }
+    pub mine : mine_of after ≡ mine_of before ++ (number_of before, e) ∷ []
+    pub few : t.count (value_of t (seen_of after)) < 2 ^ 55
+    pub sound : IsSound t (view_of after)
+
+  -- only more was seen, and nothing was added by the pass
+  pub record OnlySees (t : Telling V E) (before after : Pass V E g) : Type 0 where
+    pub opening : (seen_of after).opening ≡ (seen_of before).opening
+    pub later : Begins (seen_of before).items (seen_of after).items
+    pub mine : mine_of after ≡ mine_of before
+    pub sound : IsSound t (view_of after)

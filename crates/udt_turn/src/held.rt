@@ -11,13 +11,13 @@ pub struct Held<'a, V: Story> {
 }
 
 impl<'a, V: Story> Held<'a, V> {
-    ghost use Rattle.std.specs.Prelude.{◌≡◌, ℕ};
+    ghost use Rattle.std.specs.Prelude.{◌≡◌, ℕ, Some};
     ghost use Rattle.std.specs.Borrow.{sem};
     ghost use Rattle.udt_turn.specs.History.{value_of};
     ghost use Rattle.udt_turn.specs.Kinds.{IsSound};
     ghost use Rattle.udt_turn.specs.Lending.{LendsValue};
     ghost use Rattle.udt_turn.specs.Words.{view_of, seen_of, mine_of, found_by, SeesItem, MakesItem};
-    ghost use Rattle.udt_turn.specs.Words.{IsPassOf, IsHeld, GoesOn, KeepsNames};
+    ghost use Rattle.udt_turn.specs.Words.{IsPassOf, IsHeld, GoesOn, KeepsNames, Adds, OnlySees};
 
     /// The value, to be read and changed.
     pub fn value(&mut self) -> &mut V
@@ -36,6 +36,7 @@ impl<'a, V: Story> Held<'a, V> {
         ensures seen { SeesItem N.item self.entry.pass.now self.exit.1.0.now }
         ensures mine { MakesItem N.item self.entry.pass.now self.exit.1.0.now }
         ensures sound { IsSound V.tale (view_of self.exit.1.0.now) }
+        ensures adds { (e : V.Entry) → N.item ≡ Some e → Adds V.tale e self.entry.pass.now self.exit.1.0.now }
     {
         let Held { turn, pass, value } = self;
         turn.finish::<N>(pass, value);
@@ -50,6 +51,7 @@ impl<'a, V: Story> Held<'a, V> {
         ensures seen { seen_of self.exit.1.0.now ≡ found_by self.entry }
         ensures mine { mine_of self.exit.1.0.now ≡ mine_of self.entry.pass.now }
         ensures sound { IsSound V.tale (view_of self.exit.1.0.now) }
+        ensures only_sees { OnlySees V.tale self.entry.pass.now self.exit.1.0.now }
     {
         let Held { turn, pass, value } = self;
         turn.give_back(pass, value);

@@ -58,8 +58,8 @@ impl<V: Story> Play<Option<V>, View<V, V::Entry>> for Glance {
 
 pub(crate) struct Count;
 
-impl<V, E> Play<Option<V>, View<V, E>> for Count {
-    ghost then = { Counts };
+impl<V: Story> Play<Option<V>, View<V, V::Entry>> for Count {
+    ghost then = { Counts V.tale };
 }
 
 pub(crate) struct Number;

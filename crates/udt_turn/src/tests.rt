@@ -41,7 +41,8 @@ impl Story for Numbers {
 
 impl Numbers {
     fn add(&mut self, n: u64) -> bool
-        ensures { MatchBool result ((self.new ≡ self.old ++ n ∷ []) × (length self.new < 2 ^ 55)) (self.new ≡ self.old) }
+        ensures { MatchBool result
+            ((self.new ≡ self.old ++ n ∷ []) × (length self.new < 2 ^ 55)) (self.new ≡ self.old) }
     {
         self.list.len() < 1 << 40 && self.list.push(n).is_ok()
     }
@@ -78,7 +79,7 @@ impl Turn<Numbers> {
     }
 }
 
-// Splits a pass off so many times, and says how often it went.
+// Splits a pass off this many times, and says how often it went.
 fn split_off(turn: &Turn<Numbers>, pass: &mut Pass<Numbers>, times: u32) -> u32
     requires { IsPassOf turn.now pass.old }
     ensures { IsPassOf turn.now pass.new }

@@ -37,7 +37,7 @@ pub struct OutOfMemory;
 #[derive(Debug, Drop)]
 pub struct Full;
 
-/// What a look shows: how many items the history has behind it, and what its value is ready for.
+/// What a look shows: the number of items of the history, and what its value is ready for.
 #[derive(Debug, Drop)]
 pub struct Look {
     pub count: u64,
@@ -46,7 +46,7 @@ pub struct Look {
 
 impl<V: Story> Turn<V> {
     ghost use Rattle.std.specs.Prelude.{◌≡◌, ◌+◌, ◌^◌, ◌<◌, ◌≤◌, [], ◌∷◌, ◌++◌, IfOk, IfErr, max};
-    ghost use Rattle.udt_turn.specs.History.{value_of, longer, Begins, IsLegal};
+    ghost use Rattle.udt_turn.specs.History.{value_of, longer, Begins, IsLegal, mine_in};
     ghost use Rattle.udt_turn.specs.Rule.{NoTwice};
     ghost use Rattle.udt_turn.specs.Kinds.{newcomer, IsSound, IsWhole};
     ghost use Rattle.udt_turn.specs.Words.{view_of, seen_of, number_of, names_of, made_of, mine_of, drawn_of};
@@ -57,6 +57,7 @@ impl<V: Story> Turn<V> {
         requires { V.tale.count value < 2 ^ 55 }
         ensures pass { IfOk result (λ r. IsPassOf r.0 r.1 × (view_of r.1 ≡ newcomer value)) }
         ensures opening { IfOk result (λ r. opening_of r.0 ≡ value) }
+        ensures sound { IfOk result (λ r. IsSound V.tale (view_of r.1)) }
         ensures err { IfErr result (λ e. e.0 ≡ value) }
     {
         let word = value.count() * 256 + u64::from(value.bits());
@@ -82,6 +83,7 @@ impl<V: Story> Turn<V> {
         ensures turn { result.turn.now ≡ self.now }
         ensures held { IsHeld V.tale result }
         ensures value { result.value ≡ value_of V.tale (found_by result) }
+        ensures few { V.tale.count result.value < 2 ^ 55 }
         ensures names { KeepsNames (view_of pass.old) (view_of result.pass.now) }
         ensures seen { seen_of result.pass.now ≡ seen_of pass.old }
     {
@@ -111,7 +113,8 @@ impl<V: Story> Turn<V> {
         }
     }
 
-    /// Gives a pass with a number of its own, which has seen what this one has.
+    /// Gives a pass with a number of its own, which has seen what this one has. The number is fresh to what this
+    /// pass had seen; that no other pass has it shows at `join`.
     pub fn split(&self, pass: &mut Pass<V>) -> Result<Pass<V>, Full>
         requires { IsPassOf self.now pass.old }
         ensures own { IsPassOf self.now pass.new }
@@ -124,6 +127,8 @@ impl<V: Story> Turn<V> {
         ensures drawn { IfOk result (λ p. drawn_of pass.new ≡ number_of p + 1) }
         ensures full { IfErr result (λ _. 65535 ≤ drawn_of pass.new) }
         ensures err { IfErr result (λ _. made_of pass.new ≡ made_of pass.old) }
+        ensures sound { IsSound V.tale (view_of pass.new) }
+        ensures sound_new { IfOk result (λ p. IsSound V.tale (view_of p)) }
     {
         if !self.number(&mut pass.seat) {
             return Err(Full);
@@ -147,6 +152,8 @@ impl<V: Story> Turn<V> {
         ensures made { made_of into.new ≡ made_of into.old ++ made_of gone }
         ensures drawn { drawn_of into.new ≡ max (drawn_of into.old) (drawn_of gone) }
         ensures longer { (seen_of into.new).items ≡ longer (seen_of into.old).items (seen_of gone).items }
+        ensures of_into { mine_in (names_of into.old) (seen_of into.new).items ≡ mine_of into.old }
+        ensures of_gone { mine_in (names_of gone) (seen_of into.new).items ≡ mine_of gone }
         ensures from_into { Begins (seen_of into.old).items (seen_of into.new).items }
         ensures from_gone { Begins (seen_of gone).items (seen_of into.new).items }
         ensures sound { IsSound V.tale (view_of into.new) }

@@ -26,18 +26,27 @@ pub enum Stage<E> {
     Spent,
 }
 
+/// Some names, and what was made under them.
+pub struct Share<E> {
+    pub names: LinkedList<u64>,
+    pub made: LinkedList<(u64, E)>,
+}
+
 pub struct View<V, E> {
     pub number: u64,
     /// Its own number, and those of the passes that were joined into it.
     pub names: LinkedList<u64>,
-    /// The numbers that were split off under its names, each behind the one that split it off.
+    /// The numbers that were split off under its names, each after the one that split it off.
     pub made: LinkedList<(u64, u64)>,
     pub seen: History<V, E>,
     /// The shorter of two beginnings of the history that a join brought together.
     pub told: LinkedList<(u64, E)>,
+    /// What each of two passes had made that a join brought together.
+    pub one: Share<E>,
+    pub other: Share<E>,
     /// The count after the last item that was made under its names, and 0 where there is none.
     pub last: u64,
-    /// So many pass numbers were drawn at some step of it.
+    /// The number of pass numbers that were drawn, as its last step on them showed.
     pub drawn: u64,
     pub stage: Stage<E>,
 }

@@ -3,7 +3,7 @@ use crate::rule::{Branch, Count, End, Glance, Merge, Number, Sat, Settle};
 use crate::story::Story;
 use crate::turn::Turn;
 
-// So many numbers there are for passes, 0 among them.
+// The number of numbers for passes, 0 among them.
 const PASSES: u64 = 65_535;
 
 impl<V: Story> Turn<V> {
@@ -30,6 +30,7 @@ impl<V: Story> Turn<V> {
         ensures same { (seat.new.table_id ≡ seat.old.table_id) × (seat.new.id ≡ seat.old.id) }
         ensures drew { IsTrue result → HasDrawn seat.old.me seat.new.me }
         ensures full { IsFalse result → HasFound seat.old.me seat.new.me }
+        ensures sound { IsSound V.tale seat.new.me.0 }
     {
         if self.table.shared.load::<Count>(seat, 3) >= PASSES {
             return false;
@@ -59,6 +60,10 @@ impl<V: Story> Turn<V> {
         ensures from_old { Begins seat.old.me.0.seen.items seat.new.me.0.seen.items }
         ensures from_gone { Begins gone.me.0.seen.items seat.new.me.0.seen.items }
         ensures few { length seat.new.me.0.names ≤ 65535 }
+        ensures old_made { mine_in seat.old.me.0.names seat.new.me.0.seen.items
+            ≡ mine_in seat.old.me.0.names seat.old.me.0.seen.items }
+        ensures gone_made { mine_in gone.me.0.names seat.new.me.0.seen.items
+            ≡ mine_in gone.me.0.names gone.me.0.seen.items }
         ensures once { NoTwice seat.new.me.0.names }
     {
         self.table.shared.join_seat::<Merge>(seat, gone);
@@ -71,7 +76,8 @@ impl<V: Story> Turn<V> {
         requires idle { seat.old.me.0.stage ≡ Idle }
         requires names { joined ≡ length seat.old.me.0.names }
         ensures same { (seat.new.table_id ≡ seat.old.table_id) × (seat.new.id ≡ seat.old.id) }
-        ensures alone { IsTrue result → (seat.new.me ≡ (at_stage seat.old.me.0 Alone, seat.old.me.1)) × IsWhole seat.old.me.0 }
+        ensures alone { IsTrue result
+            → (seat.new.me ≡ (at_stage seat.old.me.0 Alone, seat.old.me.1)) × IsWhole seat.old.me.0 }
         ensures parted { IsFalse result → (seat.new.me ≡ seat.old.me) × (IsWhole seat.old.me.0 → ⊥) }
     {
         self.table.shared.load::<End>(seat, 3).min(PASSES) == joined

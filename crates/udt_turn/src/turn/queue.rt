@@ -5,7 +5,7 @@ use crate::turn::Turn;
 use std::sync::Wait;
 use std::{hint, thread};
 
-// So many rounds are spun before the thread yields.
+// The number of rounds that are spun before the thread yields.
 const SPINS: u32 = 2_000;
 
 // Only a thread spins that has fewer tickets before its own.
@@ -24,7 +24,8 @@ impl<V: Story> Turn<V> {
         requires own { seat.old.table_id ≡ self.now.table.shared.table_id }
         requires idle { seat.old.me.0.stage ≡ Idle }
         ensures same { (seat.new.table_id ≡ seat.old.table_id) × (seat.new.id ≡ seat.old.id) }
-        ensures drew { (k : ℕ) × (result ≡ k % 2 ^ 64) × (seat.new.me ≡ (at_stage seat.old.me.0 (Waiting k), seat.old.me.1)) }
+        ensures drew { (k : ℕ) × (result ≡ k % 2 ^ 64)
+            × (seat.new.me ≡ (at_stage seat.old.me.0 (Waiting k), seat.old.me.1)) }
     {
         self.table.shared.fetch_add::<Draw>(seat, 1, 1)
     }
