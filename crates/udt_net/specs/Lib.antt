@@ -1,0 +1,5 @@
+pub mod Networks
+pub mod Speaking
+pub mod Calls
+pub mod Ends
+pub mod MemoryNets
