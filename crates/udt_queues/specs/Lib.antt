@@ -1,0 +1,13 @@
+pub mod Lines
+pub mod Passing
+pub mod Told
+pub mod Buffers
+pub mod Outgoing
+pub mod Lists
+pub mod Messages
+pub mod Starting
+pub mod Listings
+pub mod Trees
+pub mod TreeFalls
+pub mod Timetable
+pub mod Schedules
