@@ -1,0 +1,2 @@
+mod Positionals
+mod Refusals

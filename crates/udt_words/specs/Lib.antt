@@ -1,0 +1,4 @@
+pub mod Table
+pub mod Given
+pub mod Ranges
+pub mod Laws
