@@ -43,7 +43,7 @@ onward : (front : List ℕ) (byte : ℕ) (more : Option (List ℕ)) → option_m
 onward front byte None = refl
 onward front byte (Some m) = ap Some (sym (append_assoc front (byte ∷ []) m))
 
--- so a byte goes behind those so far
+-- so a byte goes after those so far
 pub one_more : (whole front rest : List ℕ) (h l : ℕ) → pairs_of whole ≡ option_map (λ m. front ++ m) (pairs_of rest) → 2 ≤ length rest → nibble_of (get_or rest 0 0) ≡ Some h → nibble_of (get_or rest 1 0) ≡ Some l → pairs_of whole ≡ option_map (λ m. (front ++ (16 * h + l) ∷ []) ++ m) (pairs_of (drop 2 rest))
 one_more whole front rest h l so_far enough some some' =
     so_far ∙ ap (λ p. option_map (λ m. front ++ m) p) (a_pair rest h l enough some some') ∙ onward front (16 * h + l) (pairs_of (drop 2 rest))

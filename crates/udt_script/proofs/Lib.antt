@@ -1,3 +1,2 @@
-mod Numerals
 mod Splits
 mod HexPairs

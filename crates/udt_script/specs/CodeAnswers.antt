@@ -1,9 +1,21 @@
--- The code's answers of reading, as the definitions of the protocol see them.
-use Rattle.std.specs.Prelude.{ℕ, List, Result, Ok, Err}
-use Rattle.std.specs.Borrow.{Bor}
+-- The code's answers, as the definitions of the protocol see them.
+use Rattle.std.specs.Prelude.{ℕ, List, Vec, Result, Ok, Err}
+use Rattle.std.specs.Global.{Global}
 use Rattle.udt_model.specs.declared.answers.Refusal.{Refusal}
+use Rattle.udt_model.specs.Events as model
+use Rattle.udt_script.specs.declared.lines.Reply.{Reply}
+use Rattle.udt_script.specs.declared.lines.Reply.TheVariants as code
 
 -- what was read, without where it lies in memory
-abbrev pub read_of : Result (Bor (List ℕ)) Refusal → Result (List ℕ) Refusal
-read_of (Ok bytes) = Ok bytes.now
+abbrev pub read_of : Result (Vec ℕ Global) Refusal → Result (List ℕ) Refusal
+read_of (Ok bytes) = Ok bytes.items
 read_of (Err why) = Err why
+
+-- an answer, likewise
+abbrev pub reply_of : Reply → model.Reply
+reply_of (code.Sent answer) = model.Sent answer
+reply_of (code.Received answer) = model.Received (read_of answer)
+reply_of (code.Packed answer) = model.DidPack answer
+reply_of code.Ticked = model.DidTick
+reply_of code.Closed = model.DidClose
+reply_of (code.Heard answer) = model.DidHear answer

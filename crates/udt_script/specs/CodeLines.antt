@@ -1,10 +1,15 @@
 -- The code's lines, as the definitions of the script language see them.
 use Rattle.std.specs.Prelude.{◌≤◌, ◌<◌, ◌^◌}
 use Rattle.udt_model.specs.declared.limits.TheConstants.{MOST_PAYLOAD, FEWEST_BLOCKS, MOST_BLOCKS, LAST_START, LAST_MOMENT}
+use Rattle.udt_model.specs.Events.{Act, Send, Recv, Pack, Tick, Close}
+use Rattle.udt_model.specs.Network.{ScriptDatagram as ModelDatagram}
 use Rattle.udt_model.specs.Lines as model
+use Rattle.udt_script.specs.declared.lines.Call.{Call}
+use Rattle.udt_script.specs.declared.lines.Call.TheVariants as code_call
 use Rattle.udt_script.specs.declared.lines.Line.{Line}
 use Rattle.udt_script.specs.declared.lines.Line.TheVariants as code
 use Rattle.udt_script.specs.declared.lines.Pairing.{Pairing}
+use Rattle.udt_script.specs.declared.lines.ScriptDatagram.{ScriptDatagram}
 
 -- a pairing without where its names lie in memory
 abbrev pub pairing_of : Pairing → model.Pairing
@@ -17,17 +22,25 @@ pairing_of p = record {
   start = p.start;
 }
 
+-- a datagram, likewise
+abbrev pub datagram_of : ScriptDatagram → ModelDatagram
+datagram_of datagram = record { from = datagram.from; to = datagram.to; bytes = datagram.bytes.items }
+
+-- a call of a socket
+abbrev pub act_of : Call → Act
+act_of (code_call.Send bytes) = Send bytes.items
+act_of (code_call.Recv room) = Recv room
+act_of code_call.Pack = Pack
+act_of code_call.Tick = Tick
+act_of code_call.Close = Close
+
 -- a line without where its parts lie in memory
 abbrev pub line_of : Line → model.Line
 line_of code.Silent = model.Silent
 line_of (code.Pair pairing) = model.PairLine (pairing_of pairing)
-line_of (code.Send name now bytes) = model.SendLine name.now now bytes.items
-line_of (code.Recv name now room) = model.RecvLine name.now now room
-line_of (code.Pack name now) = model.PackLine name.now now
-line_of (code.Tick name now) = model.TickLine name.now now
-line_of (code.Close name now) = model.CloseLine name.now now
+line_of (code.Call name now call) = model.CallLine name.now (record { now = now; act = act_of call })
 line_of (code.Deliver number now) = model.DeliverLine number now
-line_of (code.Raw now from to bytes) = model.RawLine now from to bytes.items
+line_of (code.Raw now datagram) = model.RawLine now (datagram_of datagram)
 
 -- the numbers of a pairing are such as a pair of sockets may have
 pub record IsPairable (p : Pairing) : Type 0 where
@@ -38,14 +51,18 @@ pub record IsPairable (p : Pairing) : Type 0 where
   pub blocks_most : p.blocks ≤ MOST_BLOCKS
   pub start : p.start ≤ LAST_START
 
+-- a receive has room for at most 65,536 bytes
+abbrev pub IsRoomy : Call → Type 0
+IsRoomy (code_call.Send bytes) = Unit {0}
+IsRoomy (code_call.Recv room) = room ≤ 65536
+IsRoomy code_call.Pack = Unit {0}
+IsRoomy code_call.Tick = Unit {0}
+IsRoomy code_call.Close = Unit {0}
+
 -- each number of the line lies in its range
 abbrev pub IsInRange : Line → Type 0
 IsInRange code.Silent = Unit {0}
 IsInRange (code.Pair pairing) = IsPairable pairing
-IsInRange (code.Send name now bytes) = now ≤ LAST_MOMENT
-IsInRange (code.Recv name now room) = (now ≤ LAST_MOMENT) × (room ≤ 65536)
-IsInRange (code.Pack name now) = now ≤ LAST_MOMENT
-IsInRange (code.Tick name now) = now ≤ LAST_MOMENT
-IsInRange (code.Close name now) = now ≤ LAST_MOMENT
+IsInRange (code.Call name now call) = (now ≤ LAST_MOMENT) × IsRoomy call
 IsInRange (code.Deliver number now) = now ≤ LAST_MOMENT
-IsInRange (code.Raw now from to bytes) = now ≤ LAST_MOMENT
+IsInRange (code.Raw now datagram) = now ≤ LAST_MOMENT

@@ -1,14 +1,14 @@
-// Pieces of printed lines, each added behind what was printed.
+// Pieces of printed lines, each added after what was printed.
 
 ghost use Rattle.std.specs.Prelude.{◌≡◌, ◌++◌, ◌<◌, take, vec_len, OnOk, OnErr};
 ghost use Rattle.std.specs.List.{flat_map};
 ghost use Rattle.udt_model.specs.Words as spec;
 ghost use Rattle.udt_model.specs.Words.{hex_pairs, hex_word};
-ghost use Rattle.udt_model.specs.Script.{spaced, ended};
+ghost use Rattle.udt_model.specs.Texts.{spaced, ended};
 
 use std::alloc::AllocError;
 
-/// Adds the pieces, one behind the other.
+/// Adds the pieces, one after the other.
 pub fn append(out: &mut Vec<u8>, pieces: &[&[u8]]) -> Result<(), AllocError>
     ensures ok { OnOk result
         (out.new.items ≡ out.old.items ++ flat_map (λ piece. piece.now) pieces.now) }

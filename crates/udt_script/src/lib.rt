@@ -10,9 +10,6 @@ mod tests;
 mod texts;
 mod words;
 
-pub use lines::{Line, Pairing};
-pub use printed::{
-    print_closed, print_dropped, print_heard, print_letter, print_packed, print_pair,
-    print_received, print_refused, print_sent, print_ticked,
-};
+pub use lines::{Call, Line, Pairing, Reply, ScriptDatagram};
+pub use printed::{print_datagram, print_dropped, print_pair, print_refused, print_reply};
 pub use reading::read_line;

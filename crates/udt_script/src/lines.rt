@@ -1,8 +1,8 @@
-// The forms of a script's lines.
+// The forms of a script's lines, and the answers that are printed.
 
-use udt_model::Addr;
+use udt_model::{Addr, Heard, Packed, Refusal};
 
-/// Two stream sockets that are to be paired: their names, the bytes of a block, the initial number,
+/// Two stream sockets that are to be paired: their names, the bytes of a block, the initial sequence number,
 /// how many blocks each keeps each way, and the offset at which both directions begin.
 #[derive(Clone, Copy, Debug, PartialEq, Eq)]
 pub struct Pairing<'a> {
@@ -14,6 +14,25 @@ pub struct Pairing<'a> {
     pub start: u64,
 }
 
+/// A datagram of a script: whence it comes, where it goes, and its bytes.
+#[derive(Debug, PartialEq, Drop)]
+pub struct ScriptDatagram {
+    pub from: Addr,
+    pub to: Addr,
+    pub bytes: Vec<u8>,
+}
+
+/// A call of a socket: a send of bytes, a receive with room for this many bytes, a pack, a tick or a
+/// close.
+#[derive(Debug, PartialEq, Drop)]
+pub enum Call {
+    Send(Vec<u8>),
+    Recv(u32),
+    Pack,
+    Tick,
+    Close,
+}
+
 /// What a line says: nothing, a pair of sockets, a call of a named socket, the arrival of a
 /// datagram by the number under which it was printed, or that of any bytes, from any address to
 /// any. Moments are in microseconds.
@@ -21,27 +40,10 @@ pub struct Pairing<'a> {
 pub enum Line<'a> {
     Silent,
     Pair(Pairing<'a>),
-    Send {
+    Call {
         name: &'a [u8],
         now: u64,
-        bytes: Vec<u8>,
-    },
-    Recv {
-        name: &'a [u8],
-        now: u64,
-        room: u32,
-    },
-    Pack {
-        name: &'a [u8],
-        now: u64,
-    },
-    Tick {
-        name: &'a [u8],
-        now: u64,
-    },
-    Close {
-        name: &'a [u8],
-        now: u64,
+        call: Call,
     },
     Deliver {
         number: u64,
@@ -49,8 +51,18 @@ pub enum Line<'a> {
     },
     Raw {
         now: u64,
-        from: Addr,
-        to: Addr,
-        bytes: Vec<u8>,
+        datagram: ScriptDatagram,
     },
+}
+
+/// What a socket answered: how many bytes it took, the bytes that it gave, what it packed, that it
+/// ticked or was closed, and what became of a datagram that arrived.
+#[derive(Debug, PartialEq, Drop)]
+pub enum Reply {
+    Sent(Result<usize, Refusal>),
+    Received(Result<Vec<u8>, Refusal>),
+    Packed(Packed),
+    Ticked,
+    Closed,
+    Heard(Heard),
 }

@@ -2,102 +2,51 @@
 
 ghost use Rattle.std.specs.Prelude.{◌≡◌, ◌+◌, ◌++◌, ◌<◌, ◌^◌, take, vec_len, codes, OnOk, OnErr};
 ghost use Rattle.udt_model.specs.Addresses.{address_text};
-ghost use Rattle.udt_model.specs.Step.{Sent, Received, DidPack, DidTick, DidClose, DidHear};
-ghost use Rattle.udt_model.specs.Script.{event_text, letter_text, pair_text, refused_at, ended};
-ghost use Rattle.udt_script.specs.CodeAnswers.{read_of};
-ghost use Rattle.udt_script.specs.CodeLines.{pairing_of};
+ghost use Rattle.udt_model.specs.Script.{refused_at};
+ghost use Rattle.udt_model.specs.Texts.{event_text, datagram_text, pair_text, ended};
+ghost use Rattle.udt_script.specs.CodeAnswers.{reply_of};
+ghost use Rattle.udt_script.specs.CodeLines.{pairing_of, datagram_of};
 
 use crate::append::{append, append_event, append_hex};
-use crate::lines::Pairing;
+use crate::lines::{Pairing, Reply, ScriptDatagram};
 use crate::texts::{heard_text, no_text};
 use itoa::Buffer;
 use std::alloc::AllocError;
-use udt_model::{Addr, Heard, Packed, Refusal};
+use udt_model::{Addr, Packed};
 use udt_outside::write_addr;
 
-/// What `send` of the socket with this name answered.
-#[tactic(auto, unfolding(udt_model::specs::Script::event_text))]
-pub fn print_sent(
-    out: &mut Vec<u8>,
-    name: &[u8],
-    answer: Result<usize, Refusal>,
-) -> Result<(), AllocError>
-    ensures ok { OnOk result (out.new.items ≡ out.old.items ++ event_text name.now (Sent answer)) }
+/// What the socket with this name answered to an event.
+#[tactic(auto, unfolding(udt_model::specs::Texts::event_text))]
+pub fn print_reply(out: &mut Vec<u8>, name: &[u8], reply: &Reply) -> Result<(), AllocError>
+    ensures ok { OnOk result
+        (out.new.items ≡ out.old.items ++ event_text name.now (reply_of reply.now)) }
     ensures err { OnErr result (take (vec_len out.old) out.new.items ≡ out.old.items) }
 {
     let mut buffer = Buffer::new();
-    let answer = match answer {
-        Ok(count) => buffer.format(count).as_bytes(),
-        Err(why) => no_text(why),
-    };
-    append_event(out, name, b"send ", answer)
-}
-
-/// What `recv` of the socket with this name gave.
-#[tactic(auto, unfolding(udt_model::specs::Script::event_text))]
-pub fn print_received(
-    out: &mut Vec<u8>,
-    name: &[u8],
-    answer: Result<&[u8], Refusal>,
-) -> Result<(), AllocError>
-    ensures ok { OnOk result
-        (out.new.items ≡ out.old.items ++ event_text name.now (Received (read_of answer.entry))) }
-    ensures err { OnErr result (take (vec_len out.old) out.new.items ≡ out.old.items) }
-{
-    match answer {
-        Ok(bytes) => {
+    match reply {
+        Reply::Sent(Ok(count)) => append_event(
+            out,
+            name,
+            b"send ",
+            buffer.format(*count).as_bytes(),
+        ),
+        Reply::Sent(Err(why)) => append_event(out, name, b"send ", no_text(*why)),
+        Reply::Received(Ok(bytes)) => {
             append(out, &[name, b" recv "])?;
             append_hex(out, bytes)?;
             append(out, &[b"\n"])
         }
-        Err(why) => append_event(out, name, b"recv ", no_text(why)),
-    }
-}
-
-/// What `pack` of the socket with this name did.
-#[tactic(auto, unfolding(udt_model::specs::Script::event_text))]
-pub fn print_packed(out: &mut Vec<u8>, name: &[u8], answer: Packed) -> Result<(), AllocError>
-    ensures ok { OnOk result
-        (out.new.items ≡ out.old.items ++ event_text name.now (DidPack answer)) }
-    ensures err { OnErr result (take (vec_len out.old) out.new.items ≡ out.old.items) }
-{
-    match answer {
-        Packed::Block(_) => append_event(out, name, b"pack ", b"data"),
-        Packed::DropAsk(_) => append_event(out, name, b"pack ", b"drop"),
-        Packed::NotYet(until) => {
-            let mut buffer = Buffer::new();
-            append_event(out, name, b"pack notyet ", buffer.format(until).as_bytes())
+        Reply::Received(Err(why)) => append_event(out, name, b"recv ", no_text(*why)),
+        Reply::Packed(Packed::Block(_)) => append_event(out, name, b"pack ", b"data"),
+        Reply::Packed(Packed::DropAsk(_)) => append_event(out, name, b"pack ", b"drop"),
+        Reply::Packed(Packed::NotYet(until)) => {
+            append_event(out, name, b"pack notyet ", buffer.format(*until).as_bytes())
         }
-        Packed::Nothing => append_event(out, name, b"pack ", b"nothing"),
+        Reply::Packed(Packed::Nothing) => append_event(out, name, b"pack ", b"nothing"),
+        Reply::Ticked => append_event(out, name, b"tick", b""),
+        Reply::Closed => append_event(out, name, b"close", b""),
+        Reply::Heard(heard) => append_event(out, name, b"arrive ", heard_text(*heard)),
     }
-}
-
-/// That the socket with this name ticked.
-#[tactic(auto, unfolding(udt_model::specs::Script::event_text))]
-pub fn print_ticked(out: &mut Vec<u8>, name: &[u8]) -> Result<(), AllocError>
-    ensures ok { OnOk result (out.new.items ≡ out.old.items ++ event_text name.now DidTick) }
-    ensures err { OnErr result (take (vec_len out.old) out.new.items ≡ out.old.items) }
-{
-    append_event(out, name, b"tick", b"")
-}
-
-/// That the socket with this name was closed.
-#[tactic(auto, unfolding(udt_model::specs::Script::event_text))]
-pub fn print_closed(out: &mut Vec<u8>, name: &[u8]) -> Result<(), AllocError>
-    ensures ok { OnOk result (out.new.items ≡ out.old.items ++ event_text name.now DidClose) }
-    ensures err { OnErr result (take (vec_len out.old) out.new.items ≡ out.old.items) }
-{
-    append_event(out, name, b"close", b"")
-}
-
-/// What became of a datagram that arrived at the socket with this name.
-#[tactic(auto, unfolding(udt_model::specs::Script::event_text))]
-pub fn print_heard(out: &mut Vec<u8>, name: &[u8], answer: Heard) -> Result<(), AllocError>
-    ensures ok { OnOk result
-        (out.new.items ≡ out.old.items ++ event_text name.now (DidHear answer)) }
-    ensures err { OnErr result (take (vec_len out.old) out.new.items ≡ out.old.items) }
-{
-    append_event(out, name, b"arrive ", heard_text(answer))
 }
 
 fn addr_text<'a>(addr: Addr, room: &'a mut [u8; 47]) -> &'a [u8]
@@ -108,26 +57,24 @@ fn addr_text<'a>(addr: Addr, room: &'a mut [u8; 47]) -> &'a [u8]
 }
 
 /// A datagram that was emitted, under its number.
-#[tactic(auto, unfolding(udt_model::specs::Script::letter_text))]
-pub fn print_letter(
+#[tactic(auto, unfolding(udt_model::specs::Texts::datagram_text))]
+pub fn print_datagram(
     out: &mut Vec<u8>,
     number: u64,
-    from: Addr,
-    to: Addr,
-    bytes: &[u8],
+    datagram: &ScriptDatagram,
 ) -> Result<(), AllocError>
-    ensures ok { OnOk result (out.new.items ≡ out.old.items
-        ++ letter_text number (record { from = from; to = to; bytes = bytes.now })) }
+    ensures ok { OnOk result
+        (out.new.items ≡ out.old.items ++ datagram_text number (datagram_of datagram.now)) }
     ensures err { OnErr result (take (vec_len out.old) out.new.items ≡ out.old.items) }
 {
     let mut buffer = Buffer::new();
     let number = buffer.format(number).as_bytes();
     let mut from_room = [0; 47];
-    let from = addr_text(from, &mut from_room);
+    let from = addr_text(datagram.from, &mut from_room);
     let mut to_room = [0; 47];
-    let to = addr_text(to, &mut to_room);
+    let to = addr_text(datagram.to, &mut to_room);
     append(out, &[b"datagram ", number, b" ", from, b" ", to, b" "])?;
-    append_hex(out, bytes)?;
+    append_hex(out, &datagram.bytes)?;
     append(out, &[b"\n"])
 }
 

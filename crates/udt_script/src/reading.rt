@@ -2,13 +2,13 @@
 
 ghost use Rattle.std.specs.Prelude.{◌≡◌, ◌≤◌, map, option_map, IfOk, IfSome};
 ghost use Rattle.udt_model.specs.Lines as spec;
-ghost use Rattle.udt_script.specs.CodeLines.{line_of, IsInRange};
+ghost use Rattle.udt_script.specs.CodeLines.{act_of, line_of, IsRoomy, IsInRange};
 
-use crate::lines::{Line, Pairing};
-use crate::words::{bytes, name, number_within, words};
+use crate::lines::{Call, Line, Pairing, ScriptDatagram};
+use crate::words::{bytes, name, words};
 use std::alloc::{AllocError, Global};
 use udt_model::{FEWEST_BLOCKS, LAST_MOMENT, LAST_START, MOST_BLOCKS, MOST_PAYLOAD};
-use udt_outside::read_addr;
+use udt_outside::{read_addr, read_number};
 
 fn is_silent(line: &[u8]) -> bool
     ensures { result ≡ spec.is_silent line.now }
@@ -24,7 +24,7 @@ fn moment(word: &[u8]) -> Option<u64>
     ensures value { result ≡ spec.moment_of word.now }
     ensures within { IfSome result (λ now. now ≤ LAST_MOMENT) }
 {
-    number_within(0, LAST_MOMENT, word)
+    read_number(0, LAST_MOMENT, word)
 }
 
 fn pairing<'a>(
@@ -42,9 +42,9 @@ fn pairing<'a>(
 {
     let a = name(a)?;
     let b = name(b)?;
-    let payload = number_within(1, MOST_PAYLOAD as u64, payload)? as u32;
-    let isn = number_within(0, (1 << 31) - 1, isn)? as u32;
-    let blocks = number_within(FEWEST_BLOCKS as u64, MOST_BLOCKS as u64, blocks)? as u32;
+    let payload = read_number(1, MOST_PAYLOAD as u64, payload)? as u32;
+    let isn = read_number(0, (1 << 31) - 1, isn)? as u32;
+    let blocks = read_number(FEWEST_BLOCKS as u64, MOST_BLOCKS as u64, blocks)? as u32;
     Some(Line::Pair(Pairing {
         a,
         b,
@@ -63,24 +63,82 @@ fn pair_line<'a>(words: &[&'a [u8]]) -> Option<Line<'a>>
     match words {
         [a, b, payload, isn, blocks] => pairing(a, b, payload, isn, blocks, 0),
         [a, b, payload, isn, blocks, start] => {
-            let start = number_within(0, LAST_START, start)?;
+            let start = read_number(0, LAST_START, start)?;
             pairing(a, b, payload, isn, blocks, start)
         }
         _ => None,
     }
 }
 
-#[tactic(auto, unfolding(udt_model::specs::Lines::send_line))]
-fn send_line<'a>(
+// The call, where no word stands after its moment.
+fn alone(call: Call, words: &[&[u8]]) -> Option<Call>
+    ensures value { option_map act_of result
+        ≡ spec.alone (act_of call) (map (λ word. word.now) words.now) }
+    ensures same { IfSome result (λ found. found ≡ call) }
+{
+    if words.is_empty() { Some(call) } else { None }
+}
+
+fn send_of(alloc: Global, words: &[&[u8]]) -> Result<Option<Call>, AllocError>
+    ensures value { IfOk result (λ found. option_map act_of found
+        ≡ spec.send_of (map (λ word. word.now) words.now)) }
+    ensures within { IfOk result (λ found. IfSome found IsRoomy) }
+{
+    let [word] = words else {
+        return Ok(None);
+    };
+    let Some(bytes) = bytes(alloc, word)? else {
+        return Ok(None);
+    };
+    Ok(Some(Call::Send(bytes)))
+}
+
+fn recv_of(words: &[&[u8]]) -> Option<Call>
+    ensures value { option_map act_of result ≡ spec.recv_of (map (λ word. word.now) words.now) }
+    ensures within { IfSome result IsRoomy }
+{
+    let [room] = words else {
+        return None;
+    };
+    let room = read_number(0, 65_536, room)? as u32;
+    Some(Call::Recv(room))
+}
+
+// The call with this name, by the words after its moment.
+#[tactic(auto, unfolding(udt_model::specs::Lines::call_of))]
+fn call_of(alloc: Global, name: &[u8], words: &[&[u8]]) -> Result<Option<Call>, AllocError>
+    ensures value { IfOk result (λ found. option_map act_of found
+        ≡ spec.call_of name.now (map (λ word. word.now) words.now)) }
+    ensures within { IfOk result (λ found. IfSome found IsRoomy) }
+{
+    if name == b"send".as_slice() {
+        return send_of(alloc, words);
+    }
+    Ok(if name == b"recv".as_slice() {
+        recv_of(words)
+    } else if name == b"pack".as_slice() {
+        alone(Call::Pack, words)
+    } else if name == b"tick".as_slice() {
+        alone(Call::Tick, words)
+    } else if name == b"close".as_slice() {
+        alone(Call::Close, words)
+    } else {
+        None
+    })
+}
+
+#[tactic(auto, unfolding(udt_model::specs::Lines::call_line))]
+fn call_line<'a>(
     alloc: Global,
     first: &'a [u8],
-    words: &[&'a [u8]],
+    call: &[u8],
+    words: &[&[u8]],
 ) -> Result<Option<Line<'a>>, AllocError>
     ensures value { IfOk result (λ found. option_map line_of found
-        ≡ spec.send_line first.now (map (λ word. word.now) words.now)) }
+        ≡ spec.call_line first.now call.now (map (λ word. word.now) words.now)) }
     ensures within { IfOk result (λ found. IfSome found IsInRange) }
 {
-    let [now, word] = words else {
+    let [now, others @ ..] = words else {
         return Ok(None);
     };
     let Some(name) = name(first) else {
@@ -89,67 +147,10 @@ fn send_line<'a>(
     let Some(now) = moment(now) else {
         return Ok(None);
     };
-    let Some(bytes) = bytes(alloc, word)? else {
+    let Some(call) = call_of(alloc, call, others)? else {
         return Ok(None);
     };
-    Ok(Some(Line::Send { name, now, bytes }))
-}
-
-#[tactic(auto, unfolding(udt_model::specs::Lines::recv_line))]
-fn recv_line<'a>(first: &'a [u8], words: &[&'a [u8]]) -> Option<Line<'a>>
-    ensures value { option_map line_of result
-        ≡ spec.recv_line first.now (map (λ word. word.now) words.now) }
-    ensures within { IfSome result IsInRange }
-{
-    let [now, room] = words else {
-        return None;
-    };
-    let name = name(first)?;
-    let now = moment(now)?;
-    let room = number_within(0, 65_536, room)? as u32;
-    Some(Line::Recv { name, now, room })
-}
-
-#[tactic(auto, unfolding(udt_model::specs::Lines::pack_line))]
-fn pack_line<'a>(first: &'a [u8], words: &[&'a [u8]]) -> Option<Line<'a>>
-    ensures value { option_map line_of result
-        ≡ spec.pack_line first.now (map (λ word. word.now) words.now) }
-    ensures within { IfSome result IsInRange }
-{
-    let [now] = words else {
-        return None;
-    };
-    let name = name(first)?;
-    let now = moment(now)?;
-    Some(Line::Pack { name, now })
-}
-
-#[tactic(auto, unfolding(udt_model::specs::Lines::tick_line))]
-fn tick_line<'a>(first: &'a [u8], words: &[&'a [u8]]) -> Option<Line<'a>>
-    ensures value { option_map line_of result
-        ≡ spec.tick_line first.now (map (λ word. word.now) words.now) }
-    ensures within { IfSome result IsInRange }
-{
-    let [now] = words else {
-        return None;
-    };
-    let name = name(first)?;
-    let now = moment(now)?;
-    Some(Line::Tick { name, now })
-}
-
-#[tactic(auto, unfolding(udt_model::specs::Lines::close_line))]
-fn close_line<'a>(first: &'a [u8], words: &[&'a [u8]]) -> Option<Line<'a>>
-    ensures value { option_map line_of result
-        ≡ spec.close_line first.now (map (λ word. word.now) words.now) }
-    ensures within { IfSome result IsInRange }
-{
-    let [now] = words else {
-        return None;
-    };
-    let name = name(first)?;
-    let now = moment(now)?;
-    Some(Line::Close { name, now })
+    Ok(Some(Line::Call { name, now, call }))
 }
 
 #[tactic(auto, unfolding(udt_model::specs::Lines::deliver_line))]
@@ -161,7 +162,7 @@ fn deliver_line<'a>(number: &'a [u8], words: &[&'a [u8]]) -> Option<Line<'a>>
     let [now] = words else {
         return None;
     };
-    let number = number_within(0, u64::MAX, number)?;
+    let number = read_number(0, u64::MAX, number)?;
     let now = moment(now)?;
     Some(Line::Deliver { number, now })
 }
@@ -191,14 +192,22 @@ fn raw_line<'a>(
     let Some(bytes) = bytes(alloc, word)? else {
         return Ok(None);
     };
-    Ok(Some(Line::Raw {
-        now,
-        from,
-        to,
-        bytes,
-    }))
+    let datagram = ScriptDatagram { from, to, bytes };
+    Ok(Some(Line::Raw { now, datagram }))
 }
 
+fn is_call(word: &[u8]) -> bool
+    ensures { result ≡ spec.is_call word.now }
+{
+    word == b"send".as_slice()
+        || word == b"recv".as_slice()
+        || word == b"pack".as_slice()
+        || word == b"tick".as_slice()
+        || word == b"close".as_slice()
+}
+
+// The second word tells the calls of a socket, since a name may be any word; the first one the
+// other lines.
 #[tactic(auto, unfolding(udt_model::specs::Lines::line_by_words))]
 fn line_by_words<'a>(alloc: Global, words: &[&'a [u8]]) -> Result<Option<Line<'a>>, AllocError>
     ensures value { IfOk result (λ found. option_map line_of found
@@ -208,18 +217,10 @@ fn line_by_words<'a>(alloc: Global, words: &[&'a [u8]]) -> Result<Option<Line<'a
     let [first, second, others @ ..] = words else {
         return Ok(None);
     };
-    if *second == b"send".as_slice() {
-        return send_line(alloc, first, others);
+    if is_call(second) {
+        return call_line(alloc, first, second, others);
     }
-    Ok(if *second == b"recv".as_slice() {
-        recv_line(first, others)
-    } else if *second == b"pack".as_slice() {
-        pack_line(first, others)
-    } else if *second == b"tick".as_slice() {
-        tick_line(first, others)
-    } else if *second == b"close".as_slice() {
-        close_line(first, others)
-    } else if *first == b"deliver".as_slice() {
+    Ok(if *first == b"deliver".as_slice() {
         deliver_line(second, others)
     } else if *first == b"raw".as_slice() {
         raw_line(alloc, second, others)?

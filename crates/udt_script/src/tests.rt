@@ -1,8 +1,8 @@
 // Lines as the script language shows them.
 
 use crate::{
-    Line, Pairing, print_closed, print_dropped, print_heard, print_letter, print_packed,
-    print_pair, print_received, print_refused, print_sent, print_ticked, read_line,
+    Call, Line, Pairing, Reply, ScriptDatagram, print_datagram, print_dropped, print_pair,
+    print_refused, print_reply, read_line,
 };
 use std::alloc::AllocError;
 use std::process::Abort;
@@ -44,66 +44,72 @@ fn reads_each_form(rt: HostRuntime) {
         ),
         (
             b"a2345678901234z6 pack 9007199254740991",
-            Line::Pack {
+            Line::Call {
                 name: b"a2345678901234z6",
                 now: 9_007_199_254_740_991,
+                call: Call::Pack,
             },
         ),
         (
             b"deliver pack 7",
-            Line::Pack {
+            Line::Call {
                 name: b"deliver",
                 now: 7,
+                call: Call::Pack,
             },
         ),
         (
             b"raw tick 500000",
-            Line::Tick {
+            Line::Call {
                 name: b"raw",
                 now: 500_000,
+                call: Call::Tick,
             },
         ),
         (
             b"a close 1000",
-            Line::Close {
+            Line::Call {
                 name: b"a",
                 now: 1000,
+                call: Call::Close,
             },
         ),
         (
             b"raw 9007199254740991 10.0.0.1:9000 [fe80::1]:65535 -",
             Line::Raw {
                 now: 9_007_199_254_740_991,
-                from: host,
-                to: Addr {
-                    ip: Ip::V6(0xfe80_0000_0000_0000_0000_0000_0000_0001),
-                    port: 65_535,
+                datagram: ScriptDatagram {
+                    from: host,
+                    to: Addr {
+                        ip: Ip::V6(0xfe80_0000_0000_0000_0000_0000_0000_0001),
+                        port: 65_535,
+                    },
+                    bytes: Vec::new(alloc),
                 },
-                bytes: Vec::new(alloc),
             },
         ),
         (
             b"a recv 10 65536",
-            Line::Recv {
+            Line::Call {
                 name: b"a",
                 now: 10,
-                room: 65_536,
+                call: Call::Recv(65_536),
             },
         ),
         (
             b"a send 0 -",
-            Line::Send {
+            Line::Call {
                 name: b"a",
                 now: 0,
-                bytes: Vec::new(alloc),
+                call: Call::Send(Vec::new(alloc)),
             },
         ),
         (
             b"pair send 1000 00ff68656c6c6f",
-            Line::Send {
+            Line::Call {
                 name: b"pair",
                 now: 1000,
-                bytes: Vec::from_slice(alloc, b"\x00\xffhello").expect(&rt, "memory"),
+                call: Call::Send(Vec::from_slice(alloc, b"\x00\xffhello").expect(&rt, "memory")),
             },
         ),
     ];
@@ -154,7 +160,7 @@ fn refuses_what_is_of_no_form(rt: HostRuntime) {
     }
 }
 
-// The line was printed behind the word that stood there.
+// The line was printed after the word that stood there.
 fn assert_printed(
     rt: &impl Abort,
     out: &mut Vec<u8>,
@@ -170,49 +176,37 @@ fn assert_printed(
 fn prints_answers(rt: HostRuntime) {
     let alloc = rt.alloc();
     let mut out = Vec::from_slice(alloc, b"so far\n").expect(&rt, "memory");
-    let sent: [(Result<usize, Refusal>, &[u8]); 4] = [
-        (Ok(5), b"a send 5\n"),
-        (Err(Refusal::AgainSend), b"a send again\n"),
-        (Err(Refusal::Spent), b"a send refused 9001\n"),
+    let hello = Vec::from_slice(alloc, b"hello").expect(&rt, "memory");
+    let replies: [(Reply, &[u8]); 17] = [
+        (Reply::Sent(Ok(5)), b"a send 5\n"),
+        (Reply::Sent(Err(Refusal::AgainSend)), b"a send again\n"),
+        (Reply::Sent(Err(Refusal::Spent)), b"a send refused 9001\n"),
         (
-            Err(Refusal::ConnLost(Cause::Expired)),
+            Reply::Sent(Err(Refusal::ConnLost(Cause::Expired))),
             b"a send refused 2001 expired\n",
         ),
-    ];
-    for (answer, text) in sent {
-        let printed = print_sent(&mut out, b"a", answer);
-        assert_printed(&rt, &mut out, printed, text);
-    }
-    let received: [(Result<&[u8], Refusal>, &[u8]); 4] = [
-        (Ok(b"hello"), b"a recv 68656c6c6f\n"),
-        (Ok(b""), b"a recv -\n"),
-        (Err(Refusal::AgainRecv), b"a recv again\n"),
-        (Err(Refusal::NotConnected), b"a recv refused 2002\n"),
-    ];
-    for (answer, text) in received {
-        let printed = print_received(&mut out, b"a", answer);
-        assert_printed(&rt, &mut out, printed, text);
-    }
-    let packed: [(Packed, &[u8]); 4] = [
-        (Packed::Block(21), b"a pack data\n"),
-        (Packed::DropAsk(24), b"a pack drop\n"),
-        (Packed::NotYet(7), b"a pack notyet 7\n"),
-        (Packed::Nothing, b"a pack nothing\n"),
-    ];
-    for (answer, text) in packed {
-        let printed = print_packed(&mut out, b"a", answer);
-        assert_printed(&rt, &mut out, printed, text);
-    }
-    let heard: [(Heard, &[u8]); 3] = [
-        (Heard::Placed, b"b arrive placed\n"),
-        (Heard::BadLength, b"b arrive badlength\n"),
+        (Reply::Received(Ok(hello)), b"a recv 68656c6c6f\n"),
+        (Reply::Received(Ok(Vec::new(alloc))), b"a recv -\n"),
+        (Reply::Received(Err(Refusal::AgainRecv)), b"a recv again\n"),
         (
-            Heard::Malformed(Malformed::UnknownType),
-            b"b arrive malformed 2\n",
+            Reply::Received(Err(Refusal::NotConnected)),
+            b"a recv refused 2002\n",
+        ),
+        (Reply::Packed(Packed::Block(21)), b"a pack data\n"),
+        (Reply::Packed(Packed::DropAsk(24)), b"a pack drop\n"),
+        (Reply::Packed(Packed::NotYet(7)), b"a pack notyet 7\n"),
+        (Reply::Packed(Packed::Nothing), b"a pack nothing\n"),
+        (Reply::Ticked, b"a tick\n"),
+        (Reply::Closed, b"a close\n"),
+        (Reply::Heard(Heard::Placed), b"a arrive placed\n"),
+        (Reply::Heard(Heard::BadLength), b"a arrive badlength\n"),
+        (
+            Reply::Heard(Heard::Malformed(Malformed::UnknownType)),
+            b"a arrive malformed 2\n",
         ),
     ];
-    for (answer, text) in heard {
-        let printed = print_heard(&mut out, b"b", answer);
+    for (reply, text) in &replies {
+        let printed = print_reply(&mut out, b"a", reply);
         assert_printed(&rt, &mut out, printed, text);
     }
 }
@@ -230,23 +224,22 @@ fn prints_the_other_lines(rt: HostRuntime) {
     };
     let printed = print_pair(&mut out, &pairing, 8);
     assert_printed(&rt, &mut out, printed, b"pair left 9 right 10\n");
-    let printed = print_ticked(&mut out, b"a");
-    assert_printed(&rt, &mut out, printed, b"a tick\n");
-    let printed = print_closed(&mut out, b"b");
-    assert_printed(&rt, &mut out, printed, b"b close\n");
     let printed = print_dropped(&mut out, b"id");
     assert_printed(&rt, &mut out, printed, b"dropped id\n");
     let printed = print_refused(&mut out, 2);
     assert_printed(&rt, &mut out, printed, b"line 2 refused\n");
-    let from = Addr {
-        ip: Ip::V4(0x0a00_0001),
-        port: 9000,
+    let datagram = ScriptDatagram {
+        from: Addr {
+            ip: Ip::V4(0x0a00_0001),
+            port: 9000,
+        },
+        to: Addr {
+            ip: Ip::V4(0x0a00_0002),
+            port: 9000,
+        },
+        bytes: Vec::from_slice(rt.alloc(), &[0, 255]).expect(&rt, "memory"),
     };
-    let to = Addr {
-        ip: Ip::V4(0x0a00_0002),
-        port: 9000,
-    };
-    let printed = print_letter(&mut out, 0, from, to, &[0, 255]);
+    let printed = print_datagram(&mut out, 0, &datagram);
     let text = b"datagram 0 10.0.0.1:9000 10.0.0.2:9000 00ff\n";
     assert_printed(&rt, &mut out, printed, text);
 }

@@ -1,7 +1,7 @@
 // The words for what a socket answered.
 
 ghost use Rattle.std.specs.Prelude.{◌≡◌};
-ghost use Rattle.udt_model.specs.Script as spec;
+ghost use Rattle.udt_model.specs.Texts as spec;
 
 use udt_model::{Cause, Heard, Malformed, Refusal};
 

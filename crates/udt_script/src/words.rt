@@ -6,7 +6,6 @@ ghost use Rattle.std.specs.List.{list_all};
 ghost use Rattle.udt_model.specs.Words as spec;
 
 use std::alloc::{AllocError, Global};
-use std::str;
 
 fn first_space(line: &[u8]) -> Option<usize>
     ensures { result ≡ position (λ byte. byte == 32) line.now }
@@ -14,7 +13,7 @@ fn first_space(line: &[u8]) -> Option<usize>
     line.iter().position(|byte| *byte == b' ')
 }
 
-// The word before the first space, and what stands behind that space.
+// The word before the first space, and what stands after that space.
 fn split_word<'a>(line: &'a [u8]) -> Option<(&'a [u8], &'a [u8])>
     ensures some { IfSome result
         (λ parts. spec.words_of line.now ≡ parts.0.now ∷ spec.words_of parts.1.now) }
@@ -28,7 +27,7 @@ fn split_word<'a>(line: &'a [u8]) -> Option<(&'a [u8], &'a [u8])>
     Some((word, &others[1..]))
 }
 
-/// What stands before, between and behind the spaces of the line.
+/// What stands before, between and after the spaces of the line.
 pub fn words<'a>(alloc: Global, line: &'a [u8]) -> Result<Vec<&'a [u8]>, AllocError>
     ensures { IfOk result (λ found. map (λ word. word.now) found.items ≡ spec.words_of line.now) }
 {
@@ -68,57 +67,6 @@ pub fn name<'a>(word: &'a [u8]) -> Option<&'a [u8]>
     ensures { option_map (λ name. name.now) result ≡ spec.name_of word.now }
 {
     if is_name(word) { Some(word) } else { None }
-}
-
-fn is_digit(c: u8) -> bool
-    ensures { result ≡ is_ascii_digit c }
-{
-    c.is_ascii_digit()
-}
-
-fn are_digits(word: &[u8]) -> bool
-    ensures { result ≡ list_all is_ascii_digit word.now }
-{
-    word.iter().all(|c| is_digit(*c))
-}
-
-#[tactic(auto, using(crate::proofs::Numerals::digits_each))]
-fn is_number(word: &[u8]) -> bool
-    ensures { result ≡ spec.is_number word.now }
-{
-    match word {
-        [] => false,
-        [digit] => digit.is_ascii_digit(),
-        [first, ..] => *first != b'0' && are_digits(word),
-    }
-}
-
-fn if_within(least: u64, most: u64, number: u64) -> Option<u64>
-    ensures value { result ≡ spec.if_within least most number }
-    ensures within { IfSome result (λ number. (least ≤ number) × (number ≤ most)) }
-{
-    if least <= number && number <= most {
-        Some(number)
-    } else {
-        None
-    }
-}
-
-/// The number from `least` to `most` that the word spells.
-pub fn number_within(least: u64, most: u64, word: &[u8]) -> Option<u64>
-    ensures value { result ≡ spec.number_within least most word.now }
-    ensures within { IfSome result (λ number. (least ≤ number) × (number ≤ most)) }
-{
-    if !is_number(word) {
-        return None;
-    }
-    let Ok(text) = str::from_utf8(word) else {
-        return None;
-    };
-    let Ok(number) = text.parse::<u64>() else {
-        return None;
-    };
-    if_within(least, most, number)
 }
 
 fn nibble(c: u8) -> Option<u8>

@@ -2,3 +2,5 @@ pub mod Pieces
 pub mod Progress
 pub mod Streaming
 pub mod Replaying
+pub mod ToldScripts
+pub mod ReplayWords

@@ -54,7 +54,7 @@ one_piece (c ∷ (d ∷ ds)) some all =
           first_goes_on c (d ∷ ds) e ∙ ap (onto_piece c) rest
     ] refl
 
--- the piece of a line that ends, and the pieces behind it
+-- the piece of a line that ends, and the pieces after it
 pub first_piece : (text : List ℕ) → length (line_in text) < length text → pieces_of text ≡ take (suc (length (line_in text))) text ∷ pieces_of (drop (suc (length (line_in text))) text)
 first_piece [] ends = absurd (omega (arith, ends))
 first_piece (c ∷ cs) ends =
@@ -78,6 +78,6 @@ line_length (c ∷ cs) =
           rw none (ap length (empty_line c [] e))
       | false ↦ λ e.
           let longer : length (line_in (c ∷ cs)) ≡ suc (length (line_in cs)) = ap length (longer_line c cs e) in
-          let behind : length (line_in (c ∷ take (suc (length (line_in cs))) cs)) ≡ suc (length (line_in (take (suc (length (line_in cs))) cs))) = ap length (longer_line c (take (suc (length (line_in cs))) cs) e) in
-          rw longer (behind ∙ ap suc (line_length cs))
+          let following : length (line_in (c ∷ take (suc (length (line_in cs))) cs)) ≡ suc (length (line_in (take (suc (length (line_in cs))) cs))) = ap length (longer_line c (take (suc (length (line_in cs))) cs) e) in
+          rw longer (following ∙ ap suc (line_length cs))
     ] refl

@@ -7,18 +7,19 @@ use Rattle.udt_model.specs.declared.limits.TheConstants.{LONGEST_SCRIPT}
 use Rattle.udt_model.specs.declared.scripts.ControlName.{ControlName}
 use Rattle.udt_model.specs.Script.{Played, pieces_of, line_in, played, played_from, then_played, refused_at, piece_printed, size_of}
 use Rattle.udt_world.specs.declared.world.LineNo.TheVariants.{Refused}
-use Rattle.udt_tool.specs.Plays.{AnswersPiece, AcceptsPiece, RefusesPiece}
+use Rattle.udt_tool.specs.Plays.{AnswersPiece}
+use Rattle.udt_world.specs.ScriptLines.{Accepts, Refuses}
 use Rattle.udt_tool.proofs.Pieces.{no_pieces}
 
 -- text in front of what is played
-abbrev pub behind : List ℕ → Played → Played
-behind text p = record p { text = text ++ p.text }
+abbrev pub following : List ℕ → Played → Played
+following text p = record p { text = text ++ p.text }
 
 -- the lines that were accepted, and what is left
 pub record Progress (control : ControlName) (text : List ℕ) (world : Option (List (List ℕ))) (out rest : List ℕ) (number size : ℕ) : Type 0 where
   pub lines : List (List ℕ)
   pub is : world ≡ Some lines
-  pub so_far : played control text ≡ behind out (played_from lines (pieces_of rest))
+  pub so_far : played control text ≡ following out (played_from lines (pieces_of rest))
   pub next : number ≡ length lines + 1
   pub counted : size ≡ size_of lines
   pub bound : size ≤ LONGEST_SCRIPT + 1
@@ -54,14 +55,14 @@ fits lines piece text h =
     search (rules, small)
 
 -- what an accepted piece printed stands in front of the others
-then_more : (out text : List ℕ) (number : ℕ) (others : Played) → behind out (then_played number (Some text) others) ≡ behind (out ++ text) others
+then_more : (out text : List ℕ) (number : ℕ) (others : Played) → following out (then_played number (Some text) others) ≡ following (out ++ text) others
 then_more out text number others = ap (λ t. let p : Played = record { text = t; refused = others.refused } in p) (sym (append_assoc out text others.text))
 
-plays_on : (lines : List (List ℕ)) (piece : List ℕ) (pieces : List (List ℕ)) → played_from lines (piece ∷ pieces) ≡ then_played (length lines + 1) (piece_printed lines piece) (played_from (lines ++ line_in piece ∷ []) pieces)
+pub plays_on : (lines : List (List ℕ)) (piece : List ℕ) (pieces : List (List ℕ)) → played_from lines (piece ∷ pieces) ≡ then_played (length lines + 1) (piece_printed lines piece) (played_from (lines ++ line_in piece ∷ []) pieces)
 unfolding played_from
 plays_on lines piece pieces = refl
 
-plays_none : (lines : List (List ℕ)) → played_from lines [] ≡ record { text = []; refused = false }
+pub plays_none : (lines : List (List ℕ)) → played_from lines [] ≡ record { text = []; refused = false }
 unfolding played_from
 plays_none lines = refl
 
@@ -75,26 +76,26 @@ pub accepted : (control : ControlName) (text : List ℕ) (world new : Option (Li
     → AnswersPiece world piece (Ok tt) new out after
     → Progress control text new after others (number + 1) (size + (length (line_in piece) + 1))
 accepted control text world new out after rest piece others number size p pieces lengths line short answer =
-    let there : AcceptsPiece p.lines piece new out after = rw p.is at answer in
+    let there : Accepts (piece_printed p.lines piece) p.lines (line_in piece) new out after = rw p.is at answer in
     let small : size_of p.lines + length piece ≤ LONGEST_SCRIPT = fits p.lines piece there.text there.printed in
-    let fits_behind : size + length piece ≤ LONGEST_SCRIPT = omega (arith, small, p.counted) in
+    let fits_after : size + length piece ≤ LONGEST_SCRIPT = omega (arith, small, p.counted) in
     let more : size_of (p.lines ++ line_in piece ∷ []) ≡ size_of p.lines + (length (line_in piece) + 1) = grind (arith, common_steps) in
     record {
       lines = p.lines ++ line_in piece ∷ [];
       is = there.kept;
       so_far =
           p.so_far
-          ∙ ap (λ ps. behind out (played_from p.lines ps)) pieces
-          ∙ ap (behind out) (plays_on p.lines piece (pieces_of others))
-          ∙ ap (λ t. behind out (then_played (length p.lines + 1) t (played_from (p.lines ++ line_in piece ∷ []) (pieces_of others)))) there.printed
+          ∙ ap (λ ps. following out (played_from p.lines ps)) pieces
+          ∙ ap (following out) (plays_on p.lines piece (pieces_of others))
+          ∙ ap (λ t. following out (then_played (length p.lines + 1) t (played_from (p.lines ++ line_in piece ∷ []) (pieces_of others)))) there.printed
           ∙ then_more out there.text (length p.lines + 1) (played_from (p.lines ++ line_in piece ∷ []) (pieces_of others))
-          ∙ ap (λ o. behind o (played_from (p.lines ++ line_in piece ∷ []) (pieces_of others))) (sym there.output);
+          ∙ ap (λ o. following o (played_from (p.lines ++ line_in piece ∷ []) (pieces_of others))) (sym there.output);
       next = grind (arith, common_steps, p.next);
       counted = ap (λ n. n + (length (line_in piece) + 1)) p.counted ∙ sym more;
-      bound = omega (arith, fits_behind, short);
+      bound = omega (arith, fits_after, short);
       few = omega (arith, p.few);
       passed = omega (arith, p.passed, lengths, line);
-      within = omega (arith, p.passed, fits_behind, lengths);
+      within = omega (arith, p.passed, fits_after, lengths);
       shorter = omega (arith, p.shorter, lengths);
     }
 
@@ -105,13 +106,13 @@ pub refused : (control : ControlName) (text : List ℕ) (world new : Option (Lis
     → AnswersPiece world piece (Err Refused) new out after
     → played control text ≡ record { text = after ++ (refused_at number).text; refused = true }
 refused control text world new out after rest piece others number size p pieces answer =
-    let there : RefusesPiece p.lines piece new out after = rw p.is at answer in
+    let there : Refuses (piece_printed p.lines piece) p.lines new out after = rw p.is at answer in
     p.so_far
-    ∙ ap (λ ps. behind out (played_from p.lines ps)) pieces
-    ∙ ap (behind out) (plays_on p.lines piece (pieces_of others))
-    ∙ ap (λ t. behind out (then_played (length p.lines + 1) t (played_from (p.lines ++ line_in piece ∷ []) (pieces_of others)))) there.refused
-    ∙ ap (λ n. behind out (refused_at n)) (sym p.next)
-    ∙ ap (λ o. behind o (refused_at number)) (sym there.output)
+    ∙ ap (λ ps. following out (played_from p.lines ps)) pieces
+    ∙ ap (following out) (plays_on p.lines piece (pieces_of others))
+    ∙ ap (λ t. following out (then_played (length p.lines + 1) t (played_from (p.lines ++ line_in piece ∷ []) (pieces_of others)))) there.refused
+    ∙ ap (λ n. following out (refused_at n)) (sym p.next)
+    ∙ ap (λ o. following o (refused_at number)) (sym there.output)
 
 -- all was played
 pub ends : (control : ControlName) (text : List ℕ) (world : Option (List (List ℕ))) (out rest : List ℕ) (number size : ℕ)
@@ -120,9 +121,9 @@ pub ends : (control : ControlName) (text : List ℕ) (world : Option (List (List
     → played control text ≡ record { text = out; refused = false }
 ends control text world out rest number size p none =
     p.so_far
-    ∙ ap (λ r. behind out (played_from p.lines (pieces_of r))) none
-    ∙ ap (λ ps. behind out (played_from p.lines ps)) no_pieces
-    ∙ ap (behind out) (plays_none p.lines)
+    ∙ ap (λ r. following out (played_from p.lines (pieces_of r))) none
+    ∙ ap (λ ps. following out (played_from p.lines ps)) no_pieces
+    ∙ ap (following out) (plays_none p.lines)
     ∙ ap (λ t. let q : Played = record { text = t; refused = false } in q) (append-nil out)
 
 -- a text of which no more than the limit was looked at is within the limit

@@ -1,12 +1,15 @@
 -- How a replay ends, by what was read and written.
-use Rattle.std.proofs.Common.{◌≡◌, ◌∙◌, ℕ, ◌+◌, ◌<◌, ◌≤◌, List, [], ◌∷◌, ◌++◌, length, take, refl, sym, ap, subst, rules, Option, Some, None, true, false, append-nil, nat_le}
+use Rattle.std.proofs.Common.{◌≡◌, ◌∙◌, ℕ, ◌+◌, ◌<◌, ◌≤◌, List, [], ◌∷◌, ◌++◌, length, take, refl, sym, ap, subst, rules, arith, Option, Some, None, true, false, append-nil, nat_le}
+use Rattle.std.proofs.lemmas.Bool.Decides.{nat_tests}
 use Rattle.std.proofs.lemmas.List.{take-append-le}
 use Rattle.std.specs.Prelude.{IfSome}
 use Rattle.udt_model.specs.declared.limits.TheConstants.{LONGEST_SCRIPT}
 use Rattle.udt_model.specs.declared.scripts.ControlName.TheVariants.{Native}
 use Rattle.udt_model.specs.Script.{Played, played, played_from, pieces_of}
 use Rattle.udt_tool.specs.Streamed.{ReadsSome, ReadsMore, ReadsScript, Wrote, WrotePart}
-use Rattle.udt_tool.specs.Commands.{replayed, replays, faulty, usage_line, is_early, outcome_of, is_offline, is_replay, HasStatus, HasText, BreaksOffThere}
+use Rattle.udt_tool.specs.Commands.{replayed, replays, faulty, usage_line, is_early, outcome_of, is_offline, is_replay, IsAmong, IsStatus, IsFaultless, HasStatus, HasText, BreaksOffThere, Streams, Runs, PrintsUsage}
+use Rattle.udt_tool.specs.declared.offline.TheConstants.{DONE, NO_COMMAND, REFUSED, SOURCE_FAILED, SINK_FAILED, OUT_OF_MEMORY}
+use Rattle.udt_outside.specs.Faults.{Rose}
 
 same_rest : (rest other : List ℕ) → Some rest ≡ Some other → rest ≡ other
 same_rest rest other same = cc
@@ -49,7 +52,7 @@ breaks_off_reading (Some left) after (Some taken) r = record {
   reads = r.1;
   unread = [];
   unwritten = (played Native (r.0 ++ [])).text;
-  wrote = record { front = []; taken = ap Some (sym (append-nil taken)); whole = refl };
+  wrote = record { prefix = []; taken = ap Some (sym (append-nil taken)); whole = refl };
 }
 
 -- a part of what the script prints was written
@@ -62,7 +65,7 @@ breaks_off_writing (Some left) after (Some taken) taken_after script r w = recor
   unread = [];
   unwritten = w.0;
   wrote = record {
-    front = w.1.front;
+    prefix = w.1.prefix;
     taken = w.1.taken;
     whole = ap (λ text. (played Native text).text) (append-nil script) ∙ w.1.whole;
   };
@@ -96,9 +99,96 @@ no_replay [] no_first = refl
 no_replay (first ∷ []) no_first = no_first
 no_replay (first ∷ (second ∷ others)) no_first = refl
 
--- words that are no command broke off in the usage line
-pub breaks_off_faulty : (words : List (List ℕ)) (before after taken_before between taken_after : Option (List ℕ)) → is_replay words ≡ false → after ≡ before → between ≡ taken_before → WrotePart between taken_after usage_line → BreaksOffThere (outcome_of words) before after taken_before taken_after
-breaks_off_faulty words before after taken_before between taken_after none unread unwritten w =
-    let w' : WrotePart taken_before taken_after usage_line = rw unwritten at w in
-    let there : BreaksOffThere faulty before before taken_before taken_after = breaks_off_usage before taken_before taken_after w' in
-    rw (none, unread) there
+-- ---- runs
+
+no_true : false ≡ true → ⊥
+no_true is = cc
+
+any_some : {A : Type 0} (o : Option A) (P : A → Type 0) → ((x : A) → P x) → IfSome o P
+any_some None P all = tt
+any_some (Some x) P all = all x
+
+-- the source failed before anything was written
+pub source_failed_runs : (old new : Streams) → new.taken ≡ old.taken → IfSome old.left (λ left. ReadsSome left new.left)
+    → Rose old.source_faults new.source_faults → Runs replays old new SOURCE_FAILED
+source_failed_runs old new same read rose = record {
+  known = refl;
+  outcome = any_some old.left _ (λ script late. absurd (cc));
+  text = any_some old.left _ (λ script late. absurd (cc));
+  to_end = λ is. absurd (omega (arith, is));
+  early = λ _. rw same (breaks_off_reading old.left new.left old.taken read);
+  memory = λ is. absurd (omega (arith, is));
+  source_failed = λ _. rose;
+  sink_failed = λ is. absurd (omega (arith, is));
+  faultless = λ no_source no_sink. absurd (no_source rose);
+}
+
+-- memory ran out before anything was written
+pub unread_runs : (old new : Streams) → new.taken ≡ old.taken → IfSome old.left (λ left. ReadsSome left new.left)
+    → IfSome old.left (λ left. ReadsMore left new.left) → Runs replays old new OUT_OF_MEMORY
+unread_runs old new same read more = record {
+  known = refl;
+  outcome = any_some old.left _ (λ script late. absurd (cc));
+  text = any_some old.left _ (λ script late. absurd (cc));
+  to_end = λ is. absurd (omega (arith, is));
+  early = λ _. rw same (breaks_off_reading old.left new.left old.taken read);
+  memory = λ _. more;
+  source_failed = λ is. absurd (omega (arith, is));
+  sink_failed = λ is. absurd (omega (arith, is));
+  faultless = λ no_source no_sink. refl;
+}
+
+-- what was played was written, or a prefix of it
+pub record PlaysOut (script : List ℕ) (before after : Option (List ℕ)) (old_faults new_faults status : ℕ) : Type 0 where
+  pub known : IsAmong (DONE ∷ REFUSED ∷ SINK_FAILED ∷ OUT_OF_MEMORY ∷ []) status
+  pub outcome : is_early status ≡ false → status ≡ (replays script).status
+  pub text : is_early status ≡ false → Wrote before after (played Native script).text
+  pub early : is_early status ≡ true → WrotePart before after (played Native script).text
+  pub fits : status ≡ DONE → length script ≤ LONGEST_SCRIPT
+  pub memory : status ≡ OUT_OF_MEMORY → 0 < length script
+  pub sink_failed : status ≡ SINK_FAILED → Rose old_faults new_faults
+
+four_known : (status : ℕ) → IsAmong (DONE ∷ REFUSED ∷ SINK_FAILED ∷ OUT_OF_MEMORY ∷ []) status → IsStatus status
+four_known status among = grind (arith, nat_tests, among)
+
+four_faultless : (status : ℕ) → IsAmong (DONE ∷ REFUSED ∷ SINK_FAILED ∷ OUT_OF_MEMORY ∷ []) status → (status ≡ SINK_FAILED → ⊥) → IsFaultless status
+four_faultless status among no_sink = grind (arith, nat_tests, among, no_sink)
+
+pub read_runs : (old new : Streams) (script : List ℕ) (status : ℕ) → IfSome old.left (λ left. ReadsScript left new.left script)
+    → PlaysOut script old.taken new.taken old.sink_faults new.sink_faults status → Runs replays old new status
+read_runs old new script status read p = record {
+  known = four_known status p.known;
+  outcome = status_read old.left new.left script status read p.outcome;
+  text = text_read old.left new.left old.taken new.taken script status read p.text;
+  to_end = λ done. read_to_end old.left new.left script read (p.fits done);
+  early = λ early. breaks_off_writing old.left new.left old.taken new.taken script read (p.early early);
+  memory = λ lost. read_a_byte old.left new.left script read (p.memory lost);
+  source_failed = λ is. absurd (no_true (rw is at p.known));
+  sink_failed = p.sink_failed;
+  faultless = λ no_source no_sink. four_faultless status p.known (λ is. no_sink (p.sink_failed is));
+}
+
+two_known : (status : ℕ) → IsAmong (NO_COMMAND ∷ SINK_FAILED ∷ []) status → IsStatus status
+two_known status among = grind (arith, nat_tests, among)
+
+two_late : (status : ℕ) → IsAmong (NO_COMMAND ∷ SINK_FAILED ∷ []) status → is_early status ≡ false → status ≡ NO_COMMAND
+two_late status among late = grind (arith, nat_tests, among, late)
+
+two_faultless : (status : ℕ) → IsAmong (NO_COMMAND ∷ SINK_FAILED ∷ []) status → (status ≡ SINK_FAILED → ⊥) → IsFaultless status
+two_faultless status among no_sink = grind (arith, nat_tests, among, no_sink)
+
+-- the usage line was written, or a prefix of it, and nothing was read
+pub usage_runs : (words : List (List ℕ)) (old new : Streams) (status : ℕ) → is_replay words ≡ false → new.left ≡ old.left → PrintsUsage old.taken new.taken status
+    → (status ≡ SINK_FAILED → Rose old.sink_faults new.sink_faults) → Runs (outcome_of words) old new status
+usage_runs words old new status none unread p rose =
+    rw none (record {
+      known = two_known status p.known;
+      outcome = any_some old.left _ (λ script late. two_late status p.known late);
+      text = any_some old.left _ (λ script late. p.whole (two_late status p.known late));
+      to_end = λ is. absurd (no_true (rw is at p.known));
+      early = λ early. rw unread (breaks_off_usage old.left old.taken new.taken p.part);
+      memory = λ is. absurd (no_true (rw is at p.known));
+      source_failed = λ is. absurd (no_true (rw is at p.known));
+      sink_failed = rose;
+      faultless = λ no_source no_sink. two_faultless status p.known (λ is. no_sink (rose is));
+    })

@@ -4,7 +4,7 @@ use Rattle.std.proofs.lemmas.Grind.{common_steps}
 use Rattle.std.specs.Prelude.{IfSome}
 use Rattle.udt_outside.specs.Faults.{Rose}
 use Rattle.udt_outside.specs.Streams.{Gives, EndsOnlyWhenEmpty, Takes}
-use Rattle.udt_tool.specs.Streamed.{Reads, ReadsSome, ReadsMore, ReadsScript, ReadsPiece, Wrote, WroteFront, WrotePart}
+use Rattle.udt_tool.specs.Streamed.{Reads, ReadsSome, ReadsMore, ReadsScript, ReadsPiece, Wrote, WrotePrefix, WrotePart}
 use Rattle.udt_model.specs.declared.limits.TheConstants.{LONGEST_SCRIPT}
 
 -- a count that rose in a later call rose
@@ -13,36 +13,36 @@ rose_later before between now stays rose = omega (arith, stays, rose)
 
 -- where it is told, the text was written up to this rest
 abbrev pub WrittenTo : Option (List ℕ) → Option (List ℕ) → List ℕ → List ℕ → Type 0
-WrittenTo before after text rest = IfSome before (λ taken. WroteFront taken after text rest)
+WrittenTo before after text rest = IfSome before (λ taken. WrotePrefix taken after text rest)
 
 -- nothing is written yet
 pub nothing_written : (before : Option (List ℕ)) (text : List ℕ) → WrittenTo before before text text
 nothing_written None text = tt
-nothing_written (Some taken) text = record { front = []; taken = ap Some (sym (append-nil taken)); whole = refl }
+nothing_written (Some taken) text = record { prefix = []; taken = ap Some (sym (append-nil taken)); whole = refl }
 
 -- one more write
 pub more_written : (first now after : Option (List ℕ)) (text rest : List ℕ) (n : ℕ) → WrittenTo first now text rest → Takes now after rest n → WrittenTo first after text (drop n rest)
 more_written None now after text rest n w t = tt
 more_written (Some taken) now after text rest n w t =
-    let t' : after ≡ Some ((taken ++ w.front) ++ take n rest) = rw w.taken at t in
+    let t' : after ≡ Some ((taken ++ w.prefix) ++ take n rest) = rw w.taken at t in
     let cut : take n rest ++ drop n rest ≡ rest = grind (arith, common_steps) in
     record {
-      front = w.front ++ take n rest;
-      taken = t' ∙ ap Some (append_assoc taken w.front (take n rest));
-      whole = w.whole ∙ ap (λ r. w.front ++ r) (sym cut) ∙ sym (append_assoc w.front (take n rest) (drop n rest));
+      prefix = w.prefix ++ take n rest;
+      taken = t' ∙ ap Some (append_assoc taken w.prefix (take n rest));
+      whole = w.whole ∙ ap (λ r. w.prefix ++ r) (sym cut) ∙ sym (append_assoc w.prefix (take n rest) (drop n rest));
     }
 
 -- all is written
 pub all_written : (first after : Option (List ℕ)) (text rest : List ℕ) → WrittenTo first after text rest → rest ≡ [] → Wrote first after text
 all_written None after text rest w none = tt
 all_written (Some taken) after text rest w none =
-    let same : text ≡ w.front = w.whole ∙ ap (λ r. w.front ++ r) none ∙ append-nil w.front in
+    let same : text ≡ w.prefix = w.whole ∙ ap (λ r. w.prefix ++ r) none ∙ append-nil w.prefix in
     w.taken ∙ ap (λ t. Some (taken ++ t)) (sym same)
 
 -- a part is written
 pub part_written : (first now after : Option (List ℕ)) (text rest : List ℕ) → WrittenTo first now text rest → after ≡ now → WrotePart first after text
 part_written None now after text rest w same = tt
-part_written (Some taken) now after text rest w same = (rest, record { front = w.front; taken = same ∙ w.taken; whole = w.whole })
+part_written (Some taken) now after text rest w same = (rest, record { prefix = w.prefix; taken = same ∙ w.taken; whole = w.whole })
 
 -- where it is told, these bytes were read
 abbrev pub ReadTo : Option (List ℕ) → Option (List ℕ) → List ℕ → Type 0
@@ -60,7 +60,7 @@ gave_nothing (Some left) after buffer script room big gives end =
     record {
       piece = [];
       reads = record { rest = left; left = gives.rest; whole = refl };
-      behind = sym (append-nil script);
+      following = sym (append-nil script);
       end = λ _. none;
     }
 
@@ -72,7 +72,7 @@ gave_some (Some left) after buffer script new n some gives added =
     record {
       piece = take n left;
       reads = record { rest = drop n left; left = gives.rest; whole = sym cut };
-      behind = added ∙ ap (λ t. script ++ t) gives.front;
+      following = added ∙ ap (λ t. script ++ t) gives.front;
       end = λ none. absurd (omega (arith, some, none));
     }
 
@@ -99,7 +99,7 @@ more_read (Some left) now after script new n r p =
           r.whole
           ∙ ap (λ t. script ++ t) p'.reads.whole
           ∙ sym (append_assoc script p'.piece p'.reads.rest)
-          ∙ ap (λ t. t ++ p'.reads.rest) (sym p'.behind);
+          ∙ ap (λ t. t ++ p'.reads.rest) (sym p'.following);
     }
 
 -- what is left of nothing is nothing

@@ -1,3 +1,4 @@
 pub mod Plays
 pub mod Streamed
 pub mod Commands
+pub mod Told

@@ -23,23 +23,23 @@ pub record ReadsScript (before : List ℕ) (after : Option (List ℕ)) (script :
   pub reads : Reads before after script
   pub to_end : length script ≤ LONGEST_SCRIPT → after ≡ Some []
 
--- a piece was read behind others; without a byte in it the input was at its end
+-- a piece was read after others; without a byte in it the input was at its end
 pub record ReadsPiece (before : List ℕ) (after : Option (List ℕ)) (others script : List ℕ) (n : ℕ) : Type 0 where
   pub piece : List ℕ
   pub reads : Reads before after piece
-  pub behind : script ≡ others ++ piece
+  pub following : script ≡ others ++ piece
   pub end : n ≡ 0 → before ≡ []
 
 -- an output took this text
 abbrev pub Wrote : Option (List ℕ) → Option (List ℕ) → List ℕ → Type 0
 Wrote before after text = IfSome before (λ taken. after ≡ Some (taken ++ text))
 
--- an output took the beginning of a text, of which this is the rest
-pub record WroteFront (before : List ℕ) (after : Option (List ℕ)) (text rest : List ℕ) : Type 0 where
-  pub front : List ℕ
-  pub taken : after ≡ Some (before ++ front)
-  pub whole : text ≡ front ++ rest
+-- an output took a prefix of a text, of which this is the rest
+pub record WrotePrefix (before : List ℕ) (after : Option (List ℕ)) (text rest : List ℕ) : Type 0 where
+  pub prefix : List ℕ
+  pub taken : after ≡ Some (before ++ prefix)
+  pub whole : text ≡ prefix ++ rest
 
--- where it is told what an output took, it took a beginning of a text
+-- where it is told what an output took, it took a prefix of a text
 abbrev pub WrotePart : Option (List ℕ) → Option (List ℕ) → List ℕ → Type 0
-WrotePart before after text = IfSome before (λ taken. (rest : List ℕ) × WroteFront taken after text rest)
+WrotePart before after text = IfSome before (λ taken. (rest : List ℕ) × WrotePrefix taken after text rest)

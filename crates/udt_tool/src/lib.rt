@@ -2,6 +2,7 @@
 #![tactic(auto)]
 
 mod offline;
+mod orders;
 mod play;
 mod streams;
 #[cfg(test)]

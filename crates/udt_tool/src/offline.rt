@@ -1,15 +1,17 @@
 // The commands that need no network.
 
-ghost use Rattle.std.specs.Prelude.{◌≡◌, ◌≢◌, ◌≤◌, ◌<◌, length, true, false, is_some, Some, [], ◌∷◌, ◌++◌, IfSome, IfNone, OnOk, OnErr};
+ghost use Rattle.std.specs.Prelude.{◌≡◌, ◌≢◌, ◌≤◌, ◌<◌, length, true, false, is_some, [], ◌∷◌, IfSome, IfNone};
 ghost use Rattle.std.specs.String.{string_bytes};
 ghost use Rattle.udt_model.specs.declared.limits.TheConstants.{LONGEST_SCRIPT};
 ghost use Rattle.udt_model.specs.declared.scripts.ControlName.TheVariants.{Native};
 ghost use Rattle.udt_model.specs.Script.{played};
 ghost use Rattle.udt_outside.specs.Faults.{Rose};
-ghost use Rattle.udt_tool.specs.Streamed.{ReadsMore, Wrote, WrotePart};
+ghost use Rattle.udt_tool.specs.Streamed.{Wrote, WrotePart};
 ghost use Rattle.udt_tool.specs.Commands as spec;
-ghost use Rattle.udt_tool.specs.Commands.{spelled, usage_line, replays, outcome_of, is_early, IsAmong, IsStatus, IsFaultless, HasStatus, HasText, EndsEarly, ReadsToEnd, LosesMemory};
+ghost use Rattle.udt_tool.specs.Commands.{spelled, replays, outcome_of, is_early, streams, IsAmong, PrintsUsage, Runs};
+ghost use Rattle.udt_tool.specs.Told.{PlaysInStep};
 
+use crate::orders::is_replay;
 use crate::play::play;
 use crate::streams::{ReadNo, read_all, write_all};
 use std::alloc::Global;
@@ -51,21 +53,9 @@ fn is_offline(words: &[String]) -> bool
     }
 }
 
-fn is_replay(words: &[String]) -> bool
-    ensures { result ≡ spec.is_replay (spelled words.now) }
-{
-    match words {
-        [first] => names_replay(first),
-        _ => false,
-    }
-}
-
 /// Writes the usage line.
 fn print_usage<K: Sink>(out: &mut K) -> u8
-    ensures status { IsAmong (NO_COMMAND ∷ SINK_FAILED ∷ []) result }
-    ensures text { result ≡ NO_COMMAND → Wrote (K.taken out.old) (K.taken out.new) usage_line }
-    ensures early { is_early result ≡ true
-        → WrotePart (K.taken out.old) (K.taken out.new) usage_line }
+    ensures usage { PrintsUsage (K.taken out.old) (K.taken out.new) result }
     ensures sink_failed { result ≡ SINK_FAILED → Rose (K.faults out.old) (K.faults out.new) }
 {
     match write_all(out, USAGE) {
@@ -98,17 +88,10 @@ fn play_out<K: Sink>(alloc: Global, script: &[u8], out: &mut K) -> u8
 
 /// Replays a script.
 fn replay<S: Source, K: Sink>(alloc: Global, input: &mut S, out: &mut K) -> u8
-    ensures status { IsStatus result }
-    ensures command { result ≡ NO_COMMAND → ⊥ }
-    ensures outcome { HasStatus replays (S.left input.old) result }
-    ensures text { HasText replays (S.left input.old) (K.taken out.old) (K.taken out.new) result }
-    ensures early { EndsEarly replays (S.left input.old) (S.left input.new)
-        (K.taken out.old) (K.taken out.new) result }
-    ensures to_end { ReadsToEnd (S.left input.old) (S.left input.new) result }
-    ensures memory { LosesMemory (S.left input.old) (S.left input.new) result }
-    ensures source_failed { result ≡ SOURCE_FAILED
-        → Rose (S.faults input.old) (S.faults input.new) }
-    ensures sink_failed { result ≡ SINK_FAILED → Rose (K.faults out.old) (K.faults out.new) }
+    ensures run { Runs replays
+        (streams (S.left input.old) (S.faults input.old) (K.taken out.old) (K.faults out.old))
+        (streams (S.left input.new) (S.faults input.new) (K.taken out.new) (K.faults out.new)) result }
+    ensures command { result ≢ NO_COMMAND }
 {
     match read_all(alloc, input) {
         Ok(script) => play_out(alloc, &script, out),
@@ -127,36 +110,22 @@ pub fn run_offline<S: Source, K: Sink>(
 ) -> Option<u8>
     ensures known { is_some result ≡ spec.is_offline (spelled words.now) }
     ensures none { IfNone result ((input.new ≡ input.old) × (out.new ≡ out.old)) }
-    ensures status { IfSome result (λ status. IsStatus status) }
+    ensures run { IfSome result (Runs (outcome_of (spelled words.now))
+        (streams (S.left input.old) (S.faults input.old) (K.taken out.old) (K.faults out.old))
+        (streams (S.left input.new) (S.faults input.new) (K.taken out.new) (K.faults out.new))) }
+    ensures prefix { IfSome result (λ status. spec.is_replay (spelled words.now) ≡ true
+        → PlaysInStep (S.left input.old) (K.taken out.old) (K.taken out.new) status) }
     ensures command { IfSome result (λ status.
         spec.is_replay (spelled words.now) ≡ true → status ≢ NO_COMMAND) }
-    ensures no_command { IfSome result (λ status. spec.is_replay (spelled words.now) ≡ false
-        → IsAmong (NO_COMMAND ∷ SINK_FAILED ∷ []) status) }
-    ensures outcome { IfSome result (λ status.
-        HasStatus (outcome_of (spelled words.now)) (S.left input.old) status) }
-    ensures text { IfSome result (λ status. HasText (outcome_of (spelled words.now))
-        (S.left input.old) (K.taken out.old) (K.taken out.new) status) }
-    ensures usage { IfSome result (λ status. status ≡ NO_COMMAND
-        → Wrote (K.taken out.old) (K.taken out.new) usage_line) }
+    ensures usage { IfSome result (λ status. spec.is_replay (spelled words.now) ≡ false
+        → PrintsUsage (K.taken out.old) (K.taken out.new) status) }
     ensures unread { IfSome result (λ status. spec.is_replay (spelled words.now) ≡ false
         → input.new ≡ input.old) }
-    ensures to_end { IfSome result (λ status.
-        ReadsToEnd (S.left input.old) (S.left input.new) status) }
-    ensures early { IfSome result (λ status. EndsEarly (outcome_of (spelled words.now))
-        (S.left input.old) (S.left input.new) (K.taken out.old) (K.taken out.new) status) }
-    ensures memory { IfSome result (λ status.
-        LosesMemory (S.left input.old) (S.left input.new) status) }
-    ensures source_failed { IfSome result (λ status. status ≡ SOURCE_FAILED
-        → Rose (S.faults input.old) (S.faults input.new)) }
-    ensures sink_failed { IfSome result (λ status. status ≡ SINK_FAILED
-        → Rose (K.faults out.old) (K.faults out.new)) }
-    ensures faultless { IfSome result (λ status. ¬ Rose (S.faults input.old) (S.faults input.new)
-        → ¬ Rose (K.faults out.old) (K.faults out.new) → IsFaultless status) }
 {
     if !is_offline(words) {
         return None;
     }
-    if is_replay(words) {
+    if is_replay(alloc, words) {
         Some(replay(alloc, input, out))
     } else {
         Some(print_usage(out))
@@ -171,24 +140,15 @@ pub fn run_plain<S: Source, K: Sink>(
     input: &mut S,
     out: &mut K,
 ) -> u8
-    ensures status { IsStatus result }
+    ensures run { Runs (outcome_of (spelled words.now))
+        (streams (S.left input.old) (S.faults input.old) (K.taken out.old) (K.faults out.old))
+        (streams (S.left input.new) (S.faults input.new) (K.taken out.new) (K.faults out.new)) result }
+    ensures prefix { spec.is_replay (spelled words.now) ≡ true
+        → PlaysInStep (S.left input.old) (K.taken out.old) (K.taken out.new) result }
     ensures command { spec.is_replay (spelled words.now) ≡ true → result ≢ NO_COMMAND }
-    ensures no_command { spec.is_replay (spelled words.now) ≡ false
-        → IsAmong (NO_COMMAND ∷ SINK_FAILED ∷ []) result }
-    ensures outcome { HasStatus (outcome_of (spelled words.now)) (S.left input.old) result }
-    ensures text { HasText (outcome_of (spelled words.now))
-        (S.left input.old) (K.taken out.old) (K.taken out.new) result }
-    ensures usage { result ≡ NO_COMMAND → Wrote (K.taken out.old) (K.taken out.new) usage_line }
+    ensures usage { spec.is_replay (spelled words.now) ≡ false
+        → PrintsUsage (K.taken out.old) (K.taken out.new) result }
     ensures unread { spec.is_replay (spelled words.now) ≡ false → input.new ≡ input.old }
-    ensures to_end { ReadsToEnd (S.left input.old) (S.left input.new) result }
-    ensures early { EndsEarly (outcome_of (spelled words.now))
-        (S.left input.old) (S.left input.new) (K.taken out.old) (K.taken out.new) result }
-    ensures memory { LosesMemory (S.left input.old) (S.left input.new) result }
-    ensures source_failed { result ≡ SOURCE_FAILED
-        → Rose (S.faults input.old) (S.faults input.new) }
-    ensures sink_failed { result ≡ SINK_FAILED → Rose (K.faults out.old) (K.faults out.new) }
-    ensures faultless { ¬ Rose (S.faults input.old) (S.faults input.new)
-        → ¬ Rose (K.faults out.old) (K.faults out.new) → IsFaultless result }
 {
     match run_offline(alloc, words, input, out) {
         Some(status) => status,

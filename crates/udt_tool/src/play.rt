@@ -46,7 +46,7 @@ fn line_len(piece: &[u8]) -> usize
     piece.iter().take_while(|byte| **byte != b'\n').count()
 }
 
-/// The first line with its line feed, which the last one may lack, and what stands behind it.
+/// The first line with its line feed, which the last one may lack, and what stands after it.
 fn first_piece<'a>(text: &'a [u8]) -> (&'a [u8], &'a [u8])
     requires some { 0 < length text.now }
     ensures pieces { pieces_of text.now ≡ result.0.now ∷ pieces_of result.1.now }
@@ -62,7 +62,7 @@ fn first_piece<'a>(text: &'a [u8]) -> (&'a [u8], &'a [u8])
     }
 }
 
-/// Plays one piece behind the lines that were accepted, of this size together.
+/// Plays one piece after the lines that were accepted, of this size together.
 fn play_piece(world: &mut World, size: u64, piece: &[u8], out: &mut Vec<u8>) -> Result<(), LineNo>
     requires size { ForSome world.old (λ lines. size ≡ size_of lines) }
     requires bound { size ≤ LONGEST_SCRIPT + 1 }

@@ -16,7 +16,7 @@ pub enum ReadNo {
     OutOfMemory,
 }
 
-/// Reads a piece of a script behind what was read, and answers its length.
+/// Reads a piece of a script after what was read, and answers its length.
 fn read_piece<S: Source>(input: &mut S, script: &mut Vec<u8>) -> Result<usize, ReadNo>
     ensures ok { IfOk result (λ n. IfSome (S.left input.old) (λ left.
         ReadsPiece left (S.left input.new) script.old.items script.new.items n)) }

@@ -180,11 +180,11 @@ fn replays_acknowledgement_silence_and_closing(rt: HostRuntime) {
         a arrive stale\n\
         a arrive stale\n\
         b recv 68656c6c6f\n";
-    let sends_again: &[u8] = b"a tick 499999\n\
+    let retransmits: &[u8] = b"a tick 499999\n\
         a pack 499999\n\
         a tick 500000\n\
         a pack 500000\n";
-    let sent_again: &[u8] = b"a tick\n\
+    let retransmitted: &[u8] = b"a tick\n\
         a pack nothing\n\
         a tick\n\
         a pack data\n\
@@ -281,7 +281,7 @@ fn replays_acknowledgement_silence_and_closing(rt: HostRuntime) {
         a send refused 2001 expired\n";
     let stories: [([&[u8]; 3], [&[u8]; 3]); 5] = [
         ([pair, hello, acknowledges], [paired, packed, acknowledged]),
-        ([pair, hello, sends_again], [paired, packed, sent_again]),
+        ([pair, hello, retransmits], [paired, packed, retransmitted]),
         ([pair, closes, b""], [paired, closed, b""]),
         ([near, b"", b""], [read_near, b"", b""]),
         ([waits, b"", b""], [waited, b"", b""]),

@@ -1,103 +1,98 @@
 -- What the forms of lines do to a network that is shown.
-use Rattle.std.proofs.Common.{◌≡◌, ℕ, zero, suc, ◌+◌, ◌<◌, Bool, true, false, not, cond, List, [], ◌∷◌, ◌++◌, length, map, Some, None, Option, refl, ap, ◌∙◌, sym, arith, append_assoc}
+use Rattle.std.proofs.Common.{◌≡◌, ℕ, zero, suc, ◌+◌, ◌<◌, Bool, true, false, not, List, [], ◌∷◌, ◌++◌, length, Some, None, Option, refl, ap, ◌∙◌, sym, arith, append_assoc}
 use Rattle.std.specs.Prelude.{slice_get, position, is_some}
-use Rattle.std.specs.List.{prefix_len}
 use Rattle.std.proofs.lemmas.List.{map-append, length-map}
 use Rattle.udt_model.specs.Lines as lines
-use Rattle.udt_model.specs.Step.{Act}
+use Rattle.udt_model.specs.Events.{Event}
 use Rattle.udt_model.specs.Words.{is_word}
-use Rattle.udt_model.specs.Script as model
-use Rattle.udt_model.specs.Script.{place_of, event_at, call_of, route, paired, paired_seat, pair_text, on_line, first_host, second_host}
-use Rattle.udt_world.specs.declared.network.Seat.{Seat}
-use Rattle.udt_world.specs.declared.network.Letter.{Letter}
-use Rattle.udt_world.specs.Seats.{Sight, sight_of, sight_of_history, Shows, HasEvent}
+use Rattle.udt_model.specs.Network as model
+use Rattle.udt_model.specs.Script.{event_of, paired, paired_socket}
+use Rattle.udt_model.specs.Network.{place_of, first_host, second_host}
+use Rattle.udt_model.specs.Texts.{pair_text}
+use Rattle.udt_world.specs.declared.network.Network.{Network}
+use Rattle.udt_world.specs.declared.network.ScriptSocket.{ScriptSocket}
+use Rattle.udt_world.specs.Views.{Sight, sight_of, sight_of_history, view_of, Shows, HasEvent}
 use Rattle.udt_world.specs.Done.{DoesLine}
 use Rattle.udt_world.proofs.EventLemmas.{event_shown}
+use Rattle.udt_world.proofs.PlaceLemmas.{position-map}
 
 -- ---- places
 
-prefix_len-map : {A B : Type 0} (f : A → B) (p : B → Bool) (xs : List A) → prefix_len p (map f xs) ≡ prefix_len (λ x. p (f x)) xs
-prefix_len-map f p [] = refl
-prefix_len-map f p (x ∷ xs) = ap (λ (n : ℕ). cond (p (f x)) (1 + n) 0) (prefix_len-map f p xs)
-
-position-map : {A B : Type 0} (f : A → B) (p : B → Bool) (xs : List A) → position p (map f xs) ≡ position (λ x. p (f x)) xs
-position-map f p xs = rw (prefix_len-map f (λ y. not (p y)) xs, length-map xs f) refl
-
 -- the first socket of a name stands at the same place
-pub place_same : (n : model.Network) (seats : List Seat) (letters : List Letter) (name : List ℕ) → Shows n seats letters
-    → place_of name n.seats ≡ position (λ seat. is_word seat.name.items name) seats
+pub place_same : (n : model.Network) (network : Network) (name : List ℕ) → Shows n (view_of network)
+    → place_of name n.sockets ≡ position (λ socket. is_word socket.name.items name) network.sockets.items
 unfolding place_of
-place_same n seats letters name shows =
+place_same n network name shows =
     let test : Sight → Bool = λ s. is_word s.name name in
-    let one = position-map sight_of_history test n.seats in
-    let other = position-map sight_of test seats in
-    sym one ∙ (ap (λ (s : List Sight). position test s) (sym shows.seats_are) ∙ other)
+    let one = position-map sight_of_history test n.sockets in
+    let other = position-map sight_of test network.sockets.items in
+    sym one ∙ (ap (λ (s : List Sight). position test s) (sym shows.sockets_are) ∙ other)
 
 -- there are as many sockets
-pub count_same : (n : model.Network) (seats : List Seat) (letters : List Letter) → Shows n seats letters → length n.seats ≡ length seats
-count_same n seats letters shows = sym (length-map n.seats sight_of_history) ∙ (ap length (sym shows.seats_are) ∙ length-map seats sight_of)
+pub count_same : (n : model.Network) (network : Network) → Shows n (view_of network) → length n.sockets ≡ length network.sockets.items
+count_same n network shows =
+    sym (length-map n.sockets sight_of_history) ∙ (ap length (sym shows.sockets_are) ∙ length-map network.sockets.items sight_of)
 
 some_at : {A : Type 0} (xs : List A) (i : ℕ) → i < length xs → (x : A) × (slice_get xs i ≡ Some x)
 some_at [] i within = absurd (omega (arith, within))
 some_at (x ∷ xs) zero within = (x, refl)
 some_at (x ∷ xs) (suc i) within = some_at xs i (omega (arith, within))
 
-pub known_at : (n : model.Network) (seats : List Seat) (letters : List Letter) (place : ℕ) → Shows n seats letters → place < length seats
-    → (known : model.Seat) × (slice_get n.seats place ≡ Some known)
-known_at n seats letters place shows within = some_at n.seats place (rw (count_same n seats letters shows) within)
+pub known_at : (n : model.Network) (network : Network) (place : ℕ) → Shows n (view_of network) → place < length network.sockets.items
+    → (known : model.ScriptSocket) × (slice_get n.sockets place ≡ Some known)
+known_at n network place shows within = some_at n.sockets place (rw (count_same n network shows) within)
 
 -- ---- calls
 
-pub call_done : (n : model.Network) (seats new_seats : List Seat) (letters new_letters : List Letter) (text new_text name : List ℕ) (now : ℕ) (act : Act) (place : ℕ)
-    → Shows n seats letters → Some place ≡ position (λ seat. is_word seat.name.items name) seats → place < length seats
-    → HasEvent place (record { now = now; act = act }) seats letters text new_seats new_letters new_text
-    → DoesLine n (call_of n name now act) true new_seats new_letters text new_text
-call_done n seats new_seats letters new_letters text new_text name now act place shows found within happens =
-    let known = known_at n seats letters place shows within in
-    let at = place_same n seats letters name shows ∙ sym found in
-    rw (at, known.1) (event_shown n place known.0 (record { now = now; act = act }) seats new_seats letters new_letters text new_text shows known.1 happens)
+pub call_done : (n : model.Network) (old new : Network) (before after name : List ℕ) (event : Event) (place : ℕ) → Shows n (view_of old)
+    → Some place ≡ position (λ socket. is_word socket.name.items name) old.sockets.items → place < length old.sockets.items
+    → HasEvent place event (view_of old) (view_of new) before after
+    → DoesLine n (event_of n name event) true (view_of new) before after
+call_done n old new before after name event place shows found within happens =
+    let known = known_at n old place shows within in
+    let at = place_same n old name shows ∙ sym found in
+    rw (at, known.1) (event_shown n place known.0 event (view_of old) (view_of new) before after shows known.1 happens)
 
-pub call_refused : (n : model.Network) (seats : List Seat) (letters : List Letter) (text name : List ℕ) (now : ℕ) (act : Act)
-    → Shows n seats letters → None ≡ position (λ seat. is_word seat.name.items name) seats
-    → DoesLine n (call_of n name now act) false seats letters text text
-call_refused n seats letters text name now act shows none =
-    let at = place_same n seats letters name shows ∙ sym none in
+pub call_refused : (n : model.Network) (network : Network) (text name : List ℕ) (event : Event) → Shows n (view_of network)
+    → None ≡ position (λ socket. is_word socket.name.items name) network.sockets.items
+    → DoesLine n (event_of n name event) false (view_of network) text text
+call_refused n network text name event shows none =
+    let at = place_same n network name shows ∙ sym none in
     rw at (shows, refl)
 
 -- ---- pairs
 
-pub taken_same : (n : model.Network) (seats : List Seat) (letters : List Letter) (name : List ℕ) → Shows n seats letters
-    → model.is_taken name n.seats ≡ is_some (position (λ seat. is_word seat.name.items name) seats)
-taken_same n seats letters name shows = ap (λ (o : Option ℕ). is_some o) (place_same n seats letters name shows)
+pub taken_same : (n : model.Network) (network : Network) (name : List ℕ) → Shows n (view_of network)
+    → model.is_taken name n.sockets ≡ is_some (position (λ socket. is_word socket.name.items name) network.sockets.items)
+taken_same n network name shows = ap (λ (o : Option ℕ). is_some o) (place_same n network name shows)
 
 -- two more sockets are shown
-pub paired_shown : (n : model.Network) (seats new_seats : List Seat) (letters : List Letter) (p : lines.Pairing) (a b : Seat) (own : ℕ) → Shows n seats letters → own ≡ length seats + 1
-    → sight_of a ≡ sight_of_history (paired_seat p p.a first_host own second_host (own + 1))
-    → sight_of b ≡ sight_of_history (paired_seat p p.b second_host (own + 1) first_host own)
-    → new_seats ≡ (seats ++ a ∷ []) ++ b ∷ []
-    → Shows (paired n p).network new_seats letters
+pub paired_shown : (n : model.Network) (old new : Network) (p : lines.Pairing) (a b : ScriptSocket) (count : ℕ) → Shows n (view_of old)
+    → count ≡ length old.sockets.items
+    → sight_of a ≡ sight_of_history (paired_socket p p.a first_host (count + 1) second_host (count + 2))
+    → sight_of b ≡ sight_of_history (paired_socket p p.b second_host (count + 2) first_host (count + 1))
+    → new.sockets.items ≡ (old.sockets.items ++ a ∷ []) ++ b ∷ [] → new.datagrams.items ≡ old.datagrams.items
+    → Shows (paired n p).network (view_of new)
 unfolding paired
-paired_shown n seats new_seats letters p a b own shows own_is a_is b_is grown =
-    let count = count_same n seats letters shows in
-    let first : own ≡ length n.seats + 1 = omega (arith, own_is, count) in
-    let second : own + 1 ≡ length n.seats + 2 = omega (arith, own_is, count) in
-    let a_there = rw (second, first) at a_is in
-    let b_there = rw (second, first) at b_is in
+paired_shown n old new p a b count shows is a_is b_is grown kept =
+    let same : count ≡ length n.sockets = is ∙ sym (count_same n old shows) in
+    let a_there = rw same at a_is in
+    let b_there = rw same at b_is in
     record {
-      seats_are = rw (
+      sockets_are = rw (
         grown,
-        map-append sight_of (seats ++ a ∷ []) (b ∷ []),
-        map-append sight_of seats (a ∷ []),
-        shows.seats_are,
+        map-append sight_of (old.sockets.items ++ a ∷ []) (b ∷ []),
+        map-append sight_of old.sockets.items (a ∷ []),
+        shows.sockets_are,
         a_there,
         b_there,
         append_assoc,
-        map-append sight_of_history n.seats,
+        map-append sight_of_history n.sockets,
       ) refl;
-      letters_are = shows.letters_are;
+      datagrams_are = rw kept shows.datagrams_are;
     }
 
-pub paired_text : (n : model.Network) (p : lines.Pairing) → (paired n p).text ≡ pair_text p (length n.seats)
+pub paired_text : (n : model.Network) (p : lines.Pairing) → (paired n p).text ≡ pair_text p (length n.sockets)
 unfolding paired
 paired_text n p = refl
 

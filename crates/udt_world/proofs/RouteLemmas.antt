@@ -1,21 +1,20 @@
 -- Where datagrams go in a network that is shown.
-use Rattle.std.proofs.Common.{◌≡◌, ℕ, ◌+◌, ◌-◌, ◌*◌, ◌<◌, ◌≤◌, Bool, true, false, not, eqb, List, length, map, Some, None, refl, ap, ◌∙◌, sym, arith}
+use Rattle.std.proofs.Common.{◌≡◌, ℕ, ◌+◌, ◌-◌, ◌*◌, ◌<◌, ◌≤◌, Bool, true, false, not, eqb, length, Some, None, refl, ap, ◌∙◌, sym, arith}
 use Rattle.std.specs.Prelude.{slice_get, codes, ◌&&◌, ◌||◌, nat_lt}
 use Rattle.std.proofs.lemmas.Bool.{ne_eqb}
-use Rattle.std.proofs.lemmas.List.{length-map}
-use Rattle.std.proofs.lemmas.Option.{slice_get-map, slice_get_past}
-use Rattle.udt_model.specs.declared.addresses.Addr.{Addr}
+use Rattle.std.proofs.lemmas.Option.{slice_get-map, slice_get_past, slice_get_within}
 use Rattle.udt_model.specs.declared.answers.Phase.{Phase}
 use Rattle.udt_model.specs.declared.answers.Phase.TheVariants as phase
 use Rattle.udt_model.specs.Addresses.{same_addr}
 use Rattle.udt_model.specs.State.{State}
-use Rattle.udt_model.specs.Step.{is_broken, is_closed, is_connected, can_read, can_write, ready_bits}
+use Rattle.udt_model.specs.Readiness.{is_broken, is_closed, is_connected, can_read, can_write, ready_bits}
 use Rattle.udt_model.specs.Wire.{bit, target}
-use Rattle.udt_model.specs.Script as model
-use Rattle.udt_model.specs.Script.{is_enrolled, is_host, route}
-use Rattle.udt_world.specs.declared.network.Seat.{Seat}
-use Rattle.udt_world.specs.declared.network.Letter.{Letter}
-use Rattle.udt_world.specs.Seats.{Sight, letter_of, Shows}
+use Rattle.udt_model.specs.Network as model
+use Rattle.udt_model.specs.Network.{is_enrolled, is_host, route}
+use Rattle.udt_world.specs.declared.network.Network.{Network}
+use Rattle.udt_world.specs.declared.network.ScriptSocket.{ScriptSocket}
+use Rattle.udt_world.specs.Done.{GoesTo}
+use Rattle.udt_world.specs.Views.{Sight, sight_of, view_of, Shows}
 use Rattle.udt_world.proofs.CallLemmas.{known_at, count_same}
 use Rattle.udt_world.proofs.EventLemmas.{shown_at}
 
@@ -47,64 +46,50 @@ bits_of_closed s = closed_by (can_read s) (can_write s) s.phase
 
 -- ---- routes
 
-pub route_away : (n : model.Network) (letter : model.Letter) → is_host letter.to ≡ false → route n.seats letter ≡ model.Nowhere (codes "host")
+pub route_away : (n : model.Network) (datagram : model.ScriptDatagram) → is_host datagram.to ≡ false
+    → route n.sockets datagram ≡ model.Nowhere (codes "host")
 unfolding route
-route_away n letter away = rw away refl
+route_away n datagram away = rw away refl
 
-pub route_short : (n : model.Network) (letter : model.Letter) → is_host letter.to ≡ true → target letter.bytes ≡ None → route n.seats letter ≡ model.Nowhere (codes "short")
+pub route_short : (n : model.Network) (datagram : model.ScriptDatagram) → is_host datagram.to ≡ true → target datagram.bytes ≡ None
+    → route n.sockets datagram ≡ model.Nowhere (codes "short")
 unfolding route
-route_short n letter host none = rw (host, none) refl
+route_short n datagram host none = rw (host, none) refl
 
-pub route_shake : (n : model.Network) (letter : model.Letter) → is_host letter.to ≡ true → target letter.bytes ≡ Some 0 → route n.seats letter ≡ model.Nowhere (codes "shake")
+pub route_shake : (n : model.Network) (datagram : model.ScriptDatagram) → is_host datagram.to ≡ true → target datagram.bytes ≡ Some 0
+    → route n.sockets datagram ≡ model.Nowhere (codes "shake")
 unfolding route
-route_shake n letter host zero_id = rw (host, zero_id) refl
+route_shake n datagram host zero_id = rw (host, zero_id) refl
 
 not_zero : (id : ℕ) → 0 < id → eqb id 0 ≡ false
 not_zero id some = ne_eqb id 0 (λ e. absurd (omega (arith, e)))
 
-pub route_past : (n : model.Network) (seats : List Seat) (letters : List Letter) (letter : model.Letter) (id : ℕ) → Shows n seats letters
-    → is_host letter.to ≡ true → target letter.bytes ≡ Some id → 0 < id → length seats ≤ id - 1 → route n.seats letter ≡ model.Nowhere (codes "id")
-unfolding route
-route_past n seats letters letter id shows host is some past =
-    rw (host, is, not_zero id some, slice_get_past n.seats (id - 1) (omega (arith, past, count_same n seats letters shows))) refl
+module _ (n : model.Network) (network : Network) (shows : Shows n (view_of network)) (datagram : model.ScriptDatagram) (id : ℕ)
+    (host : is_host datagram.to ≡ true) (is : target datagram.bytes ≡ Some id) (some : 0 < id) where
+  pub route_past : length network.sockets.items ≤ id - 1 → route n.sockets datagram ≡ model.Nowhere (codes "id")
+  unfolding route
+  route_past past = rw (host, is, not_zero id some, slice_get_past n.sockets (id - 1) (omega (arith, past, count_same n network shows))) refl
 
--- the socket is enrolled where the one that shows it is
-enrolled_same : (n : model.Network) (seats : List Seat) (letters : List Letter) (place : ℕ) (seat : Seat) (known : model.Seat) (host : Addr) (here : Bool) → Shows n seats letters
-    → slice_get seats place ≡ Some seat → slice_get n.seats place ≡ Some known → (same_addr seat.host host && not (is_closed seat.socket.phase)) ≡ here
-    → is_enrolled host known ≡ here
-enrolled_same n seats letters place seat known host here shows found there test =
-    let same = shown_at n seats letters place seat known shows found there in
-    sym (ap (λ (s : Sight). same_addr s.host host && not (is_closed s.state.phase)) same) ∙ test
+  module _ (socket : ScriptSocket) (found : slice_get network.sockets.items (id - 1) ≡ Some socket) where
+    -- the socket is enrolled where the one that shows it is
+    enrolled_same : (known : model.ScriptSocket) (here : Bool) → slice_get n.sockets (id - 1) ≡ Some known
+        → (same_addr socket.host datagram.to && not (is_closed socket.socket.phase)) ≡ here → is_enrolled datagram.to known ≡ here
+    enrolled_same known here there test =
+        let seen : slice_get (view_of network).sockets (id - 1) ≡ Some (sight_of socket) = rw (slice_get-map sight_of network.sockets.items (id - 1), found) refl in
+        let same = shown_at n (view_of network) (id - 1) (sight_of socket) known shows seen there in
+        sym (ap (λ (s : Sight). same_addr s.host datagram.to && not (is_closed s.state.phase)) same) ∙ test
 
-pub route_other : (n : model.Network) (seats : List Seat) (letters : List Letter) (letter : model.Letter) (id : ℕ) (seat : Seat) → Shows n seats letters
-    → is_host letter.to ≡ true → target letter.bytes ≡ Some id → 0 < id → slice_get seats (id - 1) ≡ Some seat → id - 1 < length seats
-    → (same_addr seat.host letter.to && not (is_closed seat.socket.phase)) ≡ false → route n.seats letter ≡ model.Nowhere (codes "id")
-unfolding route
-route_other n seats letters letter id seat shows host is some found within other =
-    let known = known_at n seats letters (id - 1) shows within in
-    let test : is_enrolled letter.to known.0 ≡ false = enrolled_same n seats letters (id - 1) seat known.0 letter.to false shows found known.1 other in
-    rw (host, is, not_zero id some, known.1, test) refl
+    pub route_other : (same_addr socket.host datagram.to && not (is_closed socket.socket.phase)) ≡ false
+        → route n.sockets datagram ≡ model.Nowhere (codes "id")
+    unfolding route
+    route_other other =
+        let known = known_at n network (id - 1) shows (slice_get_within network.sockets.items (id - 1) socket found) in
+        let test : is_enrolled datagram.to known.0 ≡ false = enrolled_same known.0 false known.1 other in
+        rw (host, is, not_zero id some, known.1, test) refl
 
-pub route_here : (n : model.Network) (seats : List Seat) (letters : List Letter) (letter : model.Letter) (id : ℕ) (seat : Seat) → Shows n seats letters
-    → is_host letter.to ≡ true → target letter.bytes ≡ Some id → 0 < id → slice_get seats (id - 1) ≡ Some seat → id - 1 < length seats
-    → (same_addr seat.host letter.to && not (is_closed seat.socket.phase)) ≡ true
-    → (known : model.Seat) × (slice_get n.seats (id - 1) ≡ Some known) × (route n.seats letter ≡ model.ToSeat (id - 1) known)
-unfolding route
-route_here n seats letters letter id seat shows host is some found within same =
-    let known = known_at n seats letters (id - 1) shows within in
-    let test : is_enrolled letter.to known.0 ≡ true = enrolled_same n seats letters (id - 1) seat known.0 letter.to true shows found known.1 same in
-    (known.0, known.1, rw (host, is, not_zero id some, known.1, test) refl)
-
--- ---- datagrams that were printed
-
--- the datagram under a number
-pub letter_at : (n : model.Network) (seats : List Seat) (letters : List Letter) (number : ℕ) (letter : Letter) → Shows n seats letters → slice_get letters number ≡ Some letter
-    → slice_get n.letters number ≡ Some (letter_of letter)
-letter_at n seats letters number letter shows found =
-    let one : slice_get (map letter_of letters) number ≡ Some (letter_of letter) = rw (slice_get-map letter_of letters number, found) refl in
-    rw (← shows.letters_are) one
-
-pub no_letter_at : (n : model.Network) (seats : List Seat) (letters : List Letter) (number : ℕ) → Shows n seats letters → length letters ≤ number → slice_get n.letters number ≡ None
-no_letter_at n seats letters number shows past =
-    let count : length n.letters ≡ length letters = ap length (sym shows.letters_are) ∙ length-map letters letter_of in
-    slice_get_past n.letters number (omega (arith, count))
+    pub route_here : (same_addr socket.host datagram.to && not (is_closed socket.socket.phase)) ≡ true → GoesTo n datagram (id - 1)
+    unfolding route
+    route_here same =
+        let known = known_at n network (id - 1) shows (slice_get_within network.sockets.items (id - 1) socket found) in
+        let test : is_enrolled datagram.to known.0 ≡ true = enrolled_same known.0 true known.1 same in
+        (known.0, known.1, rw (host, is, not_zero id some, known.1, test) refl)

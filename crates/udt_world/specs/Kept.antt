@@ -1,6 +1,7 @@
 -- The lines that a world keeps.
-use Rattle.std.specs.Prelude.{ℕ, Bool, true, false, List, [], ◌∷◌, ◌++◌, Vec}
+use Rattle.std.specs.Prelude.{◌≡◌, ℕ, Bool, true, false, List, [], ◌∷◌, ◌++◌, Some, Vec}
 use Rattle.std.specs.Global.{Global}
+use Rattle.udt_model.specs.Script.{printed_after}
 
 -- the bytes of a line
 abbrev pub items_of : Vec ℕ Global → List ℕ
@@ -10,3 +11,9 @@ items_of line = line.items
 abbrev pub kept_lines : Bool → List (List ℕ) → List ℕ → List (List ℕ)
 kept_lines true lines line = lines ++ line ∷ []
 kept_lines false lines line = lines
+
+-- the definitions accept each of these lines, after the ones before it
+unfoldable pub AreAccepted : List (List ℕ) → List (List ℕ) → Type 0
+AreAccepted before [] = Unit {0}
+AreAccepted before (line ∷ lines) =
+    ((text : List ℕ) × (printed_after before line ≡ Some text)) × AreAccepted (before ++ line ∷ []) lines

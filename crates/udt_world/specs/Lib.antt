@@ -1,6 +1,7 @@
-pub mod Seats
+pub mod Views
 pub mod Done
 pub mod ScriptLines
 pub mod Kept
-pub mod PrefixKept
+pub mod Transcripts
+pub mod InStep
 pub mod Worlds

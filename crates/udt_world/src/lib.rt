@@ -1,12 +1,12 @@
 //! The world of a script: its sockets and the datagrams that they emitted, line by line.
 //!
 //! It does no input or output. Who owns a `World` gives it the lines one by one, and the text of
-//! each is added behind what was printed before.
+//! each is added after what was printed before.
 #![tactic(auto)]
 
-mod arrivals;
-mod calls;
+mod deliveries;
 mod network;
+mod pairs;
 #[cfg(test)]
 mod tests;
 mod world;

@@ -1,256 +1,177 @@
 // The sockets of a script, and the datagrams that they emitted.
 
-ghost use Rattle.std.specs.Prelude.{◌≡◌, ℕ, ◌+◌, ◌<◌, ◌≤◌, ◌++◌, List, length, map, take, Some, slice_get, position, vec_len, IfSome, OnOk, OnErr};
+ghost use Rattle.std.specs.Prelude.{◌≡◌, ℕ, ◌+◌, ◌<◌, ◌++◌, length, map, take, position, vec_len, IfSome, IfOk, OnOk, OnErr};
+ghost use Rattle.udt_model.specs.Events.{Recv};
+ghost use Rattle.udt_model.specs.Script.{from_host};
+ghost use Rattle.udt_model.specs.Step.{step};
+ghost use Rattle.udt_model.specs.Texts.{datagrams_text};
 ghost use Rattle.udt_model.specs.Words.{is_word};
-ghost use Rattle.udt_model.specs.State.{Datagram};
-ghost use Rattle.udt_model.specs.Step.{Send, Recv, Pack, Tick, Close, Arrive, step};
-ghost use Rattle.udt_model.specs.Script.{event_text, letters_text, letter_from};
-ghost use Rattle.udt_world.specs.Seats.{letter_of, HasEvent};
+ghost use Rattle.udt_script.specs.CodeAnswers.{reply_of};
+ghost use Rattle.udt_script.specs.CodeLines.{act_of, datagram_of};
+ghost use Rattle.udt_world.specs.Views.{view_of, event_of, HasEvent};
 
 use std::alloc::{AllocError, Global};
 use udt_core::{Outs, Socket};
 use udt_model::Addr;
-use udt_script::{
-    print_closed, print_heard, print_letter, print_packed, print_received, print_sent, print_ticked,
-};
+use udt_script::{Call, Reply, ScriptDatagram, print_datagram, print_reply};
 
 /// A socket of a script: its name, the address of its host, and the machine.
 #[derive(Drop)]
-pub struct Seat {
+pub struct ScriptSocket {
     pub name: Vec<u8>,
     pub host: Addr,
     pub socket: Socket,
 }
 
-/// A datagram that was emitted.
+/// What happens to a socket: a call of it, or bytes that arrive from an address.
+#[derive(Clone, Copy)]
+pub enum Act<'a> {
+    Call(&'a Call),
+    Arrive(Addr, &'a [u8]),
+}
+
+/// All sockets of a script, and all datagrams that they emitted. Room for those of one event is
+/// taken once.
 #[derive(Drop)]
-pub struct Letter {
-    pub from: Addr,
-    pub to: Addr,
-    pub bytes: Vec<u8>,
+pub struct Network {
+    pub alloc: Global,
+    pub sockets: Vec<ScriptSocket>,
+    pub datagrams: Vec<ScriptDatagram>,
+    pub outs: Option<Outs>,
 }
 
 /// The place of the socket with this name.
-pub fn place_of(seats: &[Seat], name: &[u8]) -> Option<usize>
-    ensures value { result ≡ position (λ seat. is_word seat.name.items name.now) seats.now }
-    ensures within { IfSome result (λ place. place < length seats.now) }
+pub fn place_of(sockets: &[ScriptSocket], name: &[u8]) -> Option<usize>
+    ensures value { result ≡ position (λ socket. is_word socket.name.items name.now) sockets.now }
+    ensures within { IfSome result (λ place. place < length sockets.now) }
 {
-    seats.iter().position(|seat| seat.name.as_slice() == name)
+    sockets
+        .iter()
+        .position(|socket| socket.name.as_slice() == name)
+}
+
+// The room for what an event emits.
+fn room(alloc: Global, outs: &mut Option<Outs>) -> Result<Outs, AllocError> {
+    match outs.take() {
+        Some(outs) => Ok(outs),
+        None => Outs::new(alloc).map_err(|_| AllocError),
+    }
+}
+
+// A receive with room for this many bytes.
+fn receive(alloc: Global, socket: &mut Socket, now: u64, room: u32) -> Result<Reply, AllocError>
+    ensures value { IfOk result (λ reply. reply_of reply
+        ≡ (step socket.old (record { now = now; act = Recv room })).reply) }
+    ensures next { OnOk result (socket.new
+        ≡ (step socket.old (record { now = now; act = Recv room })).after) }
+{
+    let mut into = vec![in alloc; 0; room as usize]?;
+    match socket.recv(now, &mut into) {
+        Ok(count) => {
+            into.truncate(count);
+            Ok(Reply::Received(Ok(into)))
+        }
+        Err(why) => Ok(Reply::Received(Err(why))),
+    }
+}
+
+// What a call of a socket answers. What it emits is left in `outs`.
+#[tactic(auto, using(crate::proofs::EventLemmas::send_outs, crate::proofs::EventLemmas::recv_outs, crate::proofs::EventLemmas::close_outs, crate::proofs::EventLemmas::close_reply, crate::proofs::EventLemmas::tick_reply))]
+fn answer(
+    alloc: Global,
+    socket: &mut Socket,
+    now: u64,
+    call: &Call,
+    outs: &mut Outs,
+) -> Result<Reply, AllocError>
+    ensures value { IfOk result (λ reply. reply_of reply
+        ≡ (step socket.old (record { now = now; act = act_of call.now })).reply) }
+    ensures next { OnOk result (socket.new
+        ≡ (step socket.old (record { now = now; act = act_of call.now })).after) }
+    ensures outs { OnOk result (outs.new
+        ≡ (step socket.old (record { now = now; act = act_of call.now })).outs) }
+{
+    outs.clear();
+    match call {
+        Call::Send(bytes) => Ok(Reply::Sent(socket.send(now, bytes))),
+        Call::Recv(room) => receive(alloc, socket, now, *room),
+        Call::Pack => Ok(Reply::Packed(socket.pack(now, outs))),
+        Call::Tick => {
+            socket.tick(now, outs);
+            Ok(Reply::Ticked)
+        }
+        Call::Close => {
+            socket.close(now);
+            Ok(Reply::Closed)
+        }
+    }
+}
+
+// What an event of a socket answers. What it emits is left in `outs`.
+fn happen(
+    alloc: Global,
+    socket: &mut Socket,
+    now: u64,
+    act: &Act,
+    outs: &mut Outs,
+) -> Result<Reply, AllocError>
+    ensures value { IfOk result (λ reply. reply_of reply
+        ≡ (step socket.old (event_of now act.now)).reply) }
+    ensures next { OnOk result (socket.new ≡ (step socket.old (event_of now act.now)).after) }
+    ensures outs { OnOk result (outs.new ≡ (step socket.old (event_of now act.now)).outs) }
+{
+    match act {
+        Act::Call(call) => answer(alloc, socket, now, call, outs),
+        Act::Arrive(from, bytes) => Ok(Reply::Heard(socket.arrive(now, *from, bytes, outs))),
+    }
 }
 
 // Prints the datagrams that an event emitted, and keeps them.
-fn mail(
+fn keep_emitted(
     alloc: Global,
-    letters: &mut Vec<Letter>,
+    datagrams: &mut Vec<ScriptDatagram>,
     from: Addr,
     outs: &Outs,
     out: &mut Vec<u8>,
 ) -> Result<(), AllocError>
-    ensures letters { OnOk result (map letter_of letters.new.items
-        ≡ map letter_of letters.old.items ++ map (letter_from from) outs.now) }
+    ensures datagrams { OnOk result (map datagram_of datagrams.new.items
+        ≡ map datagram_of datagrams.old.items ++ map (from_host from) outs.now) }
     ensures text { OnOk result (out.new.items ≡ out.old.items
-        ++ letters_text (vec_len letters.old) (map (letter_from from) outs.now)) }
+        ++ datagrams_text (vec_len datagrams.old) (map (from_host from) outs.now)) }
     ensures err { OnErr result (take (vec_len out.old) out.new.items ≡ out.old.items) }
 {
     for i in 0..outs.len() {
         let (to, bytes) = outs.get(i);
-        print_letter(out, letters.len() as u64, from, to, bytes)?;
         let bytes = Vec::from_slice(alloc, bytes)?;
-        letters.push(Letter { from, to, bytes })?;
+        let datagram = ScriptDatagram { from, to, bytes };
+        print_datagram(out, datagrams.len() as u64, &datagram)?;
+        datagrams.push(datagram)?;
     }
     Ok(())
 }
 
-/// A send of the socket at this place.
-pub fn send_at(
-    seats: &mut Vec<Seat>,
-    place: usize,
-    now: u64,
-    bytes: &[u8],
-    out: &mut Vec<u8>,
-) -> Result<(), AllocError>
-    requires { place < vec_len seats.old }
-    ensures ok { OnOk result ((letters : List Letter)
-        → HasEvent place (record { now = now; act = Send bytes.now })
-        seats.old.items letters out.old.items seats.new.items letters out.new.items) }
-    ensures err { OnErr result (take (vec_len out.old) out.new.items ≡ out.old.items) }
-{
-    let seat = &mut seats[place];
-    let answer = seat.socket.send(now, bytes);
-    print_sent(out, &seat.name, answer)
-}
-
-// A receive of this socket into this room.
-fn recv_into(
-    seat: &mut Seat,
-    now: u64,
-    into: &mut [u8],
-    out: &mut Vec<u8>,
-) -> Result<(), AllocError>
-    ensures same { seat.new ≡ record seat.old { socket = seat.new.socket } }
-    ensures stepped { seat.new.socket
-        ≡ (step seat.old.socket (record { now = now; act = Recv (length into.old) })).after }
-    ensures text { OnOk result (out.new.items ≡ out.old.items ++ event_text seat.old.name.items
-        (step seat.old.socket (record { now = now; act = Recv (length into.old) })).reply) }
-    ensures err { OnErr result (take (vec_len out.old) out.new.items ≡ out.old.items) }
-{
-    match seat.socket.recv(now, into) {
-        Ok(count) => print_received(out, &seat.name, Ok(&into[..count])),
-        Err(why) => print_received(out, &seat.name, Err(why)),
+impl Network {
+    /// An event of the socket at this place, which is printed; and then what the socket emitted is
+    /// printed and kept.
+    pub fn event(
+        &mut self,
+        place: usize,
+        now: u64,
+        act: &Act,
+        out: &mut Vec<u8>,
+    ) -> Result<(), AllocError>
+        requires { place < vec_len self.old.sockets }
+        ensures ok { OnOk result (HasEvent place (event_of now act.now)
+            (view_of self.old) (view_of self.new) out.old.items out.new.items) }
+        ensures err { OnErr result (take (vec_len out.old) out.new.items ≡ out.old.items) }
+    {
+        let mut outs = room(self.alloc, &mut self.outs)?;
+        let socket = &mut self.sockets[place];
+        let host = socket.host;
+        let reply = happen(self.alloc, &mut socket.socket, now, act, &mut outs)?;
+        print_reply(out, &socket.name, &reply)?;
+        keep_emitted(self.alloc, &mut self.datagrams, host, &outs, out)?;
+        self.outs = Some(outs);
+        Ok(())
     }
-}
-
-/// A receive of the socket at this place, with room for so many bytes.
-pub fn recv_at(
-    alloc: Global,
-    seats: &mut Vec<Seat>,
-    place: usize,
-    now: u64,
-    room: usize,
-    out: &mut Vec<u8>,
-) -> Result<(), AllocError>
-    requires { place < vec_len seats.old }
-    ensures ok { OnOk result ((letters : List Letter)
-        → HasEvent place (record { now = now; act = Recv room })
-        seats.old.items letters out.old.items seats.new.items letters out.new.items) }
-    ensures err { OnErr result (take (vec_len out.old) out.new.items ≡ out.old.items) }
-{
-    let mut into = vec![in alloc; 0; room]?;
-    recv_into(&mut seats[place], now, &mut into, out)
-}
-
-/// A packing of the socket at this place.
-pub fn pack_at(
-    alloc: Global,
-    seats: &mut Vec<Seat>,
-    letters: &mut Vec<Letter>,
-    outs: &mut Outs,
-    place: usize,
-    now: u64,
-    out: &mut Vec<u8>,
-) -> Result<(), AllocError>
-    requires { place < vec_len seats.old }
-    ensures ok { OnOk result (HasEvent place (record { now = now; act = Pack })
-        seats.old.items letters.old.items out.old.items
-        seats.new.items letters.new.items out.new.items) }
-    ensures err { OnErr result (take (vec_len out.old) out.new.items ≡ out.old.items) }
-{
-    let seat = &mut seats[place];
-    let host = seat.host;
-    let answer = seat.socket.pack(now, outs);
-    print_packed(out, &seat.name, answer)?;
-    mail(alloc, letters, host, outs, out)
-}
-
-/// A tick of the socket at this place.
-pub fn tick_at(
-    alloc: Global,
-    seats: &mut Vec<Seat>,
-    letters: &mut Vec<Letter>,
-    outs: &mut Outs,
-    place: usize,
-    now: u64,
-    out: &mut Vec<u8>,
-) -> Result<(), AllocError>
-    requires { place < vec_len seats.old }
-    ensures ok { OnOk result (HasEvent place (record { now = now; act = Tick })
-        seats.old.items letters.old.items out.old.items
-        seats.new.items letters.new.items out.new.items) }
-    ensures err { OnErr result (take (vec_len out.old) out.new.items ≡ out.old.items) }
-{
-    let seat = &mut seats[place];
-    let host = seat.host;
-    seat.socket.tick(now, outs);
-    print_ticked(out, &seat.name)?;
-    mail(alloc, letters, host, outs, out)
-}
-
-/// The closing of the socket at this place.
-pub fn close_at(
-    seats: &mut Vec<Seat>,
-    place: usize,
-    now: u64,
-    out: &mut Vec<u8>,
-) -> Result<(), AllocError>
-    requires { place < vec_len seats.old }
-    ensures ok { OnOk result ((letters : List Letter)
-        → HasEvent place (record { now = now; act = Close })
-        seats.old.items letters out.old.items seats.new.items letters out.new.items) }
-    ensures err { OnErr result (take (vec_len out.old) out.new.items ≡ out.old.items) }
-{
-    let seat = &mut seats[place];
-    seat.socket.close(now);
-    print_closed(out, &seat.name)
-}
-
-// The arrival of these bytes from this address at this socket.
-fn hear(
-    seat: &mut Seat,
-    outs: &mut Outs,
-    now: u64,
-    from: Addr,
-    bytes: &[u8],
-    out: &mut Vec<u8>,
-) -> Result<(), AllocError>
-    ensures same { seat.new ≡ record seat.old { socket = seat.new.socket } }
-    ensures stepped { seat.new.socket
-        ≡ (step seat.old.socket (record { now = now; act = Arrive from bytes.now })).after }
-    ensures outs { outs.new
-        ≡ (step seat.old.socket (record { now = now; act = Arrive from bytes.now })).outs }
-    ensures text { OnOk result (out.new.items ≡ out.old.items ++ event_text seat.old.name.items
-        (step seat.old.socket (record { now = now; act = Arrive from bytes.now })).reply) }
-    ensures err { OnErr result (take (vec_len out.old) out.new.items ≡ out.old.items) }
-{
-    let answer = seat.socket.arrive(now, from, bytes, outs);
-    print_heard(out, &seat.name, answer)
-}
-
-/// The arrival of these bytes from this address at the socket at this place.
-pub fn arrive_at(
-    alloc: Global,
-    seats: &mut Vec<Seat>,
-    letters: &mut Vec<Letter>,
-    outs: &mut Outs,
-    place: usize,
-    now: u64,
-    from: Addr,
-    bytes: &[u8],
-    out: &mut Vec<u8>,
-) -> Result<(), AllocError>
-    requires { place < vec_len seats.old }
-    ensures ok { OnOk result (HasEvent place (record { now = now; act = Arrive from bytes.now })
-        seats.old.items letters.old.items out.old.items
-        seats.new.items letters.new.items out.new.items) }
-    ensures err { OnErr result (take (vec_len out.old) out.new.items ≡ out.old.items) }
-{
-    let seat = &mut seats[place];
-    let host = seat.host;
-    hear(seat, outs, now, from, bytes, out)?;
-    mail(alloc, letters, host, outs, out)
-}
-
-/// The arrival at the socket at this place of the datagram with this number.
-pub fn deliver_at(
-    alloc: Global,
-    seats: &mut Vec<Seat>,
-    letters: &mut Vec<Letter>,
-    outs: &mut Outs,
-    place: usize,
-    now: u64,
-    number: usize,
-    out: &mut Vec<u8>,
-) -> Result<(), AllocError>
-    requires place { place < vec_len seats.old }
-    requires number { number < vec_len letters.old }
-    ensures ok { OnOk result ((letter : Letter) → slice_get letters.old.items number ≡ Some letter
-        → HasEvent place (record { now = now; act = Arrive letter.from letter.bytes.items })
-        seats.old.items letters.old.items out.old.items
-        seats.new.items letters.new.items out.new.items) }
-    ensures err { OnErr result (take (vec_len out.old) out.new.items ≡ out.old.items) }
-{
-    let letter = &letters[number];
-    let seat = &mut seats[place];
-    let host = seat.host;
-    hear(seat, outs, now, letter.from, &letter.bytes, out)?;
-    mail(alloc, letters, host, outs, out)
 }

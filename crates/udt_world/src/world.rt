@@ -1,21 +1,20 @@
 // The network of a script, line by line.
 
-ghost use Rattle.std.specs.Prelude.{◌≡◌, ◌++◌, ◌∷◌, [], List, ℕ, Some, map, take, vec_len, IfOk, OnErr};
-ghost use Rattle.udt_model.specs.Script as model;
-ghost use Rattle.udt_model.specs.Script.{on_line, played_line};
+ghost use Rattle.std.specs.Prelude.{◌≡◌, ◌+◌, ◌≤◌, [], List, ℕ, Some, true, length, map, take, vec_len, IfOk, OnErr};
+ghost use Rattle.udt_model.specs.Network as model;
+ghost use Rattle.udt_model.specs.Script.{on_line, played_line, size_of, fits_after};
+ghost use Rattle.udt_model.specs.declared.limits.TheConstants.{LONGEST_SCRIPT};
 ghost use Rattle.udt_script.specs.CodeLines.{line_of, IsInRange};
-ghost use Rattle.udt_world.specs.Seats.{Shows};
+ghost use Rattle.udt_world.specs.Views.{view_of, Shows};
 ghost use Rattle.udt_world.specs.Done.{DoesLine};
 ghost use Rattle.udt_world.specs.Kept.{kept_lines, items_of};
 ghost use Rattle.udt_world.specs.ScriptLines.{AnswersLine};
-ghost use Rattle.udt_world.specs.PrefixKept.{KeepsPrefix};
+ghost use Rattle.udt_world.specs.InStep.{AreAllInStep};
+ghost use Rattle.udt_world.specs.Transcripts.{KeepsPrefix};
 
-use crate::arrivals::{bring, deliver};
-use crate::calls::{close, pack, pair, recv, send, tick};
-use crate::network::{Letter, Seat};
+use crate::network::Network;
 use std::alloc::{AllocError, Global};
 use std::marker::Model;
-use udt_core::Outs;
 use udt_model::{LONGEST_LINE, LONGEST_SCRIPT};
 use udt_script::{Line, read_line};
 
@@ -26,16 +25,13 @@ pub enum LineNo {
     OutOfMemory,
 }
 
-/// The sockets and datagrams of a script. Contracts see it as the lines that were accepted, and as
+/// The network of a script, and the lines that made it. Contracts see it as the lines that were accepted, and as
 /// None once memory has run out: every later line is then answered so.
 #[derive(Drop)]
 pub struct World {
-    alloc: Global,
     lines: Vec<Vec<u8>>,
     size: u64,
-    seats: Vec<Seat>,
-    letters: Vec<Letter>,
-    outs: Option<Outs>,
+    network: Network,
     lost: bool,
 }
 
@@ -52,99 +48,69 @@ impl Model for World {
 }
 
 // Does what a line of this form says. False where it is refused.
-fn do_line(
-    alloc: Global,
-    seats: &mut Vec<Seat>,
-    letters: &mut Vec<Letter>,
-    outs: &mut Outs,
-    line: &Line,
-    out: &mut Vec<u8>,
-) -> Result<bool, AllocError>
+fn do_line(network: &mut Network, line: &Line, out: &mut Vec<u8>) -> Result<bool, AllocError>
     requires { IsInRange line.now }
-    ensures done { IfOk result (λ did. (n : model.Network)
-        → Shows n seats.old.items letters.old.items
+    ensures done { IfOk result (λ did. (n : model.Network) → Shows n (view_of network.old)
         → DoesLine n (on_line n (line_of line.now)) did
-        seats.new.items letters.new.items out.old.items out.new.items) }
+        (view_of network.new) out.old.items out.new.items) }
     ensures err { OnErr result (take (vec_len out.old) out.new.items ≡ out.old.items) }
 {
     match line {
         Line::Silent => Ok(true),
-        Line::Pair(pairing) => pair(alloc, seats, pairing, out),
-        Line::Send { name, now, bytes } => send(seats, name, *now, bytes, out),
-        Line::Recv { name, now, room } => recv(alloc, seats, name, *now, *room as usize, out),
-        Line::Pack { name, now } => pack(alloc, seats, letters, outs, name, *now, out),
-        Line::Tick { name, now } => tick(alloc, seats, letters, outs, name, *now, out),
-        Line::Close { name, now } => close(seats, name, *now, out),
-        Line::Deliver { number, now } => deliver(alloc, seats, letters, outs, *number, *now, out),
-        Line::Raw {
-            now,
-            from,
-            to,
-            bytes,
-        } => {
-            bring(alloc, seats, letters, outs, *now, *from, *to, bytes, out)?;
+        Line::Pair(pairing) => network.pair(pairing, out),
+        Line::Call { name, now, call } => network.call(name, *now, call, out),
+        Line::Deliver { number, now } => network.deliver(*number, *now, out),
+        Line::Raw { now, datagram } => {
+            network.arrive(*now, datagram, out)?;
             Ok(true)
         }
     }
 }
 
 // Reads a line and does what it says. False where it is refused.
-fn play_line(
-    alloc: Global,
-    seats: &mut Vec<Seat>,
-    letters: &mut Vec<Letter>,
-    room: &mut Option<Outs>,
-    line: &[u8],
-    out: &mut Vec<u8>,
-) -> Result<bool, AllocError>
-    ensures done { IfOk result (λ did. (n : model.Network)
-        → Shows n seats.old.items letters.old.items
+fn play_line(network: &mut Network, line: &[u8], out: &mut Vec<u8>) -> Result<bool, AllocError>
+    ensures done { IfOk result (λ did. (n : model.Network) → Shows n (view_of network.old)
         → DoesLine n (played_line n line.now) did
-        seats.new.items letters.new.items out.old.items out.new.items) }
+        (view_of network.new) out.old.items out.new.items) }
     ensures err { OnErr result (take (vec_len out.old) out.new.items ≡ out.old.items) }
 {
-    let Some(read) = read_line(alloc, line)? else {
-        return Ok(false);
-    };
-    let mut outs = outs_in(alloc, room)?;
-    let did = do_line(alloc, seats, letters, &mut outs, &read, out)?;
-    *room = Some(outs);
-    Ok(did)
-}
-
-// The room for what an event emits, which is taken once.
-fn outs_in(alloc: Global, room: &mut Option<Outs>) -> Result<Outs, AllocError> {
-    match room.take() {
-        Some(outs) => Ok(outs),
-        None => Outs::new(alloc).map_err(|_| AllocError),
+    match read_line(network.alloc, line)? {
+        None => Ok(false),
+        Some(read) => do_line(network, &read, out),
     }
 }
 
 // Keeps a line, and does what it says. A refused one isn't kept.
 fn keep_line(
-    alloc: Global,
     lines: &mut Vec<Vec<u8>>,
-    seats: &mut Vec<Seat>,
-    letters: &mut Vec<Letter>,
-    room: &mut Option<Outs>,
+    network: &mut Network,
     line: &[u8],
     out: &mut Vec<u8>,
 ) -> Result<bool, AllocError>
     ensures lines { IfOk result (λ did.
         map items_of lines.new.items ≡ kept_lines did (map items_of lines.old.items) line.now) }
-    ensures done { IfOk result (λ did. (n : model.Network)
-        → Shows n seats.old.items letters.old.items
+    ensures done { IfOk result (λ did. (n : model.Network) → Shows n (view_of network.old)
         → DoesLine n (played_line n line.now) did
-        seats.new.items letters.new.items out.old.items out.new.items) }
+        (view_of network.new) out.old.items out.new.items) }
     ensures err { OnErr result (take (vec_len out.old) out.new.items ≡ out.old.items) }
 {
-    let kept = Vec::from_slice(alloc, line)?;
+    let kept = Vec::from_slice(network.alloc, line)?;
     lines.push(kept)?;
-    let did = play_line(alloc, seats, letters, room, line, out)?;
+    let did = play_line(network, line, out)?;
     if !did {
         let _ = lines.pop();
     }
     Ok(did)
+}
+
+// A line fits after lines of this size together.
+fn fits(size: u64, line: &[u8]) -> bool
+    requires { size ≤ LONGEST_SCRIPT + 1 }
+    ensures value { (lines : List (List ℕ)) → size ≡ size_of lines
+        → result ≡ fits_after lines line.now }
+    ensures bound { result ≡ true → size + length line.now ≤ LONGEST_SCRIPT }
+{
+    size + line.len() as u64 <= LONGEST_SCRIPT && line.len() as u64 <= LONGEST_LINE
 }
 
 impl World {
@@ -152,42 +118,37 @@ impl World {
     pub fn new(alloc: Global) -> World
         ensures { result ≡ Some [] }
     {
-        World {
+        let network = Network {
             alloc,
+            sockets: Vec::new(alloc),
+            datagrams: Vec::new(alloc),
+            outs: None,
+        };
+        World {
             lines: Vec::new(alloc),
             size: 0,
-            seats: Vec::new(alloc),
-            letters: Vec::new(alloc),
-            outs: None,
+            network,
             lost: false,
         }
     }
 
-    /// Does what a line says, and prints it behind what was printed before. A refused line changes
+    /// Does what a line says, and prints it after what was printed before. A refused line changes
     /// nothing. Once memory has run out every line is answered so, and prints nothing.
     pub fn line(&mut self, line: &[u8], out: &mut Vec<u8>) -> Result<(), LineNo>
         ensures answer { AnswersLine self.old line.now result self.new out.old.items out.new.items }
-        ensures prefix { KeepsPrefix self.new }
+        ensures in_step { AreAllInStep self.new }
+        ensures prefix { KeepsPrefix self.old line.now result out.old.items out.new.items }
     {
         if self.lost {
             return Err(LineNo::OutOfMemory);
         }
-        let len = line.len() as u64;
-        if len > LONGEST_LINE || self.size + len > LONGEST_SCRIPT {
+        if !fits(self.size, line) {
             return Err(LineNo::Refused);
         }
         let before = out.len();
-        match keep_line(
-            self.alloc,
-            &mut self.lines,
-            &mut self.seats,
-            &mut self.letters,
-            &mut self.outs,
-            line,
-            out,
-        ) {
+        match keep_line(&mut self.lines, &mut self.network, line, out) {
             Ok(true) => {
-                self.size += len + 1;
+                self.size += line.len() as u64 + 1;
                 Ok(())
             }
             Ok(false) => Err(LineNo::Refused),

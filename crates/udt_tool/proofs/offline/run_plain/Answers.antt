@@ -1,8 +1,12 @@
-use Rattle.std.proofs.Common.{sym, ap}
+use Rattle.std.proofs.Common.{sym, refl}
 use Rattle.udt_tool.specs.Commands.{spelled}
-use Rattle.udt_tool.proofs.Replaying.{no_replay, breaks_off_faulty}
+use Rattle.udt_tool.proofs.Replaying.{no_replay, usage_runs}
 use Rattle.udt_tool.proofs.offline.run_plain.Goals as goal
 
 -- the words are no command, and a part of the usage line was written
-pub returns-in-None-clause-early : goal.returns-in-None-clause-early
-returns-in-None-clause-early g c = λ early. breaks_off_faulty (spelled c.args.words.now) _ _ _ _ _ (no_replay (spelled c.args.words.now) (sym c.in-None.ensures.known)) (ap g.S.Source.left c.in-None.ensures.none.0) (ap g.K.Sink.taken c.in-None.ensures.none.1) (c.print_usage.ensures.early early)
+pub returns-in-None-clause-run : goal.returns-in-None-clause-run
+returns-in-None-clause-run g c =
+    let there = c.in-None.ensures.none in
+    rw there.0
+    (usage_runs (spelled c.args.words.now) _ _ _ (no_replay (spelled c.args.words.now) (sym c.in-None.ensures.known)) refl
+    (rw there.1 at c.print_usage.ensures.usage) (rw there.1 at c.print_usage.ensures.sink_failed))

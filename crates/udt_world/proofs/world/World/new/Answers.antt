@@ -1,23 +1,26 @@
 use Rattle.std.proofs.Common.{◌≡◌, ◌∙◌, [], map, refl, ap, arith}
-use Rattle.udt_model.specs.Script as model
+use Rattle.udt_model.specs.Network as model
 use Rattle.udt_model.specs.Script.{network_after, size_of}
-use Rattle.udt_world.specs.Kept.{items_of}
-use Rattle.udt_world.specs.Seats.{Shows, sight_of, letter_of}
-use Rattle.udt_world.proofs.WorldLemmas.{no_lines}
+use Rattle.udt_script.specs.CodeLines.{datagram_of}
+use Rattle.udt_world.specs.Kept.{items_of, AreAccepted}
+use Rattle.udt_world.specs.Views.{Shows, sight_of}
+use Rattle.udt_world.proofs.LineLemmas.{no_lines}
 use Rattle.udt_world.proofs.world.World.new.Goals as goal
 
--- src/world.rt:136:5
+-- nothing was accepted, and there are no sockets
 pub invariant_of-result : goal.invariant_of-result
+unfolding AreAccepted
 invariant_of-result c =
-    let none : map items_of c.new.result.items ≡ [] = ap (map items_of) c.new.ensures.items in
-    let network : network_after (map items_of c.new.result.items) ≡ model.empty_network = ap network_after none ∙ no_lines in
-    let size : 0 ≡ size_of (map items_of c.new.result.items) = rw none refl in
-    let shows : Shows model.empty_network c.new-2.result.items c.new-3.result.items = record {
-      seats_are = ap (map sight_of) c.new-2.ensures.items;
-      letters_are = ap (map letter_of) c.new-3.ensures.items;
+    let none : map items_of c.new-3.result.items ≡ [] = ap (map items_of) c.new-3.ensures.items in
+    let network : network_after (map items_of c.new-3.result.items) ≡ model.empty_network = ap network_after none ∙ no_lines in
+    let size : 0 ≡ size_of (map items_of c.new-3.result.items) = rw none refl in
+    let shows : Shows model.empty_network (record { sockets = map sight_of c.new.result.items; datagrams = map datagram_of c.new-2.result.items }) = record {
+      sockets_are = ap (map sight_of) c.new.ensures.items;
+      datagrams_are = ap (map datagram_of) c.new-2.ensures.items;
     } in
     record {
       shown = λ kept. rw network shows;
       size_is = λ kept. size;
       bound = omega arith;
+      accepted = λ kept. rw none tt;
     }
