@@ -1,6 +1,8 @@
 // Standard input and output, which count their faults and tell nothing of their bytes.
 
-ghost use Rattle.std.specs.Prelude.{◌≡◌, None};
+ghost use Rattle.std.specs.Prelude.{◌≡◌, ◌≤◌, ◌<◌, length, None, OnErr, OnOk, IfOk};
+ghost use Rattle.std.specs.Io.KnownBytes.{ReadConsumes, WriteAppends};
+ghost use Rattle.udt_outside.specs.Faults.{Rose};
 
 use std::io::{Read, Write};
 use udt_outside::{Failed, Sink, Source};
@@ -27,7 +29,14 @@ impl<R: Read> Source for Input<R> {
 
     ghost left = { λ s. None };
 
-    fn read(&mut self, into: &mut [u8]) -> Result<usize, Failed> {
+    fn read(&mut self, into: &mut [u8]) -> Result<usize, Failed>
+        ensures faults_stay { self.old.failed ≤ self.new.failed }
+        ensures faults_kept { OnOk result (self.new.failed ≡ self.old.failed) }
+        ensures failed { OnErr result (Rose self.old.failed self.new.failed) }
+        ensures within { IfOk result (λ n. n ≤ length into.old) }
+        ensures known { ReadConsumes
+            (R.remaining self.old.reader) (R.remaining self.new.reader) result into.new }
+    {
         match self.reader.read(into) {
             Ok(n) => Ok(n),
             Err(_) => {
@@ -61,7 +70,15 @@ impl<W: Write> Sink for Output<W> {
     ghost taken = { λ s. None };
 
     /// A writer that takes no byte of some has failed.
-    fn write(&mut self, bytes: &[u8]) -> Result<usize, Failed> {
+    fn write(&mut self, bytes: &[u8]) -> Result<usize, Failed>
+        ensures faults_stay { self.old.failed ≤ self.new.failed }
+        ensures faults_kept { OnOk result (self.new.failed ≡ self.old.failed) }
+        ensures failed { OnErr result (Rose self.old.failed self.new.failed) }
+        ensures within { IfOk result (λ n. n ≤ length bytes.now) }
+        ensures some { IfOk result (λ n. 0 < length bytes.now → 0 < n) }
+        ensures known { WriteAppends
+            (W.contents self.old.writer) (W.contents self.new.writer) result bytes.now }
+    {
         match self.writer.write(bytes) {
             Ok(n) if n > 0 || bytes.is_empty() => Ok(n),
             _ => {

@@ -12,7 +12,7 @@ use udt_snd_buffer::SndBuffer;
 // The bytes of a block.
 const BLOCK: u32 = 1_456;
 
-// So many blocks go through a ring of each size.
+// This many blocks go through a ring of each size.
 const MANY: u32 = 1 << 19;
 
 // What blocks cost in nanoseconds, all together.

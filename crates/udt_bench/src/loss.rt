@@ -1,4 +1,4 @@
-//! Losses that are listed, sent again and reported again, in a small and in a large window.
+//! Losses that are listed, retransmitted and reported again, in a small and in a large window.
 ghost use Rattle.std.specs.Prelude.{◌≡◌, ◌+◌, ◌<◌, ◌≤◌, ◌^◌, []};
 
 use std::alloc::Global;
@@ -8,10 +8,10 @@ use std::time::Instant;
 use udt_rcv_loss::{Ranges, RcvLoss};
 use udt_snd_loss::SndLoss;
 
-// So many words a report takes at most.
+// This many words a report takes at most.
 const WORDS: u32 = 364;
 
-// So many packets each measurement goes over.
+// This many packets each measurement goes over.
 const PACKETS: u64 = 1 << 24;
 
 // Numbers that look random.
@@ -34,7 +34,7 @@ impl Draws {
     }
 }
 
-// What is lost of one window is listed to be sent again, and is taken out in order.
+// What is lost of one window is listed to be retransmitted, and is taken out in order.
 fn resend(snd: &mut SndLoss, base: u64, window: u32, percent: u64, draws: &mut Draws) -> u64
     requires floor { snd.old.floor ≡ base }
     requires room { snd.old.window ≡ window }
@@ -214,7 +214,7 @@ pub fn bench<R: Print + Clock>(rt: &R, alloc: Global) -> io::Result<()> {
             let snd = measure_snd(rt, alloc, window, percent)?.unwrap_or(0);
             let rcv = measure_rcv(rt, alloc, window, percent)?.unwrap_or(0);
             println!(rt;
-                "loss {percent} %, window {window}: {snd} ns a call to send again, {rcv} ns to report"
+                "loss {percent} %, window {window}: {snd} ns a call to retransmit, {rcv} ns to report"
             )?;
         }
     }

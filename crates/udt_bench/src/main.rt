@@ -1,9 +1,10 @@
-//! A program that measures: `udt_bench turn` counts the turns that several threads take in a second, beside a lock of the standard library, `udt_bench loss` times the calls of the loss lists, and `udt_bench buffers` what a block costs in the buffers of a socket.
+//! A program that measures: `udt_bench turn` counts the turns that several threads take in a second, beside a lock of the standard library, `udt_bench loss` times the calls of the loss lists, `udt_bench buffers` what a block costs in the buffers of a socket, and `udt_bench queues` how many entries go through the outbox in a second.
 #![tactic(auto)]
 
 mod buffers;
 mod locks;
 mod loss;
+mod queues;
 mod tally;
 mod turns;
 
@@ -16,7 +17,7 @@ use std::time::{Duration, Instant};
 use std::{env, io};
 use udt_turn::Turn;
 
-// So many events each thread makes.
+// This many events each thread makes.
 const EVENTS: u32 = 100_000;
 
 fn main(rt: HostRuntime) -> io::Result<()> {
@@ -25,8 +26,9 @@ fn main(rt: HostRuntime) -> io::Result<()> {
         Some(word) if word.as_str() == "turn" => bench_turn(&rt, rt.alloc()),
         Some(word) if word.as_str() == "loss" => loss::bench(&rt, rt.alloc()),
         Some(word) if word.as_str() == "buffers" => buffers::bench_buffers(&rt, rt.alloc()),
+        Some(word) if word.as_str() == "queues" => queues::bench(&rt, rt.alloc()),
         _ => {
-            println!(rt; "usage: udt_bench turn|loss|buffers")?;
+            println!(rt; "usage: udt_bench turn|loss|buffers|queues")?;
             Ok(())
         }
     }

@@ -30,7 +30,8 @@ impl Story for Tally {
 impl Tally {
     /// Counts one event more, unless there are very many.
     pub fn add(&mut self) -> bool
-        ensures { MatchBool result ((self.new.count ≡ self.old.count + 1) × (self.new.count < 2 ^ 55)) (self.new ≡ self.old) }
+        ensures { MatchBool result
+            ((self.new.count ≡ self.old.count + 1) × (self.new.count < 2 ^ 55)) (self.new ≡ self.old) }
     {
         if self.count < MOST {
             self.count += 1;

@@ -12,7 +12,8 @@ use udt_turn::{Held, Naming, Pass, Turn};
 fn tell<N: Naming<()>>(held: Held<'_, Tally>)
     requires held { IsHeld ⟦<Tally as udt_turn::Story>⟧.tale held }
     requires item { N.item ≡ Some tt }
-    requires next { held.value.count ≡ (value_of ⟦<Tally as udt_turn::Story>⟧.tale (found_by held)).count + 1 }
+    requires next { held.value.count
+        ≡ (value_of ⟦<Tally as udt_turn::Story>⟧.tale (found_by held)).count + 1 }
     requires most { held.value.count < 2 ^ 55 }
     ensures own { IsPassOf held.entry.turn.now held.exit.1.0.now }
 {
@@ -32,7 +33,7 @@ fn event<R: Wait>(rt: &R, turn: &Turn<Tally>, pass: &mut Pass<Tally>)
     }
 }
 
-/// So many events, by one thread.
+/// This many events, by one thread.
 pub fn one<R: Wait>(rt: &R, turn: &Turn<Tally>, mut pass: Pass<Tally>, events: u32)
     requires { IsPassOf turn.now pass }
 {
@@ -41,7 +42,7 @@ pub fn one<R: Wait>(rt: &R, turn: &Turn<Tally>, mut pass: Pass<Tally>, events: u
     }
 }
 
-/// So many by each of two threads.
+/// This many by each of two threads.
 pub fn two<R: Threads + Wait + Sync>(rt: &R, turn: &Turn<Tally>, mut pass: Pass<Tally>, events: u32)
     requires { IsPassOf turn.now pass }
 {
@@ -59,7 +60,7 @@ pub fn two<R: Threads + Wait + Sync>(rt: &R, turn: &Turn<Tally>, mut pass: Pass<
     );
 }
 
-/// So many by each of four threads.
+/// This many by each of four threads.
 pub fn four<R: Threads + Wait + Sync>(
     rt: &R,
     turn: &Turn<Tally>,
@@ -82,7 +83,7 @@ pub fn four<R: Threads + Wait + Sync>(
     );
 }
 
-/// So many by each of eight threads.
+/// This many by each of eight threads.
 pub fn eight<R: Threads + Wait + Sync>(
     rt: &R,
     turn: &Turn<Tally>,
