@@ -14,17 +14,17 @@ import random
 import subprocess
 import sys
 
-from play import HOSTS, NUMBERS, PERIOD, Player, words
+from play import HOSTS, NUMBERS, EXP_UNIT, Player, words
 
 STRANGER = "10.0.0.9:9000"
-# (so many lines of a script print less than a mebibyte)
+# (a script of this number of lines prints less than a mebibyte)
 LINES = 30_000
 CAPACITY = 32
 PAYLOAD = 4
 
 
 class Script:
-    """A script under way, and what it must print."""
+    """A script that grows, and what it must print."""
 
     def __init__(self, chance):
         self.chance, self.player = chance, Player()
@@ -165,7 +165,7 @@ class Story(Script):
 
     def deliver(self, now):
         """One of the last datagrams arrives, or one of all."""
-        sent = len(self.player.letters)
+        sent = len(self.player.datagrams)
         if sent:
             number = self.chance.randrange(max(0, sent - 6), sent) if self.chance.randrange(5) else self.chance.randrange(sent)
             self.say(f"deliver {number} {now}")
@@ -174,8 +174,8 @@ class Story(Script):
         """A datagram with a bit changed, from or to elsewhere; or an acknowledgement of any offset near by."""
         chance = self.chance
         sender, host = chance.choice([socket.peer_host] * 9 + [STRANGER]), chance.choice([socket.host] * 9 + ["[::1]:5"])
-        if self.player.letters and chance.randrange(2):
-            data = bytearray(chance.choice(self.player.letters)[2])
+        if self.player.datagrams and chance.randrange(2):
+            data = bytearray(chance.choice(self.player.datagrams)[2])
             data[chance.randrange(len(data))] ^= 1 << chance.randrange(8)
         else:
             number = (socket.initial + socket.acked + chance.choice([-1, 0, 1, 2, 3, 5])) % NUMBERS
@@ -195,7 +195,7 @@ class Silence(Script):
             self.say("a send 0 0102030405")
             self.say("a pack 0")
         while a.phase == "connected":
-            ends = a.silent_from + max(a.silences * PERIOD, 500_000)
+            ends = a.exp_from + max(a.exp_count * EXP_UNIT, 500_000)
             now = max(a.now, ends + chance.choice([-1, 0, 0, 0, 1, 7]))
             if far == 0 and not chance.randrange(8):
                 now = max(a.now, a.heard + 180_000_000 + chance.choice([-1, 0, 1]))
@@ -246,7 +246,7 @@ class Spelling(Script):
 
 
 def scripts(count, seed):
-    """Scripts with so many datagrams in all, and stories."""
+    """Scripts with this number of datagrams in all, and stories."""
     chance = random.Random(seed)
     for done in range(0, count, LINES):
         yield Datagrams(chance, min(count - done, LINES)).texts()

@@ -12,21 +12,21 @@ import sys
 from read import read
 
 HOSTS = ("10.0.0.1:9000", "10.0.0.2:9000")
-NUMBERS = 1 << 31           # packet numbers, before they begin again
+NUMBERS = 1 << 31           # sequence numbers, before they wrap
 NEAR = 1 << 30              # a number names the offset that lies less far from where its reader stands
 PACKETS = 1 << 60           # the packets that a direction may ever have
 LAST_MOMENT = (1 << 53) - 1
 ACK_INTERVAL = 10_000       # microseconds, like all times here
 RTT, VARIANCE = 100_000, 50_000
-PERIOD = 4 * RTT + VARIANCE + ACK_INTERVAL
-WINDOW = 16                 # packets that the control lets be under way
+EXP_UNIT = 4 * RTT + VARIANCE + ACK_INTERVAL
+WINDOW = 16                 # packets that may be in flight
 FIRST, LAST = 1 << 31, 1 << 30
 MOST_SOCKETS = 1_024
 LONGEST_LINE = 65_536
 
 
 def near(initial, base, number):
-    """The offset near the base that has this wire number, or None."""
+    """The offset near the base that has this sequence number, or None."""
     ahead = (number - initial - base) % NUMBERS
     found = [n for n in (base + ahead, base + ahead - NUMBERS) if n >= 0 and abs(n - base) < NEAR]
     return found[0] if found else None
@@ -47,7 +47,7 @@ class Socket:
         self.name, self.own, self.host, self.peer_host, self.peer = name, own, host, peer_host, peer
         self.payload, self.initial, self.room = payload, initial, room
         self.phase, self.cause, self.now = "connected", None, 0
-        self.heard, self.silent_from, self.silences = 0, 0, 1
+        self.heard, self.exp_from, self.exp_count = 0, 0, 1
         self.acked = self.next = self.end = start
         self.kept, self.lost, self.flow, self.message = {}, set(), clamped(room), 1
         self.base = self.top = self.confirmed = start
@@ -126,7 +126,7 @@ class Socket:
         return "nothing", []
 
     def tick(self):
-        """What time brings: an acknowledgement, and what is done about silence."""
+        """What a tick does: the ACK timer, and then the EXP timer."""
         if self.phase == "closing":
             self.phase = "closed"
             return [self.packet(0x80050000, 0)]
@@ -147,13 +147,13 @@ class Socket:
         return [self.packet(0x80020000, self.told[0], (self.initial + gap) % NUMBERS, RTT, VARIANCE, free, 0, 0)]
 
     def watch(self):
-        if self.now < self.silent_from + max(self.silences * PERIOD, 500_000):
+        if self.now < self.exp_from + max(self.exp_count * EXP_UNIT, 500_000):
             return []
-        silence = self.now - self.heard
-        if silence >= 180_000_000 or (self.silences > 16 and silence >= 3_000_000):
+        silent = self.now - self.heard
+        if silent >= 180_000_000 or (self.exp_count > 16 and silent >= 3_000_000):
             self.phase, self.cause = "broken", "expired"
             return []
-        self.silences, self.silent_from = self.silences + 1, self.now
+        self.exp_count, self.exp_from = self.exp_count + 1, self.now
         if self.next > self.acked:
             self.lost = set(range(self.acked, self.next))
             return []
@@ -169,8 +169,8 @@ class Socket:
         kind = told["packet"]
         if sender != self.peer_host or (kind != "handshake" and told["dest"] != self.own):
             return "foreign"
-        self.heard = self.silent_from = self.now
-        self.silences = 1
+        self.heard = self.exp_from = self.now
+        self.exp_count = 1
         if kind == "block":
             return self.block_in(told["seq"], bytes.fromhex(told["bytes"]))
         if kind == "ack":
@@ -242,7 +242,7 @@ class Player:
     """The sockets of a script, and the datagrams that they emitted."""
 
     def __init__(self):
-        self.sockets, self.named, self.letters = [], {}, []
+        self.sockets, self.named, self.datagrams = [], {}, []
 
     def line(self, line):
         """What a line prints, as lines. None where it is refused."""
@@ -274,9 +274,9 @@ class Player:
         return None if None in values else self.call(self.named[name], call, int(moment), *values)
 
     def deliver_line(self, number, moment, *rest):
-        if rest or number_in(number, 0, len(self.letters) - 1) is None or moment_in(moment) is None:
+        if rest or number_in(number, 0, len(self.datagrams) - 1) is None or moment_in(moment) is None:
             return None
-        return self.arrival(int(moment), *self.letters[int(number)])
+        return self.arrival(int(moment), *self.datagrams[int(number)])
 
     def raw_line(self, moment, *rest):
         if len(rest) != 3 or moment_in(moment) is None or not (is_address(rest[0]) and is_address(rest[1])):
@@ -307,11 +307,11 @@ class Player:
         else:
             answer = ""
             socket.close()
-        return [f"{socket.name} {name}{answer}"] + [self.letter(socket, data) for data in outs]
+        return [f"{socket.name} {name}{answer}"] + [self.emitted(socket, data) for data in outs]
 
-    def letter(self, socket, data):
-        self.letters.append((socket.host, socket.peer_host, data))
-        return f"datagram {len(self.letters) - 1} {socket.host} {socket.peer_host} {data.hex()}"
+    def emitted(self, socket, data):
+        self.datagrams.append((socket.host, socket.peer_host, data))
+        return f"datagram {len(self.datagrams) - 1} {socket.host} {socket.peer_host} {data.hex()}"
 
     def arrival(self, moment, sender, host, data):
         """A datagram goes to the socket at its host whose ID is its destination."""

@@ -61,7 +61,7 @@ def shake_of(field):
 
 
 def ack_of(field):
-    """What an acknowledgement tells: as much as its words hold."""
+    """What an ACK carries: as much as its words hold."""
     names = ["ack", "rtt", "var", "buffer", "rate", "capacity"]
     form, count = ("light", 1) if len(field) < 16 else ("buffer", 4) if len(field) < 24 else ("full", 6)
     told = dict(zip(names, words(field, count)))
