@@ -11,8 +11,7 @@ invariant-loop-len l = record {
   marked : IsMarked l.self l.ring.list;
   run : EndsRun l.self.run l.ring.list;
   given : l.self.given ≤ l.self.bytes;
-  limit : l.base + l.self.run ≤ 2 ^ 62;
-  later : l.fn.base ≤ l.base;
+  limit : l.base + l.self.top ≤ 2 ^ 62;
   len : length l.ring.list ≡ length l.fn.ring.list;
   room : l.ring.room ≡ l.fn.ring.room;
 }
