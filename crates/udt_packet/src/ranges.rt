@@ -110,6 +110,17 @@ fn size_of_range(first: u32, last: u32) -> usize
     if first == last { 4 } else { 8 }
 }
 
+/// Writes the words of a range at this place, and answers the place after them.
+pub fn put_range(first: u32, last: u32, into: &mut [u8], place: usize) -> usize
+    requires room { place + length (range_spelling first last) ≤ length into.old }
+    requires in_range { first < 2 ^ 31 }
+    ensures value { result ≡ place + length (range_spelling first last) }
+    ensures after { into.new ≡ with_between place result (range_spelling first last) into.old }
+{
+    let size = size_of_range(first, last);
+    put(into, place, &range_words(first, last)[..size])
+}
+
 /// Adds the words of a range after what is in `into`, which has room for them. It takes no memory.
 pub fn append_range(first: u32, last: u32, into: &mut Vec<u8>)
     requires room { length (into.old.items ++ range_spelling first last) ≤ vec_capacity into.old }
@@ -193,8 +204,7 @@ impl<'a> NakRanges<'a> {
         let mut left = self.again();
         let mut end = place;
         while let Some((first, last)) = left.next() {
-            let size = size_of_range(first, last);
-            end = put(into, end, &range_words(first, last)[..size]);
+            end = put_range(first, last, into, end);
         }
         end
     }

@@ -252,3 +252,17 @@ fn lost_numbers_are_taken_in_their_order(rt: HostRuntime) -> Result<(), Fail> {
     assert!(rt; NakRanges::over(&field[..8]).is_none());
     Ok(())
 }
+
+#[test]
+fn a_nak_is_written_range_by_range(rt: HostRuntime) -> Result<(), Fail> {
+    let mut into = [b'.'; 30];
+    let place = put_nak_header(9, 7, &mut into);
+    let place = put_range(5, 5, &mut into, place);
+    let end = put_range(0x7fff_ffff, 1, &mut into, place);
+    assert_eq!(rt; end, 28);
+    assert_eq!(rt;
+        into,
+        *b"\x80\x03\x00\x00\x00\x00\x00\x00\x00\x00\x00\x09\x00\x00\x00\x07\x00\x00\x00\x05\xff\xff\xff\xff\x00\x00\x00\x01.."
+    );
+    Ok(())
+}

@@ -105,6 +105,16 @@ pub fn write(packet: &Packet, into: &mut [u8]) -> usize
     }
 }
 
+/// Writes the four words that a NAK begins with at the front of `into`, and answers the place after
+/// them, from which on its ranges stand.
+pub fn put_nak_header(stamp: u32, dest: u32, into: &mut [u8]) -> usize
+    requires { 16 ≤ length into.old }
+    ensures value { result ≡ 16 }
+    ensures after { into.new ≡ wire.header (wire.type_word 3) 0 stamp dest ++ drop result into.old }
+{
+    put(into, 0, &four(CONTROL + 3 * TYPE, 0, stamp, dest))
+}
+
 /// Adds the one spelling of the packet after what is in `into`, which has room for it. It takes no
 /// memory.
 #[tactic(auto, unfolding(udt_model::specs::Wire::spelling))]
