@@ -1,7 +1,14 @@
-use Rattle.std.proofs.Common.{◌∙◌, sym}
-use Rattle.udt_core.proofs.ArriveLemmas.{arrive-outs}
+use Rattle.std.proofs.Common.{◌≡◌, ap, refl, sym, ◌∙◌}
+use Rattle.udt_model.specs.declared.answers.Heard.{Heard}
+use Rattle.udt_model.specs.Events.{DidHear}
+use Rattle.udt_packet.specs.Packets.{packet_of}
+use Rattle.udt_core.proofs.ArriveLemmas.{foreign-counts}
 use Rattle.udt_core.proofs.socket.Socket.arrive.Goals as goal
 
--- an arrival emits nothing
-pub returns-in-Ok-clause-outs : goal.returns-in-Ok-clause-outs
-returns-in-Ok-clause-outs c = c.clear.ensures ∙ sym (arrive-outs c.args.self.now c.args.now c.args.from c.args.bytes.now)
+pub returns-in-Ok-clause-foreign : goal.returns-in-Ok-clause-foreign
+returns-in-Ok-clause-foreign g c foreign =
+    let s = c.at.new.self in
+    let reply = sym c.on_packet.ensures.reply ∙ ap (λ (heard : Heard). DidHear heard) foreign in
+    c.on_packet.ensures.after
+    ∙ foreign-counts g.C.Control.ways s c.args.from (packet_of c.in-Ok.packet) s.phase reply
+    ∙ rw c.at.ensures refl
