@@ -32,7 +32,9 @@ fn main(rt: HostRuntime) -> io::Result<()> {
         Some(word) if word.as_str() == "buffers" => buffers::bench_buffers(&rt, rt.alloc()),
         Some(word) if word.as_str() == "queues" => queues::bench(&rt, rt.alloc()),
         Some(word) if word.as_str() == "socket" => {
-            let packets = words.next().and_then(|word| word.as_str().parse::<u32>().ok());
+            let packets = words
+                .next()
+                .and_then(|word| word.as_str().parse::<u32>().ok());
             socket::bench_socket(&rt, rt.alloc(), packets.unwrap_or(PACKETS))
         }
         _ => {

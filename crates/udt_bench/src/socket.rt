@@ -48,13 +48,7 @@ fn open(alloc: Global, own: u32, addr: Addr, id: u32) -> Result<Socket<Native>, 
 }
 
 // Gives a socket all datagrams that the other emitted.
-fn deliver<C: Control>(
-    outs: &Outs,
-    to: &mut Socket<C>,
-    from: Addr,
-    now: u64,
-    answers: &mut Outs,
-) {
+fn deliver<C: Control>(outs: &Outs, to: &mut Socket<C>, from: Addr, now: u64, answers: &mut Outs) {
     for i in 0..outs.len() {
         let (_, bytes) = outs.get(i);
         let _ = to.arrive(now, from, bytes, answers);

@@ -46,22 +46,22 @@ module _ {C : Type 0} (w : Ways C) where
         → s.phase ≡ phase.Connected → act ≡ Arrive from raw → read raw ≡ Ok (Block number flags stamp s.own bytes)
         → from ≡ s.peer.addr → reply ≡ DidHear (heard_of (block_answer s.receiving number).placed)
         → emission ≡ emits s
-            (Ack 0 (stamp_of s) s.peer.id (light_ack (after_block s.receiving s.last number flags bytes)))
-            (ack_offset (after_block s.receiving s.last number flags bytes) ∷ [])
+        (Ack 0 (stamp_of s) s.peer.id (light_ack (after_block s.receiving s.last number flags bytes)))
+        (ack_offset (after_block s.receiving s.last number flags bytes) ∷ [])
         → Emitting s act reply emission
     Reports : (range : LostRange) → (ranges : List LostRange) → s.phase ≡ phase.Connected
         → nak_report s.receiving s.last s.rtt ≡ range ∷ ranges
         → emission ≡ emits s
-            (Nak (stamp_of s) s.peer.id (map (numbers_of s) (range ∷ ranges)))
-            (concat (map ends_of (range ∷ ranges)))
+        (Nak (stamp_of s) s.peer.id (map (numbers_of s) (range ∷ ranges)))
+        (concat (map ends_of (range ∷ ranges)))
         → Emitting s act reply emission
     ReportsGap : (from : Addr) → (raw : List ℕ) → (number : ℕ) → (flags : Flags) → (stamp : ℕ) → (bytes : List ℕ) → (ends : ℕ × ℕ)
         → s.phase ≡ phase.Connected → act ≡ Arrive from raw → read raw ≡ Ok (Block number flags stamp s.own bytes)
         → from ≡ s.peer.addr → (block_answer s.receiving number).gap ≡ Some ends
         → emission ≡ emits s
-            (Nak (stamp_of s) s.peer.id
-            (numbers_of (record s { receiving = after_block s.receiving s.last number flags bytes }) (record { first = ends.0; last = ends.1 }) ∷ []))
-            (ends.0 ∷ ends.1 ∷ [])
+        (Nak (stamp_of s) s.peer.id
+        (numbers_of (record s { receiving = after_block s.receiving s.last number flags bytes }) (record { first = ends.0; last = ends.1 }) ∷ []))
+        (ends.0 ∷ ends.1 ∷ [])
         → Emitting s act reply emission
     AnswersAck : (number : ℕ) → s.phase ≡ phase.Connected → emission ≡ emits s (Ack2 number (stamp_of s) s.peer.id) []
         → Emitting s act reply emission

@@ -131,9 +131,11 @@ rising-append : (from middle : ℕ) (ms more : List Missing) → from ≤ middle
     → ((n : ℕ) → is_missing n ms ≡ true → n < middle) → AreRisingMissing middle more → AreRisingMissing from (ms ++ more)
 rising-append from middle [] more low rising below after = rising-sooner middle from more low after
 rising-append from middle (lost ∷ others) more low rising below after =
-    let here = below lost.offset (or_left (eqb lost.offset lost.offset) _ (eq-eqb lost.offset lost.offset refl)) in
-    (rising.0, rising-append (lost.offset + 1) middle others more (omega (arith, here)) rising.1
-    (λ n there. below n (or_right (eqb lost.offset n) _ there)) after)
+    let here = below lost.offset (or_left (eqb lost.offset lost.offset) _ (eq-eqb lost.offset lost.offset refl)) in (
+      rising.0,
+      rising-append (lost.offset + 1) middle others more (omega (arith, here)) rising.1
+          (λ n there. below n (or_right (eqb lost.offset n) _ there)) after,
+    )
 
 -- those that are added follow
 pub added-rising : (from top last now : ℕ) (ms : List Missing) → from ≤ top → AreRisingMissing from ms

@@ -106,7 +106,6 @@ kept_at-is b offset block is =
     ] refl is
 
 module _ {C : Type 0} where
-
   -- these are all blocks that the half ever accepted, in a direction that begins at this offset: the kept ones are the
   -- last of them, and those that are to be retransmitted are in flight
   pub record IsCut (s : Sending C) (start : ℕ) (blocks : List (List ℕ)) : Type 0 where
@@ -165,7 +164,6 @@ module _ {C : Type 0} where
     pub kept : kept_at s.blocks offset ≡ Some block
 
 module _ {C : Type 0} (w : Ways C) where
-
   sends-unsent : (s : Sending C) (o : Option KeptBlock) (block : KeptBlock) → sends w s o ≡ Sends block → o ≡ Some block
   sends-unsent s None block is = absurd (cc)
   sends-unsent s (Some first) block is = grind (arith, nat_tests)
@@ -368,7 +366,6 @@ module _ {C : Type 0} where
       (with_range-among s.blocks.first s.next range.first range.last lost in_flight.0 in_flight.1 in_flight.2 within)
 
 module _ {C : Type 0} (w : Ways C) where
-
   -- a control that is told of an ACK changes nothing of the blocks
   pub cut-measured : (s : Sending C) (start : ℕ) (blocks : List (List ℕ)) (known : RoundTrip) (newly : ℕ) (body : AckBody) → IsCut s start blocks
       → IsCut (measured w s known newly body) start blocks

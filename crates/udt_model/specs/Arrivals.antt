@@ -59,7 +59,6 @@ abbrev pub has_bad_length : Receiving → List ℕ → Bool
 has_bad_length r bytes = length bytes == 0 || nat_lt r.payload (length bytes)
 
 module _ {C : Type 0} where
-
   -- a packet of which the socket makes no use
   abbrev pub on_stale : State C → Outcome C
   on_stale s = answered (record s { counters = count_stale s.counters }) (DidHear heard.Stale)
@@ -130,7 +129,6 @@ module _ {C : Type 0} where
   heard_now s = record s { heard = s.last; exp_from = s.last; exp_count = 1 }
 
 module _ {C : Type 0} (w : Ways C) where
-
   abbrev pub acked_so : State C → ℕ → AckBody → Acking → Outcome C
   acked_so s number body (Acks offset) =
       on_control

@@ -52,7 +52,6 @@ count_packing (Sends block) counters = record counters { sent = risen counters.s
 count_packing Idles counters = counters
 
 module _ {C : Type 0} where
-
   -- ---- datagrams
 
   -- microseconds since the socket was opened, modulo 2^32
@@ -106,7 +105,6 @@ module _ {C : Type 0} where
   on_close s = answered (record s { phase = closed_from s.phase }) DidClose
 
 module _ {C : Type 0} (w : Ways C) where
-
   -- ---- packing
 
   abbrev pub emitted_by_packing : State C → Packing → List Emission

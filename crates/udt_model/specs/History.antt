@@ -77,7 +77,6 @@ module _ {C : Type 0} where
   placed_by s act reply = []
 
 module _ {C : Type 0} (w : Ways C) where
-
   -- ---- legal histories
 
   -- the state after these items

@@ -23,7 +23,6 @@ abbrev pub ends_of : LostRange → List ℕ
 ends_of range = range.first ∷ range.last ∷ []
 
 module _ {C : Type 0} where
-
   -- ---- ACKs and NAKs
 
   -- a full ACK names its offset
@@ -86,7 +85,6 @@ module _ {C : Type 0} where
   emitted_by_exp s exp.KeepsAlive = emission s (KeepAlive (stamp_of s) s.peer.id) [] ∷ []
 
 module _ {C : Type 0} (w : Ways C) where
-
   abbrev pub after_exp : State C → ExpOutcome → State C
   after_exp s exp.NotDue = s
   after_exp s exp.Breaks = record s { phase = phase.Broken cause.Expired }

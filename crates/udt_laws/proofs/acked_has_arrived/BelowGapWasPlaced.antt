@@ -96,8 +96,10 @@ module _ (P : ℕ → Type 0) (start : ℕ) where
             let least = ltb-false r.top offset test in
             elim (nat_lt offset r.top) as (λ below. nat_lt offset r.top ≡ below → is_missing n (
             if below then without_missing offset offset r.missing else r.missing) ≡ false → (n < r.top) × (is_missing n r.missing ≡ false)) [
-              | true ↦ λ within none. (omega (arith, less, ltb-true offset r.top within),
-                  false_from_ne_true _ (λ there. true≢false (sym (arrived_keeps offset n r.missing there other) ∙ none)))
+              | true ↦ λ within none. (
+                omega (arith, less, ltb-true offset r.top within),
+                false_from_ne_true _ (λ there. true≢false (sym (arrived_keeps offset n r.missing there other) ∙ none)),
+              )
               | false ↦ λ at none. (omega (arith, less, other, ltb-false offset r.top at, least), none)
             ] refl none
       ] refl none

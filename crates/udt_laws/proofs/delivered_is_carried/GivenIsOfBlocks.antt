@@ -68,10 +68,10 @@ module _ (P : ℕ → List ℕ → Type 0) (start : ℕ) where
       → given_by (Received (if full then Ok [] else (if length bytes == 0 then Err why else Ok bytes))) ≡ bytes) [
         | true ↦ λ test. sym (none (eqb-true room 0 test))
         | false ↦ λ test. elim (length bytes == 0) as (λ empty. (length bytes == 0) ≡ empty
-        → given_by (Received (if empty then Err why else Ok bytes)) ≡ bytes) [
-          | true ↦ λ same. sym (nil_from_length bytes (eqb-true (length bytes) 0 same))
-          | false ↦ λ some. refl
-        ] refl
+            → given_by (Received (if empty then Err why else Ok bytes)) ≡ bytes) [
+              | true ↦ λ same. sym (nil_from_length bytes (eqb-true (length bytes) 0 same))
+              | false ↦ λ some. refl
+            ] refl
       ] refl
 
   pub keep-receive : (r : Receiving) (got : List ℕ) (room : ℕ) (why : Refusal) → Kept P start r.blocks got

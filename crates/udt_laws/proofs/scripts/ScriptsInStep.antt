@@ -31,7 +31,6 @@ use Rattle.udt_laws.proofs.scripts.KeepsNetwork.{Plan, enrolled_at, IsPlanned, C
 use Rattle.udt_laws.proofs.scripts.PairKeepsNetwork.{no-arrival, pair-keeps, pair-counts}
 
 module _ {C : Type 0} (w : Ways C) where
-
   -- ---- calls and arrivals
 
   -- a network that a script makes, whose sockets have had this many events at most

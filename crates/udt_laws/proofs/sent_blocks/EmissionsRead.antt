@@ -117,9 +117,12 @@ module _ {C : Type 0} (w : Ways C) where
       let number : ack.number < 2 ^ 32 = omega (arith, told.number, can.reports.number) in
       let room = can.reports.capacity in
       let rtt = can.rtt.rtt in
-      let var = can.rtt.var in
-      ((omega arith, omega (arith, rtt), omega (arith, var), omega (arith, room), speed-fits s.receiving.arrivals can.reports.arrivals, capacity-fits s.receiving.pairs),
-      number, omega arith, can.id)
+      let var = can.rtt.var in (
+        (omega arith, omega (arith, rtt), omega (arith, var), omega (arith, room), speed-fits s.receiving.arrivals can.reports.arrivals, capacity-fits s.receiving.pairs),
+        number,
+        omega arith,
+        can.id,
+      )
   packet-in_range s act reply emission (LightAck from raw number flags stamp bytes connected arrives carries sender replies is) can =
       (omega arith, omega arith, omega arith, can.id)
   packet-in_range s act reply emission (Reports range ranges connected reports is) can =

@@ -167,9 +167,10 @@ module _ {C : Type 0} where
   numbers-are s t [] fits ends = tt
   numbers-are s t (range ∷ ranges) fits ends =
       let room = fits.order.room in
-      let capacity = fits.capacity in
-      (close-range t.receiving.isn range.first range.last ends.2 (omega (arith, ends.0.0, ends.1.1, room, capacity)),
-      numbers-are s t ranges fits ends.3)
+      let capacity = fits.capacity in (
+        close-range t.receiving.isn range.first range.last ends.2 (omega (arith, ends.0.0, ends.1.1, room, capacity)),
+        numbers-are s t ranges fits ends.3,
+      )
 
   -- a NAK of a gap
   pub gap-number : (s t : State C) (ends : ℕ × ℕ) → ReportsFit s.receiving → IsGap s.receiving ends

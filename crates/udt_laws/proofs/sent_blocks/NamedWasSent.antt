@@ -50,7 +50,6 @@ module _ {C : Type 0} where
   -- it stays
   stays-next : (s : State C) (outcome : Outcome C) → outcome.after.sending.next ≡ s.sending.next → Advances s.sending.next outcome
   stays-next s outcome same = record { once = omega (arith, same); sends = omega (arith, same) }
-
   -- ---- the offset of a data packet
 
 -- the one offset that is named

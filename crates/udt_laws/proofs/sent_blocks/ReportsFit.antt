@@ -69,10 +69,10 @@ missing-rises r now offset fits =
     else (if nat_lt offset r.top then without_missing offset offset r.missing else r.missing))) [
       | true ↦ added-rising 0 r.top (offset - 1) now r.missing (omega arith) fits.rising fits.order.below
       | false ↦ elim (nat_lt offset r.top) as (λ below. AreRisingMissing 0 (
-      if below then without_missing offset offset r.missing else r.missing)) [
-        | true ↦ arrived-rising 0 offset offset r.missing fits.rising
-        | false ↦ fits.rising
-      ]
+          if below then without_missing offset offset r.missing else r.missing)) [
+            | true ↦ arrived-rising 0 offset offset r.missing fits.rising
+            | false ↦ fits.rising
+          ]
     ]
 
 placing-fits : (r : Receiving) (now : ℕ) (flags : Flags) (bytes : List ℕ) (offset : Option ℕ) (p : Placed) → placing_at r offset ≡ p
