@@ -3,7 +3,7 @@ use Rattle.std.specs.Prelude.{◌≡◌, ℕ, List, ◌++◌, length, map, Some,
 use Rattle.udt_model.specs.declared.addresses.Addr.{Addr}
 use Rattle.udt_model.specs.State.{State}
 use Rattle.udt_model.specs.Step.{step}
-use Rattle.udt_model.specs.Events.{Arrive, Event, event, outs_of}
+use Rattle.udt_model.specs.Events.{Arrive, Event, Reply, event, outs_of}
 use Rattle.udt_model.specs.History.{state_of}
 use Rattle.udt_model.specs.Network as model
 use Rattle.udt_model.specs.Rate.{Ways}
@@ -60,3 +60,15 @@ module _ {C : Type 0} (w : Ways C) where
     pub text : after
         ≡ before ++ (event_text sight.name (step w sight.state event).reply
         ++ datagrams_text (length old.datagrams) (map (from_host sight.host) (outs_of (step w sight.state event))))
+
+  -- and the same without what is printed
+  pub record Moves (place : ℕ) (event : Event) (old new : View C) : Type 0 where
+    pub sight : Sight C
+    pub found : slice_get old.sockets place ≡ Some sight
+    pub sockets : new.sockets ≡ slice_set old.sockets place (record sight { state = (step w sight.state event).after })
+    pub datagrams : new.datagrams ≡ old.datagrams ++ map (from_host sight.host) (outs_of (step w sight.state event))
+
+  -- and the socket answers this
+  pub record Answers (place : ℕ) (event : Event) (reply : Reply) (old new : View C) : Type 0 where
+    pub moves : Moves place event old new
+    pub reply_is : reply ≡ (step w moves.sight.state event).reply

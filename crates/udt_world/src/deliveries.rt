@@ -66,8 +66,8 @@ impl<C: Control> Network<C> {
         Route::To(place)
     }
 
-    // The route of a datagram, by its destination.
-    fn route(&self, datagram: &ScriptDatagram) -> Route
+    /// The route of a datagram, by its destination.
+    pub fn route(&self, datagram: &ScriptDatagram) -> Route
         ensures value { (n : model.Network C) → Shows C.ways n (view_of self.now)
             → IsRoute C.ways n (datagram_of datagram.now) result }
         ensures within { (place : ℕ) → result ≡ Route.To place → place < vec_len self.now.sockets }

@@ -5,10 +5,13 @@
 #![tactic(auto)]
 
 mod deliveries;
+mod generated;
 mod network;
 mod pairs;
+mod quiet;
 #[cfg(test)]
 mod tests;
 mod world;
 
+pub use generated::generate;
 pub use world::{LineNo, World};

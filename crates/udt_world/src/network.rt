@@ -51,8 +51,8 @@ pub fn place_of<C>(sockets: &[ScriptSocket<C>], name: &[u8]) -> Option<usize>
         .position(|socket| socket.name.as_slice() == name)
 }
 
-// The room for what an event emits.
-fn room(alloc: Global, outs: &mut Option<Outs>) -> Result<Outs, AllocError> {
+/// The room for what an event emits.
+pub fn room(alloc: Global, outs: &mut Option<Outs>) -> Result<Outs, AllocError> {
     match outs.take() {
         Some(outs) => Ok(outs),
         None => Outs::new(alloc).map_err(|_| AllocError),
@@ -114,8 +114,8 @@ fn answer<C: Control>(
     }
 }
 
-// What an event of a socket answers. What it emits is left in `outs`.
-fn happen<C: Control>(
+/// What an event of a socket answers. What it emits is left in `outs`.
+pub fn happen<C: Control>(
     alloc: Global,
     socket: &mut Socket<C>,
     now: u64,

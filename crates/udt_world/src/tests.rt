@@ -1,6 +1,7 @@
 // One world and a line of each form, and what becomes of bytes that no socket sent.
 
-use crate::{LineNo, World};
+use crate::{LineNo, World, generate};
+use udt_model::Summary;
 use udt_rate::Native;
 
 #[test]
@@ -166,5 +167,26 @@ fn answers_bytes_that_no_socket_sent(rt: HostRuntime) {
         out.clear();
         assert_eq!(rt; world.line(line, &mut out), Ok(()), "{line:?}");
         assert_eq!(rt; out.as_slice(), printed, "{line:?}");
+    }
+}
+
+fn summary(accepted: u64, delivered: u64, acked: u64, datagrams: u64) -> Summary {
+    Summary {
+        accepted,
+        delivered,
+        acked,
+        datagrams,
+    }
+}
+
+#[test]
+fn generates_runs(rt: HostRuntime) {
+    let runs: [(u64, u64, Summary); 3] = [
+        (7, 0, summary(0, 0, 0, 0)),
+        (7, 1, summary(0, 0, 0, 0)),
+        (7, 200, summary(45_617, 12_148, 0, 18)),
+    ];
+    for (n, turns, told) in runs {
+        assert_eq!(rt; generate::<Native>(rt.alloc(), n, turns), Ok(told));
     }
 }
