@@ -8,7 +8,7 @@ use Rattle.udt_model.specs.State.{State, Datagram}
 use Rattle.udt_model.specs.declared.answers.Phase.{Phase}
 use Rattle.udt_model.specs.declared.answers.Phase.TheVariants as phase
 use Rattle.udt_model.specs.Step.{step}
-use Rattle.udt_model.specs.Events.{Send, Recv, Tick, Close, Measure, DidTick, DidClose, Event, event, at_moment, outs_of}
+use Rattle.udt_model.specs.Events.{Send, Recv, Tick, Close, Measure, DidTick, DidClose, Event, Reply, event, at_moment, outs_of}
 use Rattle.udt_model.specs.Calls.{send_in, recv_in}
 use Rattle.udt_model.specs.Ticks.{tick_in}
 use Rattle.udt_model.specs.History.{state_of, happened}
@@ -17,7 +17,7 @@ use Rattle.udt_model.specs.Network as model
 use Rattle.udt_model.specs.Rate.{Ways}
 use Rattle.udt_model.specs.Script.{from_host, event_at}
 use Rattle.udt_model.specs.Texts.{datagram_text, datagrams_text}
-use Rattle.udt_world.specs.Views.{Sight, sight_of_history, View, Shows, HasEvent}
+use Rattle.udt_world.specs.Views.{Sight, sight_of_history, View, Shows, HasEvent, Moves, Answers}
 
 -- ---- what calls emit and answer, whatever the phase
 
@@ -79,11 +79,11 @@ module _ {C : Type 0} (w : Ways C) where
       cc
 
   -- an event of the code's socket is one of the network's
-  pub event_shown : (n : model.Network C) (place : ℕ) (known : model.ScriptSocket C) (happens : Event) (old new : View C) (before after : List ℕ)
-      → Shows w n old → slice_get n.sockets place ≡ Some known → HasEvent w place happens old new before after
-      → Shows w (event_at w n place known happens).network new × (after ≡ before ++ (event_at w n place known happens).text)
+  pub moves_shown : (n : model.Network C) (place : ℕ) (known : model.ScriptSocket C) (happens : Event) (old new : View C)
+      → Shows w n old → slice_get n.sockets place ≡ Some known → Moves w place happens old new
+      → Shows w (event_at n place known happens).network new
   unfolding event_at
-  event_shown n place known happens old new before after shows there h =
+  moves_shown n place known happens old new shows there h =
       let same = shown_at n old place h.sight known shows h.found there in
       let state : h.sight.state ≡ state_of w known.history = ap (λ (s : Sight C). s.state) same in
       let host : h.sight.host ≡ known.host = ap (λ (s : Sight C). s.host) same in
@@ -92,11 +92,32 @@ module _ {C : Type 0} (w : Ways C) where
       let same_state = ap (λ (s : State C). (step w s happens).after) state ∙ sym next in
       let later : record h.sight { state = (step w h.sight.state happens).after }
       ≡ sight_of_history w (record known { history = happened w known.history 0 happens }) = rw (same_state, host, name) refl in
+      record {
+        sockets_are = rw (h.sockets, shows.sockets_are, later, map-set (sight_of_history w) n.sockets place (record known { history = happened w known.history 0 happens })) refl;
+        datagrams_are = rw (h.datagrams, shows.datagrams_are, state, host) refl;
+      }
+
+  -- and it answers what the network's socket answers
+  pub reply_shown : (n : model.Network C) (place : ℕ) (known : model.ScriptSocket C) (happens : Event) (reply : Reply) (old new : View C)
+      → Shows w n old → slice_get n.sockets place ≡ Some known → Answers w place happens reply old new
+      → reply ≡ (step w (state_of w known.history) happens).reply
+  reply_shown n place known happens reply old new shows there answers =
+      let same = shown_at n old place answers.moves.sight known shows answers.moves.found there in
+      answers.reply_is ∙ ap (λ (s : Sight C). (step w s.state happens).reply) same
+
+  -- and prints the same
+  pub event_shown : (n : model.Network C) (place : ℕ) (known : model.ScriptSocket C) (happens : Event) (old new : View C) (before after : List ℕ)
+      → Shows w n old → slice_get n.sockets place ≡ Some known → HasEvent w place happens old new before after
+      → Shows w (event_at n place known happens).network new × (after ≡ before ++ (event_at n place known happens).text)
+  unfolding event_at
+  event_shown n place known happens old new before after shows there h =
+      let same = shown_at n old place h.sight known shows h.found there in
+      let state : h.sight.state ≡ state_of w known.history = ap (λ (s : Sight C). s.state) same in
+      let host : h.sight.host ≡ known.host = ap (λ (s : Sight C). s.host) same in
+      let name : h.sight.name ≡ known.name = ap (λ (s : Sight C). s.name) same in
       let count : length old.datagrams ≡ length n.datagrams = ap length shows.datagrams_are in (
-        record {
-          sockets_are = rw (h.sockets, shows.sockets_are, later, map-set (sight_of_history w) n.sockets place (record known { history = happened w known.history 0 happens })) refl;
-          datagrams_are = rw (h.datagrams, shows.datagrams_are, state, host) refl;
-        },
+        moves_shown n place known happens old new shows there
+        (record { sight = h.sight; found = h.found; sockets = h.sockets; datagrams = h.datagrams }),
         rw (h.text, count, state, host, name) refl,
       )
 
