@@ -1,11 +1,16 @@
 -- The bytes that a generated run sends.
-use Rattle.std.proofs.Common.{◌≡◌, ℕ, zero, suc, ◌+◌, ◌-◌, ◌≤◌, List, [], ◌∷◌, ◌++◌, take, refl, ap, ◌∙◌, sym, arith}
+use Rattle.std.proofs.Common.{◌≡◌, ℕ, zero, suc, ◌+◌, ◌-◌, ◌≤◌, List, [], ◌∷◌, ◌++◌, length, take, refl, ap, ◌∙◌, sym, arith}
 use Rattle.std.specs.Prelude.{◌%◌, drop}
 use Rattle.udt_model.specs.Generated.{counted_bytes}
 
 pub no_bytes : (before : ℕ) → counted_bytes before 0 ≡ []
 unfolding counted_bytes
 no_bytes before = refl
+
+pub counted-length : (before count : ℕ) → length (counted_bytes before count) ≡ count
+unfolding counted_bytes
+counted-length before zero = refl
+counted-length before (suc count) = ap suc (counted-length (before + 1) count)
 
 -- one more byte comes last
 pub counted-push : (before count : ℕ) → counted_bytes before (suc count) ≡ counted_bytes before count ++ (before + count) % 251 ∷ []

@@ -81,7 +81,7 @@ module _ {C : Type 0} (w : Ways C) where
   -- an event of the code's socket is one of the network's
   pub moves_shown : (n : model.Network C) (place : ℕ) (known : model.ScriptSocket C) (happens : Event) (old new : View C)
       → Shows w n old → slice_get n.sockets place ≡ Some known → Moves w place happens old new
-      → Shows w (event_at n place known happens).network new
+      → Shows w (event_at w n place known happens).network new
   unfolding event_at
   moves_shown n place known happens old new shows there h =
       let same = shown_at n old place h.sight known shows h.found there in
@@ -108,7 +108,7 @@ module _ {C : Type 0} (w : Ways C) where
   -- and prints the same
   pub event_shown : (n : model.Network C) (place : ℕ) (known : model.ScriptSocket C) (happens : Event) (old new : View C) (before after : List ℕ)
       → Shows w n old → slice_get n.sockets place ≡ Some known → HasEvent w place happens old new before after
-      → Shows w (event_at n place known happens).network new × (after ≡ before ++ (event_at n place known happens).text)
+      → Shows w (event_at w n place known happens).network new × (after ≡ before ++ (event_at w n place known happens).text)
   unfolding event_at
   event_shown n place known happens old new before after shows there h =
       let same = shown_at n old place h.sight known shows h.found there in

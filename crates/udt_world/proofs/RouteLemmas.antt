@@ -47,7 +47,7 @@ bits_of_closed s = closed_by (can_read s) (can_write s) s.phase
 
 -- ---- routes
 
-not_zero : (id : ℕ) → 0 < id → eqb id 0 ≡ false
+pub not_zero : (id : ℕ) → 0 < id → eqb id 0 ≡ false
 not_zero id some = ne_eqb id 0 (λ e. absurd (omega (arith, e)))
 
 module _ {C : Type 0} (w : Ways C) where

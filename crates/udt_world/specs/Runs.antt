@@ -1,5 +1,6 @@
 -- A generated run as it lies in memory.
-use Rattle.std.specs.Prelude.{◌≡◌, ℕ, ◌*◌, ◌≤◌, List, [], ◌∷◌, length, codes, vec_len}
+use Rattle.std.specs.Prelude.{◌≡◌, ℕ, ◌*◌, ◌≤◌, List, [], ◌∷◌, length, codes, vec_len, Result, Ok, Err}
+use Rattle.udt_model.specs.declared.answers.Refusal.{Refusal}
 use Rattle.udt_model.specs.Generated as model
 use Rattle.udt_model.specs.Generated.{counted_bytes}
 use Rattle.udt_model.specs.History.{start_of, accepted, delivered}
@@ -8,6 +9,11 @@ use Rattle.udt_model.specs.Rate.{Ways}
 use Rattle.udt_world.specs.declared.generated.Run.{Run}
 use Rattle.udt_world.specs.declared.generated.TheConstants.{MOST_SENT, PATTERN}
 use Rattle.udt_world.specs.Views.{view_of, Shows}
+
+-- how many bytes an answer counts
+abbrev pub count_in : Result ℕ Refusal → ℕ
+count_in (Ok count) = count
+count_in (Err why) = 0
 
 -- two sockets, a and b, whose directions begin at 0: a accepted so many bytes, and b delivered so many
 pub record Counts {C : Type 0} (n : Network C) (sent received : ℕ) : Type 0 where
@@ -30,6 +36,7 @@ pub record IsRun {C : Type 0} (w : Ways C) (run : model.Run C) (code : Run C) : 
 pub record IsSet {C : Type 0} (code : Run C) : Type 0 where
   pub sockets : vec_len code.network.sockets ≡ 2
   pub pattern : code.pattern.items ≡ counted_bytes 0 PATTERN
+  pub length : vec_len code.pattern ≡ PATTERN
   pub room : vec_len code.room ≡ MOST_SENT
 
 -- at most so many bytes were counted each way

@@ -1,18 +1,18 @@
 // The generated run: a script of which draws decide what each turn does.
 
-ghost use Rattle.std.specs.Prelude.{◌≡◌, ℕ, ◌+◌, ◌*◌, ◌≤◌, ◌<◌, ◌^◌, codes, IfOk, OnOk};
+ghost use Rattle.std.specs.Prelude.{◌≡◌, ℕ, ◌+◌, ◌*◌, ◌≤◌, ◌<◌, ◌^◌, codes, length, vec_len, IfOk, OnOk};
 ghost use Rattle.udt_model.specs.Draws.{next_state, draw as drawn};
 ghost use Rattle.udt_model.specs.Events.{Pack, Recv, Tick};
 ghost use Rattle.udt_model.specs.Generated as model;
 ghost use Rattle.udt_model.specs.Generated.{after_call, after_delivery, after_sending, counted_bytes, generated, generated_summary, summary_of};
 ghost use Rattle.udt_model.specs.declared.limits.TheConstants.{LAST_MOMENT};
-ghost use Rattle.udt_world.specs.Runs.{IsBelow, IsRun, IsSet};
+ghost use Rattle.udt_world.specs.Runs.{count_in, IsBelow, IsRun, IsSet};
 ghost use Rattle.udt_world.specs.declared.generated.TheConstants.{MOST_SENT, PATTERN};
 
 use crate::deliveries::Route;
 use crate::network::{Act, Network};
 use std::alloc::{AllocError, Global};
-use udt_model::Summary;
+use udt_model::{Refusal, Summary};
 use udt_rate::Control;
 use udt_script::{Call, Pairing};
 
@@ -42,13 +42,35 @@ struct Run<C> {
 
 // The bytes of one round, and then of a send at most.
 fn pattern(alloc: Global) -> Result<Vec<u8>, AllocError>
-    ensures { IfOk result (λ bytes. bytes.items ≡ counted_bytes 0 PATTERN) }
+    ensures value { IfOk result (λ bytes. bytes.items ≡ counted_bytes 0 PATTERN) }
+    ensures length { IfOk result (λ bytes. vec_len bytes ≡ PATTERN) }
 {
     let mut bytes = Vec::with_capacity(alloc, PATTERN)?;
     for i in 0..PATTERN {
         bytes.push((i % CYCLE) as u8)?;
     }
     Ok(bytes)
+}
+
+// This many bytes of the pattern, after so many that were sent.
+fn after(pattern: &[u8], sent: u64, count: usize) -> &[u8]
+    requires value { pattern.now ≡ counted_bytes 0 PATTERN }
+    requires length { length pattern.now ≡ PATTERN }
+    requires few { count ≤ MOST_SENT }
+    ensures { result.now ≡ counted_bytes sent count }
+{
+    let start = (sent % CYCLE as u64) as usize;
+    &pattern[start..start + count]
+}
+
+// How many bytes an answer counts.
+fn counted(answer: Result<usize, Refusal>) -> u64
+    ensures { result ≡ count_in answer }
+{
+    match answer {
+        Ok(count) => count as u64,
+        Err(_) => 0,
+    }
 }
 
 // The number of the datagram that is delivered of so many: one of the newest, or any.
@@ -121,11 +143,9 @@ impl<C: Control> Run<C> {
         ensures below { (most : ℕ) → IsBelow self.old most → IsBelow self.new (most + MOST_SENT) }
     {
         let count = 1 + (self.draw() % MOST_SENT as u64) as usize;
-        let start = (self.accepted % CYCLE as u64) as usize;
-        let bytes = &self.pattern[start..start + count];
-        if let Ok(taken) = self.network.send(0, now, bytes) {
-            self.accepted += taken as u64;
-        }
+        let bytes = after(&self.pattern, self.accepted, count);
+        let answer = self.network.send(0, now, bytes);
+        self.accepted += counted(answer);
     }
 
     // The socket b receives.
@@ -137,9 +157,8 @@ impl<C: Control> Run<C> {
         ensures set { IsSet self.new }
         ensures below { (most : ℕ) → IsBelow self.old most → IsBelow self.new (most + MOST_SENT) }
     {
-        if let Ok(given) = self.network.recv(1, now, &mut self.room) {
-            self.delivered += given as u64;
-        }
+        let answer = self.network.recv(1, now, &mut self.room);
+        self.delivered += counted(answer);
     }
 
     // The socket a packs.
@@ -147,8 +166,8 @@ impl<C: Control> Run<C> {
         requires { IsSet self.old }
         ensures run { OnOk result ((run : model.Run C) → IsRun C.ways run self.old → IsRun C.ways
             (record run { network = after_call C.ways run.network (codes "a") now Pack }) self.new) }
-        ensures set { IsSet self.new }
-        ensures below { (most : ℕ) → IsBelow self.old most → IsBelow self.new most }
+        ensures set { OnOk result (IsSet self.new) }
+        ensures below { OnOk result ((most : ℕ) → IsBelow self.old most → IsBelow self.new most) }
     {
         self.network.move_on(0, now, &Act::Call(&Call::Pack))
     }
@@ -161,8 +180,8 @@ impl<C: Control> Run<C> {
               network = after_call C.ways
                   (after_call C.ways run.network (codes "a") now Tick) (codes "b") now Tick;
             }) self.new) }
-        ensures set { IsSet self.new }
-        ensures below { (most : ℕ) → IsBelow self.old most → IsBelow self.new most }
+        ensures set { OnOk result (IsSet self.new) }
+        ensures below { OnOk result ((most : ℕ) → IsBelow self.old most → IsBelow self.new most) }
     {
         self.network.move_on(0, now, &Act::Call(&Call::Tick))?;
         self.network.move_on(1, now, &Act::Call(&Call::Tick))
@@ -173,15 +192,15 @@ impl<C: Control> Run<C> {
         requires { IsSet self.old }
         ensures run { OnOk result ((run : model.Run C) → IsRun C.ways run self.old
             → IsRun C.ways (after_delivery C.ways run now kind) self.new) }
-        ensures set { IsSet self.new }
-        ensures below { (most : ℕ) → IsBelow self.old most → IsBelow self.new most }
+        ensures set { OnOk result (IsSet self.new) }
+        ensures below { OnOk result ((most : ℕ) → IsBelow self.old most → IsBelow self.new most) }
     {
         let count = self.network.datagrams.len() as u64;
         if count == 0 {
             return Ok(());
         }
         let number = delivered_number(kind, self.draw(), count) as usize;
-        match self.network.route(&self.network.datagrams[number]) {
+        match self.network.route_of(number) {
             Route::To(place) => self.network.hear(place, number, now),
             Route::Nowhere(_) => Ok(()),
         }
@@ -194,23 +213,26 @@ impl<C: Control> Run<C> {
         requires delivered { self.old.delivered + MOST_SENT < 2 ^ 64 }
         ensures run { OnOk result ((run : model.Run C) → IsRun C.ways run self.old
             → IsRun C.ways (model.turn C.ways run now) self.new) }
-        ensures set { IsSet self.new }
-        ensures below { (most : ℕ) → IsBelow self.old most → IsBelow self.new (most + MOST_SENT) }
+        ensures set { OnOk result (IsSet self.new) }
+        ensures below { OnOk result ((most : ℕ) → IsBelow self.old most
+            → IsBelow self.new (most + MOST_SENT)) }
     {
         let kind = self.draw() % 8;
-        match kind {
-            0 => {
-                self.send(now);
-                Ok(())
-            }
-            1 => {
-                self.recv(now);
-                Ok(())
-            }
-            2 | 3 => self.pack(now),
-            4 => self.tick(now),
-            _ => self.deliver(now, kind),
+        if kind == 0 {
+            self.send(now);
+            return Ok(());
         }
+        if kind == 1 {
+            self.recv(now);
+            return Ok(());
+        }
+        if kind < 4 {
+            return self.pack(now);
+        }
+        if kind == 4 {
+            return self.tick(now);
+        }
+        self.deliver(now, kind)
     }
 
     // What is told of the run.

@@ -6,8 +6,10 @@ ghost use Rattle.udt_model.specs.Events.{Arrive, Send, Sent, Recv, Received, eve
 ghost use Rattle.udt_model.specs.Network as model;
 ghost use Rattle.udt_model.specs.Script.{from_host};
 ghost use Rattle.udt_script.specs.CodeLines.{datagram_of};
-ghost use Rattle.udt_world.specs.Views.{view_of, event_of, Answers, Moves};
+ghost use Rattle.udt_world.specs.Done.{IsRoute};
+ghost use Rattle.udt_world.specs.Views.{view_of, event_of, Answers, Moves, Shows};
 
+use crate::deliveries::Route;
 use crate::network::{Act, Network, happen, room};
 use std::alloc::{AllocError, Global};
 use udt_core::Outs;
@@ -68,6 +70,18 @@ impl<C: Control> Network<C> {
         keep(self.alloc, &mut self.datagrams, host, &outs)?;
         self.outs = Some(outs);
         Ok(())
+    }
+
+    /// The route of the datagram with this number.
+    pub fn route_of(&self, number: usize) -> Route
+        requires { number < vec_len self.now.datagrams }
+        ensures value { (n : model.Network C) (datagram : model.ScriptDatagram)
+            → Shows C.ways n (view_of self.now)
+            → slice_get (view_of self.now).datagrams number ≡ Some datagram
+            → IsRoute C.ways n datagram result }
+        ensures within { (place : ℕ) → result ≡ Route.To place → place < vec_len self.now.sockets }
+    {
+        self.route(&self.datagrams[number])
     }
 
     /// The arrival of the datagram with this number at the socket at this place.
