@@ -117,7 +117,7 @@ module _ {C : Type 0} (w : Ways C) where
       let name : h.sight.name ≡ known.name = ap (λ (s : Sight C). s.name) same in
       let count : length old.datagrams ≡ length n.datagrams = ap length shows.datagrams_are in (
         moves_shown n place known happens old new shows there
-        (record { sight = h.sight; found = h.found; sockets = h.sockets; datagrams = h.datagrams }),
+            (record { sight = h.sight; found = h.found; sockets = h.sockets; datagrams = h.datagrams }),
         rw (h.text, count, state, host, name) refl,
       )
 

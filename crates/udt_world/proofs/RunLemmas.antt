@@ -1,6 +1,6 @@
 -- What the turns of a generated run do.
-use Rattle.std.proofs.Common.{◌≡◌, ℕ, zero, suc, ◌+◌, ◌-◌, ◌≤◌, ◌<◌, Bool, true, false, not, eqb, ◌*◌, List, [], ◌∷◌, ◌++◌, length, map, take, Some, None, Option, refl, ap, ◌∙◌, sym, arith}
-use Rattle.std.specs.Prelude.{slice_get, slice_set, codes, Result, Ok, Err, IfOk, nat_lt, ◌%◌, vec_len}
+use Rattle.std.proofs.Common.{◌≡◌, ℕ, zero, suc, ◌+◌, ◌-◌, ◌≤◌, ◌<◌, Bool, true, false, eqb, ◌*◌, List, [], ◌++◌, length, Some, refl, ap, ◌∙◌, sym, arith}
+use Rattle.std.specs.Prelude.{slice_get, codes, Result, Ok, Err, IfOk, nat_lt, ◌%◌, vec_len}
 use Rattle.std.proofs.lemmas.Bool.{le-ltb, lt-ltb, ne_eqb}
 use Rattle.std.proofs.lemmas.List.{append-nil, length-append, length-map, length-take-le, length-set}
 use Rattle.std.proofs.lemmas.Option.{same_Some, slice_get-map}
@@ -15,7 +15,7 @@ use Rattle.udt_model.specs.Calls.{send_in, taken_as}
 use Rattle.udt_model.specs.Draws.{next_state, draw}
 use Rattle.udt_model.specs.Events.{Act, Send, Recv, Pack, Tick, Arrive, Measure, Event, Reply, Sent, Received, DidMeasure, event, at_moment}
 use Rattle.udt_model.specs.Generated.{Run, after_call, after_sending, after_delivery, accepted_of, counted_bytes, delivered_number, generated_pair, generated, summary_of, turn}
-use Rattle.udt_model.specs.History.{History, Item, state_of, happened, start_of, accepted, delivered, accepted_by, delivered_by, taken_by, given_by}
+use Rattle.udt_model.specs.History.{History, state_of, happened, start_of, accepted, delivered, accepted_by, delivered_by, taken_by, given_by}
 use Rattle.udt_model.specs.Network.{Network, ScriptSocket, empty_network, place_of}
 use Rattle.udt_model.specs.Network as model
 use Rattle.udt_model.specs.Opening.{opening}

@@ -1,5 +1,5 @@
 -- A generated run as it lies in memory.
-use Rattle.std.specs.Prelude.{◌≡◌, ℕ, ◌*◌, ◌≤◌, List, [], ◌∷◌, length, codes, vec_len, Result, Ok, Err}
+use Rattle.std.specs.Prelude.{◌≡◌, ℕ, ◌≤◌, [], ◌∷◌, length, codes, vec_len, Result, Ok, Err}
 use Rattle.udt_model.specs.declared.answers.Refusal.{Refusal}
 use Rattle.udt_model.specs.Generated as model
 use Rattle.udt_model.specs.Generated.{counted_bytes}

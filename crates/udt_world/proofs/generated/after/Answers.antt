@@ -1,4 +1,4 @@
-use Rattle.std.proofs.Common.{◌≡◌, ◌+◌, ◌-◌, ◌≤◌, ◌∙◌, refl, arith}
+use Rattle.std.proofs.Common.{◌≡◌, ◌+◌, ◌-◌, arith}
 use Rattle.std.specs.Prelude.{◌%◌}
 use Rattle.udt_world.proofs.CountedLemmas.{counted_in}
 use Rattle.udt_world.proofs.generated.after.Goals as goal

@@ -1,4 +1,4 @@
-use Rattle.std.proofs.Common.{◌++◌, map, refl, sym, append_assoc}
+use Rattle.std.proofs.Common.{map, refl, sym, append_assoc}
 use Rattle.std.proofs.lemmas.List.{append-nil, map-append}
 use Rattle.udt_model.specs.State.{Datagram}
 use Rattle.udt_script.specs.CodeLines.{datagram_of}

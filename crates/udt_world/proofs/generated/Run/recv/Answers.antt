@@ -1,4 +1,4 @@
-use Rattle.std.proofs.Common.{◌≡◌, length, refl, sym, ◌∙◌, arith}
+use Rattle.std.proofs.Common.{◌≡◌, length, refl, sym, ◌∙◌}
 use Rattle.udt_world.proofs.RunLemmas.{run_received}
 use Rattle.udt_world.proofs.generated.Run.recv.Goals as goal
 

@@ -1,4 +1,4 @@
-use Rattle.std.proofs.Common.{length, refl, ◌∙◌, arith}
+use Rattle.std.proofs.Common.{length, refl, arith}
 use Rattle.std.proofs.lemmas.Option.{slice_get_read}
 use Rattle.udt_world.proofs.RunLemmas.{summary_is}
 use Rattle.udt_world.proofs.generated.Run.summary.Goals as goal
