@@ -10,7 +10,7 @@ use Rattle.udt_model.specs.Controls.{fixed, additive}
 use Rattle.udt_model.specs.Rate.{native}
 use Rattle.udt_model.specs.Script.{played, played_from, pieces_of}
 use Rattle.udt_tool.specs.Streamed.{Reads, ReadsSome, ReadsMore, ReadsScript, Wrote, WrotePart}
-use Rattle.udt_tool.specs.Commands.{Outcome, replayed, replays, always, is_early, IsAmong, IsStatus, IsFaultless, HasStatus, HasText, BreaksOffThere, ReadsThere, Streams, Runs, Prints}
+use Rattle.udt_tool.specs.Commands.{Outcome, replayed, replays, always, is_early, IsAmong, IsStatus, IsFaultless, BreaksOffThere, ReadsThere, Streams, Runs, Prints}
 use Rattle.udt_tool.specs.declared.offline.TheConstants.{DONE, NO_COMMAND, REFUSED, SOURCE_FAILED, SINK_FAILED, OUT_OF_MEMORY}
 use Rattle.udt_outside.specs.Faults.{Rose}
 use Rattle.udt_tool.proofs.Streaming.{ReadTo, nothing_read}

@@ -1,6 +1,6 @@
 -- What a script plays tells it.
-use Rattle.std.proofs.Common.{◌≡◌, ◌∙◌, ℕ, ◌+◌, ◌<◌, ◌≤◌, ◌^◌, List, [], ◌∷◌, ◌++◌, length, map, take, refl, sym, ap, subst, arith, true, false, Bool, Option, Some, None, append_assoc, append-nil}
-use Rattle.std.specs.Prelude.{IfSome, nat_le, not, ◌==◌, if◌then◌else◌}
+use Rattle.std.proofs.Common.{◌≡◌, ◌∙◌, ℕ, ◌+◌, ◌≤◌, List, [], ◌∷◌, ◌++◌, length, map, take, refl, sym, ap, subst, arith, true, false, Bool, Option, Some, None, append_assoc, append-nil}
+use Rattle.std.specs.Prelude.{nat_le, not, ◌==◌, if◌then◌else◌}
 use Rattle.std.specs.List.{flat_map, prefix_len}
 use Rattle.std.proofs.lemmas.List.{length-append, length-take}
 use Rattle.std.proofs.lemmas.Grind.{common_steps}
@@ -10,7 +10,7 @@ use Rattle.udt_model.specs.declared.scripts.ControlName.TheVariants.{Native, Fix
 use Rattle.udt_model.specs.Controls.{fixed, additive}
 use Rattle.udt_model.specs.Rate.{Ways, native}
 use Rattle.udt_model.specs.Script.{Played, pieces_of, line_in, played, played_with, played_from, then_played, refused_at, piece_printed, printed_after, size_of}
-use Rattle.udt_world.specs.Transcripts.{Entry, entry_text, lines_in, AreInStep}
+use Rattle.udt_world.specs.Transcripts.{Entry, entry_text, lines_in}
 use Rattle.udt_world.proofs.TranscriptLemmas.{Transcript, More, no_transcript, one-told, in-step}
 use Rattle.udt_world.proofs.WorldLemmas.{few_lines}
 use Rattle.udt_tool.specs.Commands.{replayed, replays, done_of, outcome_of, is_replaying, is_replay, is_early, Streams, Runs, HasStatus, HasText}
@@ -18,7 +18,7 @@ use Rattle.udt_words.specs.declared.order.Order.{Order}
 use Rattle.udt_words.specs.declared.order.Order.TheVariants as order
 use Rattle.udt_words.specs.Table.{order_of}
 use Rattle.udt_tool.specs.declared.offline.TheConstants.{DONE, REFUSED}
-use Rattle.udt_tool.specs.Told.{lines_of, TellsScript, WroteTold, PlaysInStep}
+use Rattle.udt_tool.specs.Told.{TellsScript, WroteTold, PlaysInStep}
 use Rattle.udt_tool.proofs.Progress.{fits, plays_on, plays_none}
 
 -- a line is no longer than its piece
