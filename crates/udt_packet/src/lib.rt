@@ -17,7 +17,7 @@ pub use packet::Packet;
 pub use ranges::{NakRanges, append_range, put_range};
 pub use reading::{read, target};
 pub use udt_model::{AckBody, Config, Flags, Kind, Malformed, Shake};
-pub use writing::{append, put_nak_header, size, write};
+pub use writing::{append, put_nak_header, size, write, write_block};
 
 #[cfg(test)]
 mod tests;

@@ -1,6 +1,6 @@
 // From packets to bytes.
 
-ghost use Rattle.std.specs.Prelude.{◌≡◌, ◌≤◌, ◌++◌, length, drop};
+ghost use Rattle.std.specs.Prelude.{◌≡◌, ◌+◌, ◌^◌, ◌<◌, ◌≤◌, ◌++◌, length, drop};
 ghost use Rattle.std.specs.Vec.{vec_capacity};
 ghost use Rattle.udt_model.specs.Wire as wire;
 ghost use Rattle.udt_packet.specs.Packets.{packet_of, spelled, IsWritable};
@@ -9,7 +9,7 @@ use crate::flags::flags_word;
 use crate::packet::Packet;
 use crate::short::short_field;
 use crate::words::{HEADER, extend, four, put};
-use udt_model::{AckBody, Shake};
+use udt_model::{AckBody, Flags, Shake};
 
 /// The first bit of a control packet.
 const CONTROL: u32 = 1 << 31;
@@ -103,6 +103,29 @@ pub fn write(packet: &Packet, into: &mut [u8]) -> usize
         Packet::Nak { ranges, .. } => ranges.put(into, place),
         _ => put(into, place, short_field(packet).as_slice()),
     }
+}
+
+/// Writes the packet of a block at the front of `into`, and answers its size: as `write` does of a
+/// block, without looking at what kind of packet it is.
+#[inline]
+#[tactic(auto, unfolding(udt_model::specs::Wire::spelling))]
+pub fn write_block(
+    seq: u32,
+    flags: Flags,
+    stamp: u32,
+    dest: u32,
+    bytes: &[u8],
+    into: &mut [u8],
+) -> usize
+    requires number { seq < 2 ^ 31 }
+    requires message { flags.message < 2 ^ 29 }
+    requires fits { 16 + length bytes.now ≤ length into.old }
+    ensures value { result ≡ 16 + length bytes.now }
+    ensures after { into.new
+        ≡ wire.spelling (wire.Block seq flags stamp dest bytes.now) ++ drop result into.old }
+{
+    let place = put(into, 0, &four(seq, flags_word(flags), stamp, dest));
+    put(into, place, bytes)
 }
 
 /// Writes the four words that a NAK begins with at the front of `into`, and answers the place after
