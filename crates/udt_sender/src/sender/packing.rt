@@ -12,13 +12,14 @@ use super::Sender;
 use crate::control::period_of;
 use std::marker::Model;
 use udt_model::{PROBE_INTERVAL, Packed};
-use udt_packet::{Packet, seq_of, write};
+use udt_packet::{seq_of, write_block};
 use udt_rate::Control;
 use udt_snd_buffer::{Block, SndBuffer};
 
 // Writes the packet of a kept block at the front of `into`, and answers its size. Where none is
 // kept, nothing is written.
-fn write_block(
+#[inline(always)]
+fn write_kept(
     buffer: &SndBuffer,
     isn: u32,
     offset: u64,
@@ -37,14 +38,7 @@ fn write_block(
     match buffer.block(offset) {
         None => 0,
         Some(Block { bytes, flags, .. }) => {
-            let packet = Packet::Block {
-                seq: seq_of(isn, offset),
-                flags,
-                stamp,
-                dest,
-                bytes,
-            };
-            write(&packet, into)
+            write_block(seq_of(isn, offset), flags, stamp, dest, bytes, into)
         }
     }
 }
@@ -129,7 +123,7 @@ impl<C: Control> Sender<C> {
         let Some(offset) = self.loss.take_first() else {
             return Packed::Nothing;
         };
-        let size = write_block(&self.buffer, self.isn, offset, stamp, dest, into);
+        let size = write_kept(&self.buffer, self.isn, offset, stamp, dest, into);
         self.due = due_after(seq_of(self.isn, offset), now, period_of(&self.control));
         Packed::Block(size)
     }
@@ -149,7 +143,7 @@ impl<C: Control> Sender<C> {
         if !self.may_send() {
             return Packed::Nothing;
         }
-        let size = write_block(&self.buffer, self.isn, self.next, stamp, dest, into);
+        let size = write_kept(&self.buffer, self.isn, self.next, stamp, dest, into);
         self.due = due_after(seq_of(self.isn, self.next), now, period_of(&self.control));
         self.next += 1;
         Packed::Block(size)

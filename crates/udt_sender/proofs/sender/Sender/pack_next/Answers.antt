@@ -4,16 +4,16 @@ use Rattle.udt_model.specs.SendBlocks.{end_of}
 use Rattle.udt_ranges.proofs.OffsetLemmas.{Rising-higher}
 use Rattle.udt_sender.proofs.BlockLemmas.{kept_is, found_sound}
 use Rattle.udt_sender.proofs.sender.Sender.pack_next.Goals as goal
-use Rattle.udt_sender.proofs.sender.Sender.pack_next.Goals.{After-write_block-size}
+use Rattle.udt_sender.proofs.sender.Sender.pack_next.Goals.{After-write_kept-size}
 
-unsent : (g : _) (c : After-write_block-size g) → c.self.inside.next < end_of c.self.inside.buffer
+unsent : (g : _) (c : After-write_kept-size g) → c.self.inside.next < end_of c.self.inside.buffer
 unsent g c = rw (← c.self.view_is) at (c.if-not-may_send.ensures.kept refl)
 
 pub invariant_of-self : goal.invariant_of-self
 invariant_of-self g c =
     let i = c.self.invariant in
     let s = c.self.inside in
-    let here = unsent g (goal.at.invariant_of-self g c).After-write_block-size in
+    let here = unsent g (goal.at.invariant_of-self g c).After-write_kept-size in
     record {
       isn = i.isn;
       payload = i.payload;
@@ -39,7 +39,7 @@ pub returns-clause-size : goal.returns-clause-size
 returns-clause-size g c =
     let i = c.self.invariant in
     let s = c.self.inside in
-    let block = kept_is s.buffer s.next i.sent (unsent g (goal.at.returns-clause-size g c).After-write_block-size) in
+    let block = kept_is s.buffer s.next i.sent (unsent g (goal.at.returns-clause-size g c).After-write_kept-size) in
     let sound = found_sound s.buffer.payload s.buffer s.next block.0 i.sound block.1 in
-    let size = c.write_block-size.ensures.value block.0 block.1 in
+    let size = c.write_kept-size.ensures.value block.0 block.1 in
     rw (← c.self.view_is) (omega (arith, size, sound.some), omega (arith, size, sound.fits))
