@@ -1,11 +1,11 @@
 //! Blocks from one socket to another, in memory.
 ghost use Rattle.std.specs.Prelude.{◌≡◌, ◌≤◌, ◌<◌};
 
-use std::alloc::Global;
+use std::alloc::{AllocError, Global};
 use std::io;
-use udt_core::{Control, OpenNo, Outs, Packed, Peer, Socket};
+use udt_core::{Outs, Packed, Peer, Socket};
 use udt_model::{Addr, Config, Ip, Kind};
-use udt_rate::Native;
+use udt_rate::{Control, Native};
 
 // The bytes of a block.
 const BLOCK: u32 = 1_456;
@@ -29,8 +29,39 @@ const THERE: Addr = Addr {
     port: 9000,
 };
 
+// What two sockets emit: one there, the other back, and the first one again.
+#[derive(Drop)]
+struct Wires {
+    there: Outs,
+    back: Outs,
+    again: Outs,
+}
+
+// The bytes that one is given, and room for those that the other gives.
+#[derive(Drop)]
+struct Pieces {
+    given: Vec<u8>,
+    into: Vec<u8>,
+}
+
+// Two sockets, and what went from one to the other.
+#[derive(Drop)]
+struct Pair<C> {
+    a: Socket<C>,
+    b: Socket<C>,
+    wires: Wires,
+    pieces: Pieces,
+    pushed: u32,
+    came: u64,
+}
+
 // One of two sockets, the other of which has this address and ID.
-fn open(alloc: Global, own: u32, addr: Addr, id: u32) -> Result<Socket<Native>, OpenNo> {
+fn open<C: Control + Drop>(
+    alloc: Global,
+    own: u32,
+    addr: Addr,
+    id: u32,
+) -> Result<Socket<C>, AllocError> {
     let config = Config {
         kind: Kind::Stream,
         payload: BLOCK,
@@ -44,75 +75,135 @@ fn open(alloc: Global, own: u32, addr: Addr, id: u32) -> Result<Socket<Native>, 
         payload: BLOCK,
         flow: BLOCKS,
     };
-    Socket::paired(alloc, own, config, peer, 0)
+    Socket::paired(alloc, own, config, peer, 0).map_err(|_| AllocError)
+}
+
+// Room for what an event emits.
+fn outs(alloc: Global) -> Result<Outs, AllocError> {
+    Outs::new(alloc).map_err(|_| AllocError)
+}
+
+fn open_wires(alloc: Global) -> Result<Wires, AllocError> {
+    let there = outs(alloc)?;
+    let back = outs(alloc)?;
+    let again = outs(alloc)?;
+    Ok(Wires { there, back, again })
+}
+
+fn open_pieces(alloc: Global) -> Result<Pieces, AllocError> {
+    let given = vec![in alloc; 7; PIECE]?;
+    let into = vec![in alloc; 0; PIECE]?;
+    Ok(Pieces { given, into })
+}
+
+fn open_pair<C: Control + Drop>(alloc: Global) -> Result<Pair<C>, AllocError> {
+    let wires = open_wires(alloc)?;
+    let pieces = open_pieces(alloc)?;
+    let a = open(alloc, 1, THERE, 2)?;
+    let b = open(alloc, 2, HERE, 1)?;
+    Ok(Pair {
+        a,
+        b,
+        wires,
+        pieces,
+        pushed: 0,
+        came: 0,
+    })
 }
 
 // Gives a socket all datagrams that the other emitted.
-fn deliver<C: Control>(outs: &Outs, to: &mut Socket<C>, from: Addr, now: u64, answers: &mut Outs) {
+fn deliver<C: Control>(
+    outs: &Outs,
+    to: &mut Socket<C>,
+    from: Addr,
+    now: u64,
+    answers: &mut Outs,
+) {
     for i in 0..outs.len() {
         let (_, bytes) = outs.get(i);
         let _ = to.arrive(now, from, bytes, answers);
     }
 }
 
-// What one socket emits, and what it emits in answer.
-#[derive(Drop)]
-struct Wires {
-    there: Outs,
-    back: Outs,
-    again: Outs,
-}
+impl<C: Control> Pair<C> {
+    // One is given bytes.
+    fn send(&mut self, now: u64) {
+        let _ = self.a.send(now, &self.pieces.given);
+    }
 
-// Takes the next packet to the other socket, and what that one answers back. Says whether a packet left.
-fn push(a: &mut Socket<Native>, b: &mut Socket<Native>, now: u64, wires: &mut Wires) -> bool {
-    let Packed::Block(_) = a.pack(now, &mut wires.there) else {
-        return false;
-    };
-    deliver(&wires.there, b, HERE, now, &mut wires.back);
-    deliver(&wires.back, a, THERE, now, &mut wires.again);
-    true
-}
-
-// The timers of both, and the ACK2 of an ACK.
-fn tick(a: &mut Socket<Native>, b: &mut Socket<Native>, now: u64, wires: &mut Wires) {
-    a.tick(now, &mut wires.there);
-    deliver(&wires.there, b, HERE, now, &mut wires.again);
-    b.tick(now, &mut wires.back);
-    deliver(&wires.back, a, THERE, now, &mut wires.there);
-    deliver(&wires.there, b, HERE, now, &mut wires.again);
-}
-
-/// Pushes this many blocks from one socket to another, and prints how many bytes came.
-pub fn bench_socket<R: Print>(rt: &R, alloc: Global, packets: u32) -> io::Result<()> {
-    let (Ok(mut a), Ok(mut b)) = (open(alloc, 1, THERE, 2), open(alloc, 2, HERE, 1)) else {
-        return Ok(());
-    };
-    let (Ok(there), Ok(back), Ok(again)) = (Outs::new(alloc), Outs::new(alloc), Outs::new(alloc))
-    else {
-        return Ok(());
-    };
-    let mut wires = Wires { there, back, again };
-    let (Ok(bytes), Ok(mut into)) = (vec![in alloc; 7; PIECE], vec![in alloc; 0; PIECE]) else {
-        return Ok(());
-    };
-    let mut pushed: u32 = 0;
-    let mut came: u64 = 0;
-    for turn in 0..4 * packets as u64 {
-        let now = turn * STEP;
-        if pushed == packets {
-            break;
-        }
-        if turn % 32 == 0 {
-            let _ = a.send(now, &bytes);
-            came = came.saturating_add(b.recv(now, &mut into).unwrap_or(0) as u64);
-        }
-        if turn % 5_000 == 0 {
-            tick(&mut a, &mut b, now, &mut wires);
-        }
-        if push(&mut a, &mut b, now, &mut wires) {
-            pushed = pushed.saturating_add(1);
+    // The other gives bytes.
+    fn recv(&mut self, now: u64) {
+        if let Ok(count) = self.b.recv(now, &mut self.pieces.into) {
+            self.came = self.came.saturating_add(count as u64);
         }
     }
+
+    // Has the next packet written, and says whether one leaves.
+    fn pack(&mut self, now: u64) -> bool {
+        match self.a.pack(now, &mut self.wires.there) {
+            Packed::Block(_) => true,
+            _ => false,
+        }
+    }
+
+    // Takes what one emitted to the other, and what that one answers back.
+    fn carry(&mut self, now: u64) {
+        deliver(&self.wires.there, &mut self.b, HERE, now, &mut self.wires.back);
+        deliver(&self.wires.back, &mut self.a, THERE, now, &mut self.wires.again);
+    }
+
+    // The timers of one, and what it emits then.
+    fn tick_first(&mut self, now: u64) {
+        self.a.tick(now, &mut self.wires.there);
+        deliver(&self.wires.there, &mut self.b, HERE, now, &mut self.wires.again);
+    }
+
+    // The timers of the other, and the ACK2 of its ACK.
+    fn tick_second(&mut self, now: u64) {
+        self.b.tick(now, &mut self.wires.back);
+        deliver(&self.wires.back, &mut self.a, THERE, now, &mut self.wires.there);
+        deliver(&self.wires.there, &mut self.b, HERE, now, &mut self.wires.again);
+    }
+
+    // What is done in a turn: the calls of the applications now and then, the timers, and a packet.
+    fn turn(&mut self, turn: u64) {
+        let now = turn.saturating_mul(STEP);
+        if turn % 32 == 0 {
+            self.send(now);
+            self.recv(now);
+        }
+        if turn % 5_000 == 0 {
+            self.tick_first(now);
+            self.tick_second(now);
+        }
+        if self.pack(now) {
+            self.carry(now);
+            self.pushed = self.pushed.saturating_add(1);
+        }
+    }
+}
+
+// Pushes this many blocks from one to the other.
+fn run<C: Control>(pair: &mut Pair<C>, packets: u32) {
+    for turn in 0..4 * packets as u64 {
+        if pair.pushed == packets {
+            break;
+        }
+        pair.turn(turn);
+    }
+}
+
+// Pushes this many blocks from one socket to another. How many left, and how many bytes came.
+fn push_blocks<C: Control + Drop>(alloc: Global, packets: u32) -> Result<(u32, u64), AllocError> {
+    let mut pair = open_pair::<C>(alloc)?;
+    run(&mut pair, packets);
+    Ok((pair.pushed, pair.came))
+}
+
+/// Pushes this many blocks from one socket with the native control to another, and prints how many
+/// bytes came.
+pub fn bench_socket<R: Print>(rt: &R, alloc: Global, packets: u32) -> io::Result<()> {
+    let (pushed, came) = push_blocks::<Native>(alloc, packets)?;
     println!(rt; "{pushed} packets, {came} bytes received")?;
     Ok(())
 }

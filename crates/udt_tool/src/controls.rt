@@ -8,7 +8,7 @@ ghost use Rattle.udt_tool.specs.Plays.{played_of};
 ghost use Rattle.udt_words.specs.declared.limits.TheConstants.{MOST_WORLD_TURNS};
 
 use crate::play::{Output, play};
-use std::alloc::{AllocError, Global};
+use std::alloc::Global;
 use udt_controls::{Aimd, Fixed};
 use udt_model::{ControlName, FIXED_PERIOD, Summary};
 use udt_outside::OutOfMemory;
@@ -37,7 +37,7 @@ pub fn generate_under(
     control: ControlName,
     n: u64,
     turns: u64,
-) -> Result<Summary, AllocError>
+) -> Result<Summary, udt_world::OutOfMemory>
     requires { turns ≤ MOST_WORLD_TURNS }
     ensures { IfOk result (λ summary. summary ≡ generated_by control n turns) }
 {

@@ -12,6 +12,7 @@ ghost use Rattle.udt_world.specs.declared.generated.TheConstants.{MOST_SENT, PAT
 use crate::deliveries::Route;
 use crate::network::{Act, Network};
 use std::alloc::{AllocError, Global};
+use udt_core::OutOfMemory;
 use udt_model::{Refusal, Summary};
 use udt_rate::Control;
 use udt_script::{Call, Pairing};
@@ -251,7 +252,11 @@ impl<C: Control> Run<C> {
 
 /// What is told of the run of this number after so many turns, 50 microseconds apart. It prints nothing,
 /// and fails only where memory runs out.
-pub fn generate<C: Control + Drop>(alloc: Global, n: u64, turns: u64) -> Result<Summary, AllocError>
+pub fn generate<C: Control + Drop>(
+    alloc: Global,
+    n: u64,
+    turns: u64,
+) -> Result<Summary, OutOfMemory>
     requires { 50 * turns ≤ LAST_MOMENT }
     ensures { IfOk result (λ summary. summary ≡ generated_summary C.ways n turns) }
 {

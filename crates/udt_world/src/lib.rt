@@ -14,4 +14,5 @@ mod tests;
 mod world;
 
 pub use generated::generate;
+pub use udt_core::OutOfMemory;
 pub use world::{LineNo, World};
