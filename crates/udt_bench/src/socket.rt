@@ -16,8 +16,14 @@ const BLOCKS: u32 = 8_192;
 // The microseconds from one packet to the next.
 const STEP: u64 = 2;
 
-// This many bytes are given to a send, and wanted of a receive.
-const PIECE: usize = 65_536;
+// The microseconds that pass where nothing may leave: the time of an ACK.
+const PAUSE: u64 = 10_000;
+
+// This many blocks are given to a send, and as much is wanted of a receive.
+const PIECE_BLOCKS: u32 = 32;
+
+// Their bytes.
+const PIECE: usize = 46_592;
 
 const HERE: Addr = Addr {
     ip: Ip::V4(167_772_161),
@@ -51,6 +57,7 @@ struct Pair<C> {
     b: Socket<C>,
     wires: Wires,
     pieces: Pieces,
+    now: u64,
     pushed: u32,
     came: u64,
 }
@@ -106,19 +113,14 @@ fn open_pair<C: Control + Drop>(alloc: Global) -> Result<Pair<C>, AllocError> {
         b,
         wires,
         pieces,
+        now: 0,
         pushed: 0,
         came: 0,
     })
 }
 
 // Gives a socket all datagrams that the other emitted.
-fn deliver<C: Control>(
-    outs: &Outs,
-    to: &mut Socket<C>,
-    from: Addr,
-    now: u64,
-    answers: &mut Outs,
-) {
+fn deliver<C: Control>(outs: &Outs, to: &mut Socket<C>, from: Addr, now: u64, answers: &mut Outs) {
     for i in 0..outs.len() {
         let (_, bytes) = outs.get(i);
         let _ = to.arrive(now, from, bytes, answers);
@@ -127,69 +129,73 @@ fn deliver<C: Control>(
 
 impl<C: Control> Pair<C> {
     // One is given bytes.
-    fn send(&mut self, now: u64) {
-        let _ = self.a.send(now, &self.pieces.given);
+    fn send(&mut self) {
+        let _ = self.a.send(self.now, &self.pieces.given);
     }
 
     // The other gives bytes.
-    fn recv(&mut self, now: u64) {
-        if let Ok(count) = self.b.recv(now, &mut self.pieces.into) {
+    fn recv(&mut self) {
+        if let Ok(count) = self.b.recv(self.now, &mut self.pieces.into) {
             self.came = self.came.saturating_add(count as u64);
         }
     }
 
-    // Has the next packet written, and says whether one leaves.
-    fn pack(&mut self, now: u64) -> bool {
-        match self.a.pack(now, &mut self.wires.there) {
-            Packed::Block(_) => true,
-            _ => false,
-        }
-    }
-
     // Takes what one emitted to the other, and what that one answers back.
-    fn carry(&mut self, now: u64) {
-        deliver(&self.wires.there, &mut self.b, HERE, now, &mut self.wires.back);
-        deliver(&self.wires.back, &mut self.a, THERE, now, &mut self.wires.again);
+    fn carry(&mut self) {
+        let Wires { there, back, again } = &mut self.wires;
+        deliver(there, &mut self.b, HERE, self.now, back);
+        deliver(back, &mut self.a, THERE, self.now, again);
     }
 
     // The timers of one, and what it emits then.
-    fn tick_first(&mut self, now: u64) {
-        self.a.tick(now, &mut self.wires.there);
-        deliver(&self.wires.there, &mut self.b, HERE, now, &mut self.wires.again);
+    fn tick_first(&mut self) {
+        let Wires { there, again, .. } = &mut self.wires;
+        self.a.tick(self.now, there);
+        deliver(there, &mut self.b, HERE, self.now, again);
     }
 
     // The timers of the other, and the ACK2 of its ACK.
-    fn tick_second(&mut self, now: u64) {
-        self.b.tick(now, &mut self.wires.back);
-        deliver(&self.wires.back, &mut self.a, THERE, now, &mut self.wires.there);
-        deliver(&self.wires.there, &mut self.b, HERE, now, &mut self.wires.again);
+    fn tick_second(&mut self) {
+        let Wires { there, back, again } = &mut self.wires;
+        self.b.tick(self.now, back);
+        deliver(back, &mut self.a, THERE, self.now, there);
+        deliver(there, &mut self.b, HERE, self.now, again);
     }
 
-    // What is done in a turn: the calls of the applications now and then, the timers, and a packet.
-    fn turn(&mut self, turn: u64) {
-        let now = turn.saturating_mul(STEP);
-        if turn % 32 == 0 {
-            self.send(now);
-            self.recv(now);
+    // Has the next packet written, which then goes to the other. Where none may leave yet, time passes.
+    fn push(&mut self) {
+        match self.a.pack(self.now, &mut self.wires.there) {
+            Packed::Block(_) => {
+                self.carry();
+                self.pushed = self.pushed.saturating_add(1);
+                self.now = self.now.saturating_add(STEP);
+            }
+            Packed::NotYet(until) => self.now = until,
+            _ => {
+                self.now = self.now.saturating_add(PAUSE);
+                self.tick_first();
+                self.tick_second();
+            }
         }
-        if turn % 5_000 == 0 {
-            self.tick_first(now);
-            self.tick_second(now);
+    }
+
+    // What is done in a turn: the calls of the applications now and then, and a packet.
+    fn turn(&mut self) {
+        if self.pushed % PIECE_BLOCKS == 0 {
+            self.send();
+            self.recv();
         }
-        if self.pack(now) {
-            self.carry(now);
-            self.pushed = self.pushed.saturating_add(1);
-        }
+        self.push();
     }
 }
 
 // Pushes this many blocks from one to the other.
 fn run<C: Control>(pair: &mut Pair<C>, packets: u32) {
-    for turn in 0..4 * packets as u64 {
+    for _ in 0..4 * packets as u64 {
         if pair.pushed == packets {
             break;
         }
-        pair.turn(turn);
+        pair.turn();
     }
 }
 

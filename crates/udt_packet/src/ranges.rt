@@ -2,12 +2,11 @@
 
 ghost use Rattle.std.specs.Prelude.{◌≡◌, ◌+◌, ◌%◌, ◌^◌, ◌<◌, ◌≤◌, ◌++◌, [], ◌∷◌, length, take, drop, All, IfSome, IfNone};
 ghost use Rattle.std.specs.Option.{is_some};
-ghost use Rattle.std.specs.Vec.{vec_capacity};
 ghost use Rattle.udt_model.specs.Wire as wire;
 ghost use Rattle.udt_model.specs.Wire.{IsRange, ranges_bytes};
 ghost use Rattle.udt_packet.specs.Ranges.{range_from, range_spelling, with_between, GoesOn, IsBroken};
 
-use crate::words::{extend, following, put, two, word_at};
+use crate::words::{following, put, two, word_at};
 use std::marker::Model;
 
 /// The first bit of a word that begins a range.
@@ -121,17 +120,6 @@ pub fn put_range(first: u32, last: u32, into: &mut [u8], place: usize) -> usize
     put(into, place, &range_words(first, last)[..size])
 }
 
-/// Adds the words of a range after what is in `into`, which has room for them. It takes no memory.
-pub fn append_range(first: u32, last: u32, into: &mut Vec<u8>)
-    requires room { length (into.old.items ++ range_spelling first last) ≤ vec_capacity into.old }
-    requires in_range { first < 2 ^ 31 }
-    ensures items { into.new.items ≡ into.old.items ++ range_spelling first last }
-    ensures capacity { vec_capacity into.old ≤ vec_capacity into.new }
-{
-    let size = size_of_range(first, last);
-    extend(into, &range_words(first, last)[..size]);
-}
-
 impl<'a> NakRanges<'a> {
     /// The ranges that the field of a packet spells. None where nothing stands there, where it
     /// isn't made of whole words, where a range has no end, and where an end has its first bit set
@@ -207,18 +195,5 @@ impl<'a> NakRanges<'a> {
             end = put_range(first, last, into, end);
         }
         end
-    }
-
-    /// Adds the words of the ranges that are left after what is in `into`, which has room for
-    /// them.
-    pub(crate) fn append(&self, into: &mut Vec<u8>)
-        requires { length (into.old.items ++ ranges_bytes self.now) ≤ vec_capacity into.old }
-        ensures items { into.new.items ≡ into.old.items ++ ranges_bytes self.now }
-        ensures capacity { vec_capacity into.old ≤ vec_capacity into.new }
-    {
-        let mut left = self.again();
-        while let Some((first, last)) = left.next() {
-            append_range(first, last, into);
-        }
     }
 }

@@ -1,14 +1,13 @@
 // From packets to bytes.
 
 ghost use Rattle.std.specs.Prelude.{◌≡◌, ◌+◌, ◌^◌, ◌<◌, ◌≤◌, ◌++◌, length, drop};
-ghost use Rattle.std.specs.Vec.{vec_capacity};
 ghost use Rattle.udt_model.specs.Wire as wire;
 ghost use Rattle.udt_packet.specs.Packets.{packet_of, spelled, IsWritable};
 
 use crate::flags::flags_word;
 use crate::packet::Packet;
 use crate::short::short_field;
-use crate::words::{HEADER, extend, four, put};
+use crate::words::{HEADER, four, put, put_header};
 use udt_model::{AckBody, Flags, Shake};
 
 /// The first bit of a control packet.
@@ -124,7 +123,7 @@ pub fn write_block(
     ensures after { into.new
         ≡ wire.spelling (wire.Block seq flags stamp dest bytes.now) ++ drop result into.old }
 {
-    let place = put(into, 0, &four(seq, flags_word(flags), stamp, dest));
+    let place = put_header(into, seq, flags_word(flags), stamp, dest);
     put(into, place, bytes)
 }
 
@@ -135,22 +134,5 @@ pub fn put_nak_header(stamp: u32, dest: u32, into: &mut [u8]) -> usize
     ensures value { result ≡ 16 }
     ensures after { into.new ≡ wire.header (wire.type_word 3) 0 stamp dest ++ drop result into.old }
 {
-    put(into, 0, &four(CONTROL + 3 * TYPE, 0, stamp, dest))
-}
-
-/// Adds the one spelling of the packet after what is in `into`, which has room for it. It takes no
-/// memory.
-#[tactic(auto, unfolding(udt_model::specs::Wire::spelling))]
-pub fn append(packet: &Packet, into: &mut Vec<u8>)
-    requires room { length (into.old.items ++ spelled packet.now) ≤ vec_capacity into.old }
-    requires in_range { IsWritable packet.now }
-    ensures items { into.new.items ≡ into.old.items ++ spelled packet.now }
-    ensures capacity { vec_capacity into.old ≤ vec_capacity into.new }
-{
-    extend(into, &header_of(packet));
-    match packet {
-        Packet::Block { bytes, .. } => extend(into, bytes),
-        Packet::Nak { ranges, .. } => ranges.append(into),
-        _ => extend(into, short_field(packet).as_slice()),
-    }
+    put_header(into, CONTROL + 3 * TYPE, 0, stamp, dest)
 }

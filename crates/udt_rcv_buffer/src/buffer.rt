@@ -74,6 +74,7 @@ impl RcvBuffer {
     }
 
     /// Places a block at its offset, where there is none yet and there is room for it.
+    #[inline(always)]
     pub fn place(&mut self, offset: u64, flags: Flags, bytes: &[u8]) -> Placed
         requires some { 0 < length bytes.now }
         requires short { length bytes.now ≤ self.old.payload }

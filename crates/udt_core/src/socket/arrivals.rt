@@ -1,10 +1,10 @@
 // What a datagram that arrives does.
 
-ghost use Rattle.std.specs.Prelude.{◌≡◌, ℕ, [], ◌++◌, ◌≤◌, length};
+ghost use Rattle.std.specs.Prelude.{◌≡◌, ℕ, [], ◌++◌, ◌≤◌, length, true};
 ghost use Rattle.udt_model.specs.Step.{step};
 ghost use Rattle.udt_model.specs.Events.{Arrive, DidHear, at_moment, event, outs_of};
 ghost use Rattle.udt_model.specs.Arrivals.{heard_now, is_own as comes_from_peer, heard_of, count_placing as count_as, count_malformed, count_foreign, packet_in, on_own as own_arrives, on_block as block_arrives, arrived_so, on_ack as ack_arrives, on_nak as nak_arrives, on_ack2 as ack2_arrives, emitted_by_ack2, emitted_by_gap, emitted_by_light, on_control as control_arrives, on_stale as stale_arrives};
-ghost use Rattle.udt_packet.specs.Packets.{packet_of};
+ghost use Rattle.udt_packet.specs.Packets.{block_packet_of, packet_of};
 ghost use Rattle.udt_core.specs.Changes.{ChangesExpAlone};
 ghost use Rattle.udt_core.specs.Emitted.{datagrams_of};
 
@@ -13,7 +13,7 @@ use crate::counts::risen;
 use crate::outs::Outs;
 use std::marker::Model;
 use udt_model::{AckBody, Addr, Cause, Flags, Heard, Malformed, Phase, Placed};
-use udt_packet::{NakRanges, Packet, read};
+use udt_packet::{BlockPacket, NakRanges, Packet, read, read_block};
 use udt_rate::Control;
 
 impl<C: Control> Socket<C> {
@@ -32,6 +32,9 @@ impl<C: Control> Socket<C> {
     {
         outs.clear();
         self.at(now);
+        if let Some(block) = read_block(bytes) {
+            return self.on_block_packet(from, &block, outs);
+        }
         match read(bytes) {
             Err(why) => {
                 self.counters.malformed = risen(self.counters.malformed);
@@ -42,6 +45,7 @@ impl<C: Control> Socket<C> {
     }
 
     // A packet. A socket that isn't connected takes nothing in.
+    #[inline(never)]
     fn on_packet(&mut self, from: Addr, packet: Packet, outs: &mut Outs) -> Heard
         requires empty { outs.old ≡ [] }
         ensures reply { DidHear result
@@ -56,11 +60,42 @@ impl<C: Control> Socket<C> {
             Phase::Broken(_) | Phase::Closing | Phase::Closed => return self.on_stale(),
         }
         if !self.is_own(from, &packet) {
-            self.counters.foreign = risen(self.counters.foreign);
-            return Heard::Foreign;
+            return self.on_foreign();
         }
         self.note_arrival();
         self.on_own(packet, outs)
+    }
+
+    // The packet of a block, which most packets are: it goes the way of `on_packet`, and no other kind is
+    // looked for.
+    #[inline(always)]
+    fn on_block_packet(&mut self, from: Addr, block: &BlockPacket, outs: &mut Outs) -> Heard
+        requires empty { outs.old ≡ [] }
+        ensures reply { DidHear result
+            ≡ (packet_in C.ways self.old from (block_packet_of block.now) self.old.phase).reply }
+        ensures after { self.new
+            ≡ (packet_in C.ways self.old from (block_packet_of block.now) self.old.phase).after }
+        ensures outs { outs.new
+            ≡ outs_of (packet_in C.ways self.old from (block_packet_of block.now) self.old.phase) }
+    {
+        match self.phase {
+            Phase::Connected => {}
+            Phase::Broken(_) | Phase::Closing | Phase::Closed => return self.on_stale(),
+        }
+        if !from.is_same(self.peer.addr) || block.dest != self.own {
+            return self.on_foreign();
+        }
+        self.note_arrival();
+        self.on_block(block.seq, block.flags, block.bytes, outs)
+    }
+
+    // A packet that isn't from the peer, or isn't for this socket.
+    fn on_foreign(&mut self) -> Heard
+        ensures value { result ≡ Heard.Foreign }
+        ensures after { self.new ≡ record self.old { counters = count_foreign self.old.counters } }
+    {
+        self.counters.foreign = risen(self.counters.foreign);
+        Heard::Foreign
     }
 
     // The packet comes from the peer and is for this socket. A handshake may name another
@@ -107,6 +142,7 @@ impl<C: Control> Socket<C> {
     }
 
     // A block that came from the peer to this socket.
+    #[inline(always)]
     fn on_block(&mut self, seq: u32, flags: Flags, bytes: &[u8], outs: &mut Outs) -> Heard
         requires empty { outs.old ≡ [] }
         ensures reply { DidHear result ≡ (block_arrives self.old seq flags bytes.now).reply }
@@ -141,14 +177,24 @@ impl<C: Control> Socket<C> {
         ensures { outs.new ≡ outs.old ++ datagrams_of (emitted_by_light self.now light) }
     {
         if light {
-            let packet = Packet::Ack {
-                number: 0,
-                stamp: self.stamp(),
-                dest: self.peer.id,
-                body: self.receiving.light_ack(),
-            };
-            outs.emit(self.peer.addr, &packet);
+            self.emit_light_ack(outs);
         }
+    }
+
+    // Emits a light ACK. Few blocks ask for one, so the packet is built apart from their way.
+    #[cold]
+    #[inline(never)]
+    fn emit_light_ack(&self, outs: &mut Outs)
+        requires room { length outs.old ≤ 1 }
+        ensures { outs.new ≡ outs.old ++ datagrams_of (emitted_by_light self.now true) }
+    {
+        let packet = Packet::Ack {
+            number: 0,
+            stamp: self.stamp(),
+            dest: self.peer.id,
+            body: self.receiving.light_ack(),
+        };
+        outs.emit(self.peer.addr, &packet);
     }
 
     // Counts what became of a block.

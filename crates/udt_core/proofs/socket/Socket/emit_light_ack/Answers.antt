@@ -1,6 +1,6 @@
 use Rattle.std.proofs.Common.{◌≤◌, arith}
 use Rattle.udt_model.specs.Wire.{spelling}
-use Rattle.udt_core.proofs.socket.Socket.ack_lightly.Goals as goal
+use Rattle.udt_core.proofs.socket.Socket.emit_light_ack.Goals as goal
 
 -- a light ACK has five words
 pub emit-requires-clause-fits : goal.emit-requires-clause-fits
