@@ -191,7 +191,6 @@ impl Receiver {
     // ---- the network
 
     /// Takes in the block of a data packet. The gap is to be reported at once.
-    #[inline(always)]
     #[tactic(auto, unfolding(udt_model::specs::ReceiveHalf::after_block, udt_model::specs::ReceiveHalf::block_answer, udt_model::specs::ReceiveHalf::offset_of))]
     pub fn on_block(&mut self, now: u64, seq: u32, flags: Flags, bytes: &[u8]) -> Arrived
         requires some { 0 < length bytes.now }

@@ -4,7 +4,7 @@ ghost use Rattle.std.specs.Prelude.{◌≡◌, ℕ, [], ◌++◌, ◌≤◌, len
 ghost use Rattle.udt_model.specs.Step.{step};
 ghost use Rattle.udt_model.specs.Events.{Arrive, DidHear, at_moment, event, outs_of};
 ghost use Rattle.udt_model.specs.Arrivals.{heard_now, is_own as comes_from_peer, heard_of, count_placing as count_as, count_malformed, count_foreign, packet_in, on_own as own_arrives, on_block as block_arrives, arrived_so, on_ack as ack_arrives, on_nak as nak_arrives, on_ack2 as ack2_arrives, emitted_by_ack2, emitted_by_gap, emitted_by_light, on_control as control_arrives, on_stale as stale_arrives};
-ghost use Rattle.udt_packet.specs.Packets.{block_packet_of, packet_of};
+ghost use Rattle.udt_packet.specs.Packets.{block_packet_of, packet_of, IsBlock};
 ghost use Rattle.udt_core.specs.Changes.{ChangesExpAlone};
 ghost use Rattle.udt_core.specs.Emitted.{datagrams_of};
 
@@ -44,10 +44,11 @@ impl<C: Control> Socket<C> {
         }
     }
 
-    // A packet. A socket that isn't connected takes nothing in.
+    // A packet that is no block. A socket that isn't connected takes nothing in.
     #[inline(never)]
     fn on_packet(&mut self, from: Addr, packet: Packet, outs: &mut Outs) -> Heard
         requires empty { outs.old ≡ [] }
+        requires no_block { ¬ IsBlock (packet_of packet) }
         ensures reply { DidHear result
             ≡ (packet_in C.ways self.old from (packet_of packet.entry) self.old.phase).reply }
         ensures after { self.new
@@ -68,7 +69,6 @@ impl<C: Control> Socket<C> {
 
     // The packet of a block, which most packets are: it goes the way of `on_packet`, and no other kind is
     // looked for.
-    #[inline(always)]
     fn on_block_packet(&mut self, from: Addr, block: &BlockPacket, outs: &mut Outs) -> Heard
         requires empty { outs.old ≡ [] }
         ensures reply { DidHear result
@@ -115,20 +115,15 @@ impl<C: Control> Socket<C> {
         self.exp_count = 1;
     }
 
-    // A packet from the peer. No use is made of drop requests and handshakes yet.
+    // A packet from the peer that is no block. No use is made of drop requests and handshakes yet.
     fn on_own(&mut self, packet: Packet, outs: &mut Outs) -> Heard
         requires empty { outs.old ≡ [] }
+        requires no_block { ¬ IsBlock (packet_of packet) }
         ensures reply { DidHear result ≡ (own_arrives C.ways self.old (packet_of packet.entry)).reply }
         ensures after { self.new ≡ (own_arrives C.ways self.old (packet_of packet.entry)).after }
         ensures outs { outs.new ≡ outs_of (own_arrives C.ways self.old (packet_of packet.entry)) }
     {
         match packet {
-            Packet::Block {
-                seq,
-                flags,
-                bytes,
-                ..
-            } => self.on_block(seq, flags, bytes, outs),
             Packet::KeepAlive { .. } => self.on_control(Heard::Alive),
             Packet::Ack { number, body, .. } => self.on_ack(number, &body, outs),
             Packet::Nak { ranges, .. } => self.on_nak(ranges),
@@ -137,12 +132,14 @@ impl<C: Control> Socket<C> {
                 self.phase = Phase::Broken(Cause::PeerShutdown);
                 self.on_control(Heard::Shutdown)
             }
-            Packet::Handshake { .. } | Packet::DropAsk { .. } => self.on_stale(),
+            // (no block comes here: `on_block_packet` has it)
+            Packet::Block { .. } | Packet::Handshake { .. } | Packet::DropAsk { .. } => {
+                self.on_stale()
+            }
         }
     }
 
     // A block that came from the peer to this socket.
-    #[inline(always)]
     fn on_block(&mut self, seq: u32, flags: Flags, bytes: &[u8], outs: &mut Outs) -> Heard
         requires empty { outs.old ≡ [] }
         ensures reply { DidHear result ≡ (block_arrives self.old seq flags bytes.now).reply }
