@@ -243,11 +243,9 @@ fn packets_are_read_and_written(rt: HostRuntime) -> Result<(), Fail> {
 #[test]
 fn lost_numbers_are_taken_in_their_order(rt: HostRuntime) -> Result<(), Fail> {
     let mut field = [0; 16];
-    let mut place = 0;
-    for (first, last) in [(2, 2), (6, 11), (14, 14)] {
-        assert!(rt; first < 2_147_483_648 && place + 8 <= field.len());
-        place = put_range(first, last, &mut field, place);
-    }
+    let place = put_range(2, 2, &mut field, 0);
+    let place = put_range(6, 11, &mut field, place);
+    let place = put_range(14, 14, &mut field, place);
     assert_eq!(rt; place, 16);
     let mut ranges = NakRanges::over(&field).ok_or("no ranges")?;
     assert_eq!(rt; ranges.next(), Some((2, 2)));

@@ -8,7 +8,7 @@ use udt_ring::Ring;
 
 /// How many bytes of the first part's block were given; how many parts from the first on are used,
 /// without a gap, and their bytes; and the place of the highest part that is used, plus one.
-#[derive(Drop)]
+#[derive(Clone, Copy)]
 pub struct Marks {
     pub given: usize,
     pub run: usize,
@@ -100,13 +100,18 @@ impl Marks {
         ensures len { length ring.new.list ≡ length ring.old.list }
         ensures room { ring.new.room ≡ ring.old.room }
     {
-        while let Some(len) = passed(ring, self.run, self.given) {
+        // (copies, which stay in registers from part to part)
+        let mut marks = *self;
+        let mut first = *base;
+        while let Some(len) = passed(ring, marks.run, marks.given) {
             ring.turn(1, MISSING);
-            *base += 1;
-            self.given -= len;
-            self.run -= 1;
-            self.bytes -= len;
-            self.top -= 1;
+            first += 1;
+            marks.given -= len;
+            marks.run -= 1;
+            marks.bytes -= len;
+            marks.top -= 1;
         }
+        *self = marks;
+        *base = first;
     }
 }

@@ -3,8 +3,9 @@
 ghost use Rattle.std.specs.Prelude.{◌≡◌, ℕ, [], ◌++◌, ◌≤◌, length, true};
 ghost use Rattle.udt_model.specs.Step.{step};
 ghost use Rattle.udt_model.specs.Events.{Arrive, DidHear, at_moment, event, outs_of};
-ghost use Rattle.udt_model.specs.Arrivals.{heard_now, is_own as comes_from_peer, heard_of, count_placing as count_as, count_malformed, count_foreign, packet_in, on_own as own_arrives, on_block as block_arrives, arrived_so, on_ack as ack_arrives, on_nak as nak_arrives, on_ack2 as ack2_arrives, emitted_by_ack2, emitted_by_gap, emitted_by_light, on_control as control_arrives, on_stale as stale_arrives};
-ghost use Rattle.udt_packet.specs.Packets.{block_packet_of, packet_of, IsBlock};
+ghost use Rattle.udt_model.specs.Arrivals.{on_read, heard_now, is_own as comes_from_peer, heard_of, count_placing as count_as, count_malformed, count_foreign, packet_in, on_own as own_arrives, on_block as block_arrives, arrived_so, on_ack as ack_arrives, on_nak as nak_arrives, on_ack2 as ack2_arrives, emitted_by_ack2, emitted_by_gap, emitted_by_light, on_control as control_arrives, on_stale as stale_arrives};
+ghost use Rattle.udt_model.specs.Wire.{read as wire_read};
+ghost use Rattle.udt_packet.specs.Packets.{block_packet_of, packet_of, IsBlock, SpellsBlock};
 ghost use Rattle.udt_core.specs.Changes.{ChangesExpAlone};
 ghost use Rattle.udt_core.specs.Emitted.{datagrams_of};
 
@@ -32,9 +33,27 @@ impl<C: Control> Socket<C> {
     {
         outs.clear();
         self.at(now);
-        if let Some(block) = read_block(bytes) {
-            return self.on_block_packet(from, &block, outs);
+        match read_block(bytes) {
+            Some(block) => self.on_block_packet(from, &block, outs),
+            None => self.on_other(from, bytes, outs),
         }
+    }
+
+    // Bytes that spell no block. They go their way apart, so that a block's has no room for other packets.
+    #[inline(never)]
+    fn on_other(&mut self, from: Addr, bytes: &[u8], outs: &mut Outs) -> Heard
+        requires empty { outs.old ≡ [] }
+        requires no_block { ¬ SpellsBlock bytes.now }
+        ensures reply { DidHear result ≡ (on_read C.ways self.old from (wire_read bytes.now)).reply }
+        ensures after { self.new ≡ (on_read C.ways self.old from (wire_read bytes.now)).after }
+        ensures outs { outs.new ≡ outs_of (on_read C.ways self.old from (wire_read bytes.now)) }
+        ensures malformed { (why : Malformed) → result ≡ Heard.Malformed why
+            → self.new ≡ record self.old { counters = count_malformed self.old.counters } }
+        ensures foreign { result ≡ Heard.Foreign
+            → self.new ≡ record self.old { counters = count_foreign self.old.counters } }
+        ensures stale { result ≡ Heard.Stale → ChangesExpAlone self.old self.new }
+        ensures bad_length { result ≡ Heard.BadLength → ChangesExpAlone self.old self.new }
+    {
         match read(bytes) {
             Err(why) => {
                 self.counters.malformed = risen(self.counters.malformed);
@@ -45,7 +64,6 @@ impl<C: Control> Socket<C> {
     }
 
     // A packet that is no block. A socket that isn't connected takes nothing in.
-    #[inline(never)]
     fn on_packet(&mut self, from: Addr, packet: Packet, outs: &mut Outs) -> Heard
         requires empty { outs.old ≡ [] }
         requires no_block { ¬ IsBlock (packet_of packet) }

@@ -16,15 +16,15 @@ loop-len-preserved c =
     let empty : Part Head = record { head = MISSING; bytes = [] } in
     let new : c.turn.new.self.list ≡ drop 1 parts ++ empty ∷ [] = ap (λ (ps : Parts Head). ps.list) c.turn.ensures in
     let first = first_of parts part p.found in
-    let used = used_at parts c.loop-len.self.run 0 part i.marked.used p.some p.found in
-    let le : length part.bytes ≤ c.loop-len.self.given = omega (arith, p.bytes, p.passed) in
-    let passed = beginning-passed part (drop 1 parts) c.loop-len.base c.loop-len.self.given used le in
+    let used = used_at parts c.loop-len.marks.run 0 part i.marked.used p.some p.found in
+    let le : length part.bytes ≤ c.loop-len.marks.given = omega (arith, p.bytes, p.passed) in
+    let passed = beginning-passed part (drop 1 parts) c.loop-len.first c.loop-len.marks.given used le in
     let within = i.marked.within in
-    let others = placed_from-append (drop 1 parts) (c.loop-len.base + 1) empty refl in
+    let others = placed_from-append (drop 1 parts) (c.loop-len.first + 1) empty refl in
     record {
       front = i.front ∙ rw first (rw (← first) (rw (new, others, p.bytes, first) passed));
-      marked = rw (new, p.bytes) (freed c.loop-len.self _ part empty (drop 1 parts) (rw first at i.marked) p.some refl refl refl refl);
-      run = rw new (freed_ends c.loop-len.self.run part empty (drop 1 parts) (rw first at i.run) p.some refl);
+      marked = rw (new, p.bytes) (freed c.loop-len.marks _ part empty (drop 1 parts) (rw first at i.marked) p.some refl refl refl refl);
+      run = rw new (freed_ends c.loop-len.marks.run part empty (drop 1 parts) (rw first at i.run) p.some refl);
       given = omega (arith, i.given);
       limit = omega (arith, i.limit, within, p.some);
       len = rw new (omega (arith, i.len, ap (λ (ps : List (Part Head)). length ps) first, length-append (drop 1 parts) (empty ∷ [])));
@@ -32,9 +32,9 @@ loop-len-preserved c =
     }
 
 pub returns-clause-settled : goal.returns-clause-settled
-returns-clause-settled c = let i = c.loop-len.invariant in settled_at c.loop-len.self c.loop-len.ring.list i.marked i.run i.given c.in_default.ensures.none
+returns-clause-settled c = let i = c.loop-len.invariant in settled_at c.loop-len.marks c.loop-len.ring.list i.marked i.run i.given c.in_default.ensures.none
 
 pub returns-clause-front : goal.returns-clause-front
 returns-clause-front c =
     let i = c.loop-len.invariant in
-    i.front ∙ beginning-settled c.loop-len.ring.list c.loop-len.base c.loop-len.self.given (settled_at c.loop-len.self c.loop-len.ring.list i.marked i.run i.given c.in_default.ensures.none)
+    i.front ∙ beginning-settled c.loop-len.ring.list c.loop-len.first c.loop-len.marks.given (settled_at c.loop-len.marks c.loop-len.ring.list i.marked i.run i.given c.in_default.ensures.none)
