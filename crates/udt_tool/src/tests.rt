@@ -172,6 +172,8 @@ fn replays_acknowledgement_silence_and_closing(rt: HostRuntime) {
         deliver 1 3000\n\
         b tick 10000\n\
         deliver 2 20000\n\
+        deliver 3 30000\n\
+        b perf 30000\n\
         raw 21000 10.0.0.2:9000 10.0.0.1:9000 8002000000000000000052080000000100000009\n\
         raw 21000 10.0.0.2:9000 10.0.0.1:9000 8002000000000000000052080000000100000005\n\
         b recv 21000 10\n";
@@ -181,6 +183,8 @@ fn replays_acknowledgement_silence_and_closing(rt: HostRuntime) {
         datagram 2 10.0.0.2:9000 10.0.0.1:9000 8002000000000001000027100000000100000007000186a00000c350000000020000000000000000\n\
         a arrive ack\n\
         datagram 3 10.0.0.1:9000 10.0.0.2:9000 800600000000000100004e2000000002\n\
+        b arrive ack2\n\
+        b perf rtt 90000 var 57500 window 16 period 0 sent 0 resent 0 placed 2 double 0 below 0 above 0 control 1 stale 0 foreign 0 malformed 0 acked 0\n\
         a arrive stale\n\
         a arrive stale\n\
         b recv 68656c6c6f\n";
@@ -225,6 +229,22 @@ fn replays_acknowledgement_silence_and_closing(rt: HostRuntime) {
         b arrive above\n\
         b arrive below\n\
         b arrive placed\n";
+    let wraps: &[u8] = b"pair stream a b 1 2147483647 4\n\
+        a send 0 010203\n\
+        a pack 0\n\
+        a pack 0\n\
+        a pack 0\n\
+        deliver 2 100\n";
+    let wrapped: &[u8] = b"pair a 1 b 2\n\
+        a send 3\n\
+        a pack data\n\
+        datagram 0 10.0.0.1:9000 10.0.0.2:9000 7fffffff80000001000000000000000201\n\
+        a pack data\n\
+        datagram 1 10.0.0.1:9000 10.0.0.2:9000 0000000000000001000000000000000202\n\
+        a pack data\n\
+        datagram 2 10.0.0.1:9000 10.0.0.2:9000 0000000140000001000000000000000203\n\
+        b arrive placed\n\
+        datagram 3 10.0.0.2:9000 10.0.0.1:9000 80030000000000000000006400000001ffffffff00000000\n";
     let waits: &[u8] = b"pair stream a b 4 5 4\n\
         a tick 500000\n\
         a tick 1420000\n\
@@ -283,11 +303,12 @@ fn replays_acknowledgement_silence_and_closing(rt: HostRuntime) {
         a tick\n\
         a recv refused 2001 expired\n\
         a send refused 2001 expired\n";
-    let stories: [([&[u8]; 3], [&[u8]; 3]); 5] = [
+    let stories: [([&[u8]; 3], [&[u8]; 3]); 6] = [
         ([pair, hello, acknowledges], [paired, packed, acknowledged]),
         ([pair, hello, retransmits], [paired, packed, retransmitted]),
         ([pair, closes, b""], [paired, closed, b""]),
         ([near, b"", b""], [read_near, b"", b""]),
+        ([wraps, b"", b""], [wrapped, b"", b""]),
         ([waits, b"", b""], [waited, b"", b""]),
     ];
     for (script, printed) in &stories {
@@ -341,6 +362,14 @@ fn replays_under_each_control(rt: HostRuntime) {
             DONE,
         );
     }
+    let spaced: &[u8] = b"pair stream a b 4 5 4\na send 0 0102030405060708\n\
+        a pack 0\na pack 0\na pack 100\n";
+    let packed: &[u8] = b"pair a 1 b 2\na send 8\na pack data\n\
+        datagram 0 10.0.0.1:9000 10.0.0.2:9000 0000000580000001000000000000000201020304\n\
+        a pack notyet 100\na pack data\n\
+        datagram 1 10.0.0.1:9000 10.0.0.2:9000 0000000640000001000000640000000205060708\n";
+    let words: &[&str] = &["replay", "fixed"];
+    assert_runs(&rt, rt.alloc(), WHOLE, words, &[spaced], &[packed], DONE);
 }
 
 #[test]
