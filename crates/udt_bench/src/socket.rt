@@ -119,52 +119,92 @@ fn open_pair<C: Control + Drop>(alloc: Global) -> Result<Pair<C>, AllocError> {
     })
 }
 
+// Each call that is measured stands alone, so that what it takes shows under its name.
+#[inline(never)]
+fn call_send<C: Control>(socket: &mut Socket<C>, now: u64, bytes: &[u8]) {
+    let _ = socket.send(now, bytes);
+}
+
+#[inline(never)]
+fn call_recv<C: Control>(socket: &mut Socket<C>, now: u64, into: &mut [u8]) -> u64 {
+    match socket.recv(now, into) {
+        Ok(count) => count as u64,
+        Err(_) => 0,
+    }
+}
+
+#[inline(never)]
+fn call_pack<C: Control>(socket: &mut Socket<C>, now: u64, outs: &mut Outs) -> Packed {
+    socket.pack(now, outs)
+}
+
+#[inline(never)]
+fn call_arrive<C: Control>(
+    socket: &mut Socket<C>,
+    now: u64,
+    from: &Addr,
+    bytes: &[u8],
+    answers: &mut Outs,
+) {
+    let _ = socket.arrive(now, *from, bytes, answers);
+}
+
+#[inline(never)]
+fn call_tick<C: Control>(socket: &mut Socket<C>, now: u64, outs: &mut Outs) {
+    socket.tick(now, outs);
+}
+
 // Gives a socket all datagrams that the other emitted.
-fn deliver<C: Control>(outs: &Outs, to: &mut Socket<C>, from: Addr, now: u64, answers: &mut Outs) {
+fn deliver<C: Control>(
+    outs: &Outs,
+    to: &mut Socket<C>,
+    from: &Addr,
+    now: u64,
+    answers: &mut Outs,
+) {
     for i in 0..outs.len() {
         let (_, bytes) = outs.get(i);
-        let _ = to.arrive(now, from, bytes, answers);
+        call_arrive(to, now, from, bytes, answers);
     }
 }
 
 impl<C: Control> Pair<C> {
     // One is given bytes.
     fn send(&mut self) {
-        let _ = self.a.send(self.now, &self.pieces.given);
+        call_send(&mut self.a, self.now, &self.pieces.given);
     }
 
     // The other gives bytes.
     fn recv(&mut self) {
-        if let Ok(count) = self.b.recv(self.now, &mut self.pieces.into) {
-            self.came = self.came.saturating_add(count as u64);
-        }
+        let count = call_recv(&mut self.b, self.now, &mut self.pieces.into);
+        self.came = self.came.saturating_add(count);
     }
 
     // Takes what one emitted to the other, and what that one answers back.
     fn carry(&mut self) {
         let Wires { there, back, again } = &mut self.wires;
-        deliver(there, &mut self.b, HERE, self.now, back);
-        deliver(back, &mut self.a, THERE, self.now, again);
+        deliver(there, &mut self.b, &HERE, self.now, back);
+        deliver(back, &mut self.a, &THERE, self.now, again);
     }
 
     // The timers of one, and what it emits then.
     fn tick_first(&mut self) {
         let Wires { there, again, .. } = &mut self.wires;
-        self.a.tick(self.now, there);
-        deliver(there, &mut self.b, HERE, self.now, again);
+        call_tick(&mut self.a, self.now, there);
+        deliver(there, &mut self.b, &HERE, self.now, again);
     }
 
     // The timers of the other, and the ACK2 of its ACK.
     fn tick_second(&mut self) {
         let Wires { there, back, again } = &mut self.wires;
-        self.b.tick(self.now, back);
-        deliver(back, &mut self.a, THERE, self.now, there);
-        deliver(there, &mut self.b, HERE, self.now, again);
+        call_tick(&mut self.b, self.now, back);
+        deliver(back, &mut self.a, &THERE, self.now, there);
+        deliver(there, &mut self.b, &HERE, self.now, again);
     }
 
     // Has the next packet written, which then goes to the other. Where none may leave yet, time passes.
     fn push(&mut self) {
-        match self.a.pack(self.now, &mut self.wires.there) {
+        match call_pack(&mut self.a, self.now, &mut self.wires.there) {
             Packed::Block(_) => {
                 self.carry();
                 self.pushed = self.pushed.saturating_add(1);
