@@ -142,11 +142,11 @@ fn call_pack<C: Control>(socket: &mut Socket<C>, now: u64, outs: &mut Outs) -> P
 fn call_arrive<C: Control>(
     socket: &mut Socket<C>,
     now: u64,
-    from: &Addr,
+    from: Addr,
     bytes: &[u8],
     answers: &mut Outs,
 ) {
-    let _ = socket.arrive(now, *from, bytes, answers);
+    let _ = socket.arrive(now, from, bytes, answers);
 }
 
 #[inline(never)]
@@ -155,13 +155,7 @@ fn call_tick<C: Control>(socket: &mut Socket<C>, now: u64, outs: &mut Outs) {
 }
 
 // Gives a socket all datagrams that the other emitted.
-fn deliver<C: Control>(
-    outs: &Outs,
-    to: &mut Socket<C>,
-    from: &Addr,
-    now: u64,
-    answers: &mut Outs,
-) {
+fn deliver<C: Control>(outs: &Outs, to: &mut Socket<C>, from: Addr, now: u64, answers: &mut Outs) {
     for i in 0..outs.len() {
         let (_, bytes) = outs.get(i);
         call_arrive(to, now, from, bytes, answers);
@@ -183,23 +177,23 @@ impl<C: Control> Pair<C> {
     // Takes what one emitted to the other, and what that one answers back.
     fn carry(&mut self) {
         let Wires { there, back, again } = &mut self.wires;
-        deliver(there, &mut self.b, &HERE, self.now, back);
-        deliver(back, &mut self.a, &THERE, self.now, again);
+        deliver(there, &mut self.b, HERE, self.now, back);
+        deliver(back, &mut self.a, THERE, self.now, again);
     }
 
     // The timers of one, and what it emits then.
     fn tick_first(&mut self) {
         let Wires { there, again, .. } = &mut self.wires;
         call_tick(&mut self.a, self.now, there);
-        deliver(there, &mut self.b, &HERE, self.now, again);
+        deliver(there, &mut self.b, HERE, self.now, again);
     }
 
     // The timers of the other, and the ACK2 of its ACK.
     fn tick_second(&mut self) {
         let Wires { there, back, again } = &mut self.wires;
         call_tick(&mut self.b, self.now, back);
-        deliver(back, &mut self.a, &THERE, self.now, there);
-        deliver(there, &mut self.b, &HERE, self.now, again);
+        deliver(back, &mut self.a, THERE, self.now, there);
+        deliver(there, &mut self.b, HERE, self.now, again);
     }
 
     // Has the next packet written, which then goes to the other. Where none may leave yet, time passes.
