@@ -2,7 +2,7 @@
 use Rattle.std.proofs.Common.{◌≡◌, ℕ, zero, suc, Bool, true, false, List, [], ◌∷◌, Ok, Err, refl, ◌∙◌}
 use Rattle.std.proofs.Common.{arith, ◌-◌}
 use Rattle.std.proofs.lemmas.Bool.{cases_Bool}
-use Rattle.std.specs.Prelude.{Result, Option, Some, None, length, nat_lt, nat_le, if◌then◌else◌}
+use Rattle.std.specs.Prelude.{Result, Option, Some, None, length, ◌==◌, nat_lt, nat_le, if◌then◌else◌}
 use Rattle.udt_model.specs.declared.answers.Placed.{Placed}
 use Rattle.udt_model.specs.declared.answers.Placed.TheVariants as placing
 use Rattle.udt_model.specs.declared.answers.SendNo.{SendNo}
@@ -117,8 +117,11 @@ found-keeps b room None = refl
 found-keeps b room (Some m) = grind (arith, cases_Bool (nat_le (length m.bytes) room))
 
 pub after_receive_message-keeps : (r : Receiving) (room : ℕ) → KeepsReceiving r (after_receive_message r room)
-after_receive_message-keeps r zero = same_receiving r
-after_receive_message-keeps r (suc room) = record { isn = refl; payload = refl; capacity = found-keeps r.blocks (suc room) (next_message r.blocks) }
+after_receive_message-keeps r room =
+    elim (room == 0) as (λ none. KeepsReceiving r (if none then r else record r { blocks = after_read_message r.blocks room })) [
+      | true ↦ same_receiving r
+      | false ↦ record { isn = refl; payload = refl; capacity = found-keeps r.blocks room (next_message r.blocks) }
+    ]
 
 pub with_taken-keeps : (r : Receiving) (now : ℕ) (range : LostRange) → KeepsReceiving r (with_taken r now range)
 with_taken-keeps r now range = record { isn = refl; payload = refl; capacity = refl }

@@ -29,16 +29,16 @@ bytes_of kept = map (λ (block : KeptBlock). block.bytes) kept
 -- each block's message number fits its place
 abbrev pub MessagesFit : List KeptBlock → Type 0
 MessagesFit [] = Unit {0}
-MessagesFit (block ∷ others) = (block.flags.message < 2 ^ 29) × MessagesFit others
+MessagesFit (block ∷ others) = (block.flags.message < 2 ^ 29) × (block.message.number < 2 ^ 29) × MessagesFit others
 
 pub MessagesFit-append : (kept more : List KeptBlock) → MessagesFit kept → MessagesFit more → MessagesFit (kept ++ more)
 MessagesFit-append [] more fit next = next
-MessagesFit-append (block ∷ others) more fit next = (fit.0, MessagesFit-append others more fit.1 next)
+MessagesFit-append (block ∷ others) more fit next = (fit.0, fit.1, MessagesFit-append others more fit.2 next)
 
 pub MessagesFit-drop : (n : ℕ) (kept : List KeptBlock) → MessagesFit kept → MessagesFit (drop n kept)
 MessagesFit-drop zero kept fit = fit
 MessagesFit-drop (suc n) [] fit = tt
-MessagesFit-drop (suc n) (block ∷ others) fit = MessagesFit-drop n others fit.1
+MessagesFit-drop (suc n) (block ∷ others) fit = MessagesFit-drop n others fit.2
 
 pub MessagesFit-at : (kept : List KeptBlock) (n : ℕ) (block : KeptBlock) → MessagesFit kept → slice_get kept n ≡ Some block
     → block.flags.message < 2 ^ 29
@@ -46,7 +46,15 @@ MessagesFit-at [] n block fit found = absurd (cc)
 MessagesFit-at (first ∷ others) zero block fit found =
     let is : first ≡ block = cc in
     subst (λ (b : KeptBlock). b.flags.message < 2 ^ 29) is fit.0
-MessagesFit-at (first ∷ others) (suc n) block fit found = MessagesFit-at others n block fit.1 found
+MessagesFit-at (first ∷ others) (suc n) block fit found = MessagesFit-at others n block fit.2 found
+
+pub MessagesFit-number : (kept : List KeptBlock) (n : ℕ) (block : KeptBlock) → MessagesFit kept → slice_get kept n ≡ Some block
+    → block.message.number < 2 ^ 29
+MessagesFit-number [] n block fit found = absurd (cc)
+MessagesFit-number (first ∷ others) zero block fit found =
+    let is : first ≡ block = cc in
+    subst (λ (b : KeptBlock). b.message.number < 2 ^ 29) is fit.1
+MessagesFit-number (first ∷ others) (suc n) block fit found = MessagesFit-number others n block fit.2 found
 
 -- the message of each block ends before this offset
 abbrev pub EndBefore : ℕ → List KeptBlock → Type 0
@@ -92,7 +100,7 @@ pub blocks_of-fit : (m : Message) (payload offset count : ℕ) (bytes : List ℕ
     → MessagesFit (blocks_of m payload offset count bytes)
 unfolding blocks_of
 blocks_of-fit m payload offset zero bytes fits = tt
-blocks_of-fit m payload offset (suc count) bytes fits = (fits, blocks_of-fit m payload (offset + 1) count (drop payload bytes) fits)
+blocks_of-fit m payload offset (suc count) bytes fits = (fits, fits, blocks_of-fit m payload (offset + 1) count (drop payload bytes) fits)
 
 -- this many blocks joined are a front of the bytes
 pub blocks_of-joined : (m : Message) (payload offset count : ℕ) (bytes : List ℕ)
@@ -286,8 +294,8 @@ module _ {C : Type 0} (w : Ways C) where
   first-lost : (s : Sending C) (now : ℕ) (lost : List ℕ) (offset : ℕ) (block : KeptBlock) → s.lost ≡ lost → leaves_next w s now lost ≡ Retransmits offset block
       → IsLeastLost s offset block
   first-lost s now [] offset block same is = absurd (sends-none_again s (kept_at s.blocks s.next) offset block is)
-  first-lost s (first ∷ others) offset block same is =
-      let found = retransmit-block first offset (kept_at s.blocks first) block is in
+  first-lost s now (first ∷ others) offset block same is =
+      let found = retransmit-block now first offset (kept_at s.blocks first) block is in
       record {
         others = others;
         lost = same ∙ ap (λ (n : ℕ). n ∷ others) found.0;

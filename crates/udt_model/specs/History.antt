@@ -64,6 +64,16 @@ abbrev pub offset_found : Option ℕ → List ℕ
 offset_found None = []
 offset_found (Some offset) = offset ∷ []
 
+-- the next message, with the bytes that were given for it
+abbrev pub shown_as : List ℕ → Option WholeMessage → List ShownMessage
+shown_as bytes None = []
+shown_as bytes (Some m) = record { first = m.first; bytes = bytes } ∷ []
+
+-- the offsets of a range that aren't below the base
+abbrev pub offsets_of_range : Receiving → Option LostRange → List ℕ
+offsets_of_range r None = []
+offsets_of_range r (Some range) = offsets_between (max range.first r.blocks.base) range.last
+
 -- how many offsets from this one on, of this many at most, are among these, without a gap
 unfoldable pub gapless : ℕ → ℕ → List ℕ → ℕ
 gapless zero offset offsets = 0
@@ -98,21 +108,12 @@ module _ {C : Type 0} where
       record { first = end_of s.sending.blocks; order = order; bytes = bytes } ∷ []
   asked_by s act reply = []
 
-  -- the next message, with the bytes that were given for it
-  abbrev pub shown_as : List ℕ → Option WholeMessage → List ShownMessage
-  shown_as bytes None = []
-  shown_as bytes (Some m) = record { first = m.first; bytes = bytes } ∷ []
-
   -- the message that an event showed, which its answer tells. One without room shows none
   abbrev pub shown_by : State C → Act → Reply → List ShownMessage
   shown_by s (RecvMessage (suc room)) (ReceivedMessage (Ok bytes)) = shown_as bytes (next_message s.receiving.blocks)
   shown_by s act reply = []
 
-  -- the offsets of a range that aren't below the base
-  abbrev pub offsets_of_range : Receiving → Option LostRange → List ℕ
-  offsets_of_range r None = []
-  offsets_of_range r (Some range) = offsets_between (max range.first r.blocks.base) range.last
-
+  -- the offsets that a message drop request takes
   abbrev pub offsets_of_request : State C → Result Packet Malformed → List ℕ
   offsets_of_request s (Ok (DropAsk message stamp dest first last)) = offsets_of_range s.receiving (drop_range s.receiving first last)
   offsets_of_request s other = []

@@ -18,7 +18,7 @@ use Rattle.udt_model.specs.SendReports.{acked_number}
 use Rattle.udt_model.specs.State.{State, Emission}
 use Rattle.udt_model.specs.Step.{step}
 use Rattle.udt_model.specs.Wire.{Ack, read}
-use Rattle.udt_model.proofs.EmissionLemmas.{Emitting, NewBlock, LostBlock, FullAck, LightAck, Reports, ReportsGap, AnswersAck, SendsKeepAlive, TheEnd}
+use Rattle.udt_model.proofs.EmissionLemmas.{Emitting, NewBlock, LostBlock, DropRequest, FullAck, LightAck, Reports, ReportsGap, ReportsDropGap, AnswersAck, SendsKeepAlive, TheEnd}
 use Rattle.udt_model.proofs.HalfLemmas.{after_block-keeps}
 use Rattle.udt_model.proofs.TickLemmas.{ack_outcome-tells}
 use Rattle.udt_laws.proofs.sockets.Opened.{opened_start}
@@ -45,6 +45,7 @@ module _ {C : Type 0} (w : Ways C) where
       → TellsOf P start s.receiving.isn emission (acked_number body)
   emitting-tells P start s act reply emission (NewBlock block connected packs is) number stamp dest body fits covers meets same = absurd (cc)
   emitting-tells P start s act reply emission (LostBlock offset block connected packs is) number stamp dest body fits covers meets same = absurd (cc)
+  emitting-tells P start s act reply emission (DropRequest message connected packs is) number stamp dest body fits covers meets same = absurd (cc)
   emitting-tells P start s act reply emission (FullAck ack connected tells is) number stamp dest body fits covers meets same =
       let told = ack_outcome-tells s.receiving s.last s.rtt ack tells in
       let covered = ack_emitted-covered P start s.receiving fits covers in
@@ -73,6 +74,7 @@ module _ {C : Type 0} (w : Ways C) where
       }
   emitting-tells P start s act reply emission (Reports range ranges connected reports is) number stamp dest body fits covers meets same = absurd (cc)
   emitting-tells P start s act reply emission (ReportsGap from raw number' flags stamp' bytes ends connected arrives carries sender gap is) number stamp dest body fits covers meets same = absurd (cc)
+  emitting-tells P start s act reply emission (ReportsDropGap from raw message stamp' first last range ends connected arrives asks sender messages taken gap is) number stamp dest body fits covers meets same = absurd (cc)
   emitting-tells P start s act reply emission (AnswersAck number' connected is) number stamp dest body fits covers meets same = absurd (cc)
   emitting-tells P start s act reply emission (SendsKeepAlive connected is) number stamp dest body fits covers meets same = absurd (cc)
   emitting-tells P start s act reply emission (TheEnd closing is) number stamp dest body fits covers meets same = absurd (cc)

@@ -1,4 +1,4 @@
--- A socket knows of offsets that its events placed alone.
+-- A stream socket knows of offsets that its events placed alone.
 use Rattle.std.proofs.Common.{◌≡◌, ℕ, List, [], ◌∷◌, ◌++◌, Some, None, Ok, refl, ap, ◌∙◌, sym, subst}
 use Rattle.std.specs.Prelude.{Result, Option}
 use Rattle.std.proofs.lemmas.Bool.{or_left, or_right}
@@ -8,6 +8,7 @@ use Rattle.udt_model.specs.declared.answers.Heard.TheVariants as heard
 use Rattle.udt_model.specs.declared.answers.Placed.{Placed}
 use Rattle.udt_model.specs.declared.answers.Placed.TheVariants as placing
 use Rattle.udt_model.specs.declared.packets.Flags.{Flags}
+use Rattle.udt_model.specs.declared.packets.Kind.TheVariants.{Stream}
 use Rattle.udt_model.specs.declared.packets.Malformed.{Malformed}
 use Rattle.udt_model.specs.Arrivals.{heard_of, on_read}
 use Rattle.udt_model.specs.Events.{Act, Arrive, Event, Reply, DidHear, at_moment}
@@ -21,6 +22,7 @@ use Rattle.udt_model.specs.Wire.{Packet, Block, read}
 use Rattle.udt_model.proofs.ArrivalLemmas.{arrival-shows}
 use Rattle.udt_model.proofs.ReceivingLemmas.{offset_of-some}
 use Rattle.udt_model.proofs.ReceivingSteps.{receiving-shows}
+use Rattle.udt_model.proofs.StepLemmas.{step-keeps}
 use Rattle.udt_laws.proofs.acked_has_arrived.CountsWithoutGap.{IsAmong}
 use Rattle.udt_laws.proofs.acked_has_arrived.BelowGapWasPlaced.{Covers, placed_by_placing, receive-covers, block-covers, reports-cover, ack2-covers}
 
@@ -71,16 +73,17 @@ module _ {C : Type 0} where
 -- ---- what the events of a socket keep
 
 module _ {C : Type 0} (w : Ways C) (P : ℕ → Type 0) (start : ℕ) where
-  read-covers : (s : State C) (from : Addr) (result : Result Packet Malformed)
+  read-covers : (s : State C) (from : Addr) (result : Result Packet Malformed) → s.kind ≡ Stream
       → AllMeet P (placed_in s.receiving (on_read w s from result).reply result) → Covers P start s.receiving
       → Covers P start (on_read w s from result).after.receiving
-  read-covers s from result meets covers =
+  read-covers s from result stream meets covers =
       arrival-shows w s from (λ outcome. AllMeet P (placed_in s.receiving outcome.reply result) → Covers P start outcome.after.receiving) result (record {
         passed = λ counters answer differs meets. covers;
         noticed = λ counters answer differs connected meets. covers;
         brought = λ number flags stamp bytes connected sender is meets.
             block-covers P start s.receiving s.last number flags bytes
             (block-meets P s.receiving result number flags stamp s.own bytes is meets) covers;
+        dropped = λ message stamp first last range connected sender is messages taken meets. absurd (cc);
         acknowledged = λ number stamp body offset connected sender is acks meets. covers;
         reported = λ stamp ranges connected sender is meets. covers;
         confirmed = λ number ack connected found meets. ack2-covers P start s.receiving number covers;
@@ -88,42 +91,44 @@ module _ {C : Type 0} (w : Ways C) (P : ℕ → Type 0) (start : ℕ) where
       }) meets
 
   -- no other event places anything
-  other-covers : (s : State C) (event : Event) → ((from : Addr) (bytes : List ℕ) → event.act ≡ Arrive from bytes → ⊥)
+  other-covers : (s : State C) (event : Event) → s.kind ≡ Stream → ((from : Addr) (bytes : List ℕ) → event.act ≡ Arrive from bytes → ⊥)
       → Covers P start s.receiving → Covers P start (step w s event).after.receiving
-  other-covers s event other covers = receiving-shows w s event (Covers P start) (record {
+  other-covers s event stream other covers = receiving-shows w s event (Covers P start) (record {
     stays = covers;
-    reads = λ room. receive-covers P start s.receiving _ covers;
+    reads = λ room streams. receive-covers P start s.receiving _ covers;
     carries = λ now from raw number flags stamp bytes is sender reads. absurd (other from raw is);
+    shows = λ room messages. absurd (cc);
+    drops = λ now from raw message stamp first last range is sender reads messages taken. absurd (cc);
     tells = λ now known. reports-cover P start s.receiving now known covers;
     confirms = λ number. ack2-covers P start s.receiving number covers;
   })
 
-  act-covers : (s : State C) (now : ℕ) (act : Act) → AllMeet P (placed_by s act (step w s (record { now = now; act = act })).reply)
+  act-covers : (s : State C) (now : ℕ) (act : Act) → s.kind ≡ Stream → AllMeet P (placed_by s act (step w s (record { now = now; act = act })).reply)
       → Covers P start s.receiving → Covers P start (step w s (record { now = now; act = act })).after.receiving
   unfolding step
-  act-covers s now (Arrive from bytes) meets covers =
+  act-covers s now (Arrive from bytes) stream meets covers =
       let there = at_moment s now in
       let reply = (on_read w there from (read bytes)).reply in
-      read-covers there from (read bytes) (λ n among. meets n (subst (IsAmong n) (sym (arrival-in s from bytes reply)) among)) covers
-  act-covers s now act meets covers = other-covers s (record { now = now; act = act }) (λ from bytes is. cc) covers
+      read-covers there from (read bytes) stream (λ n among. meets n (subst (IsAmong n) (sym (arrival-in s from bytes reply)) among)) covers
+  act-covers s now act stream meets covers = other-covers s (record { now = now; act = act }) stream (λ from bytes is. cc) covers
 
-  pub step-covers : (s : State C) (event : Event) → AllMeet P (placed_by s event.act (step w s event).reply) → Covers P start s.receiving
+  pub step-covers : (s : State C) (event : Event) → s.kind ≡ Stream → AllMeet P (placed_by s event.act (step w s event).reply) → Covers P start s.receiving
       → Covers P start (step w s event).after.receiving
-  step-covers s event meets covers = act-covers s event.now event.act meets covers
+  step-covers s event stream meets covers = act-covers s event.now event.act stream meets covers
 
   -- so the first of the items that place no others keep this
-  pub items-covers : (s : State C) (front rest : List Item) → AreLegal w s (front ++ rest) → AllMeet P (placed_from w s (front ++ rest))
+  pub items-covers : (s : State C) (front rest : List Item) → s.kind ≡ Stream → AreLegal w s (front ++ rest) → AllMeet P (placed_from w s (front ++ rest))
       → Covers P start s.receiving → Covers P start (after_items w s front).receiving
   unfolding AreLegal placed_from after_items
-  items-covers s [] rest legal meets covers = covers
-  items-covers s (item ∷ front) rest legal meets covers =
+  items-covers s [] rest stream legal meets covers = covers
+  items-covers s (item ∷ front) rest stream legal meets covers =
       let next = (step w s item.event).after in
       let here = placed_by s item.event.act item.reply in
       let later = placed_from w next (front ++ rest) in
       let placed = subst (λ reply. AllMeet P (placed_by s item.event.act reply)) legal.0
       (λ n among. meets n (list_any-append _ here later ∙ or_left _ _ among)) in
-      items-covers next front rest legal.2 (λ n among. meets n (list_any-append _ here later ∙ or_right _ _ among))
-      (step-covers s item.event placed covers)
+      items-covers next front rest ((step-keeps w s item.event).kind ∙ stream) legal.2 (λ n among. meets n (list_any-append _ here later ∙ or_right _ _ among))
+      (step-covers s item.event stream placed covers)
 
   -- nor does a block that an arrival carries, and which this answer tells of
   pub carried-covers : (s : State C) (from : Addr) (raw : List ℕ) (now number : ℕ) (flags : Flags) (stamp dest : ℕ) (bytes : List ℕ) (reply : Reply)

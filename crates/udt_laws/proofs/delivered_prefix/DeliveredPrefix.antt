@@ -42,15 +42,10 @@ module _ {C : Type 0} (w : Ways C) where
 
       act-meets : (s : State C) (act : Act) → s.own ≡ own → s.peer.addr ≡ sender_addr → (state_of w sender.history).sending.isn ≡ s.receiving.isn
           → IsHonestAct w net addr s act → MeetsAct (IsBlockAt w sender.history has) s act
-      act-meets s (Send bytes) own_is addr_is isn_is honest = tt
-      act-meets s (Recv room) own_is addr_is isn_is honest = tt
-      act-meets s Pack own_is addr_is isn_is honest = tt
-      act-meets s Tick own_is addr_is isn_is honest = tt
-      act-meets s Close own_is addr_is isn_is honest = tt
-      act-meets s Measure own_is addr_is isn_is honest = tt
       act-meets s (Arrive from bytes) own_is addr_is isn_is honest = λ number flags stamp payload offset from_is reads found.
           let emitted_near = from-sender s from bytes payload number stamp flags own_is (from_is ∙ addr_is) honest reads in
           (reads-as w sender.history has s.receiving.isn s.receiving.top number offset flags stamp s.own bytes payload isn_is emitted_near reads found).is_block
+      act-meets s act own_is addr_is isn_is honest = tt
 
       items-meet : (s : State C) (items : List Item) → s.own ≡ own → s.peer.addr ≡ sender_addr
           → (state_of w sender.history).sending.isn ≡ s.receiving.isn → AreHonest w net addr s items → AllMeet w (IsBlockAt w sender.history has) s items

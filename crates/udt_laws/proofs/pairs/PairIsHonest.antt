@@ -20,7 +20,7 @@ use Rattle.udt_model.specs.Records.{Enrolled, IsSocket, EndpointRecord, StandsAt
 use Rattle.udt_model.specs.State.{State, Datagram, Emission}
 use Rattle.udt_model.specs.Step.{step}
 use Rattle.udt_model.specs.Wire.{Packet, Block, read}
-use Rattle.udt_model.proofs.EmissionLemmas.{Emitting, NewBlock, LostBlock, FullAck, LightAck, Reports, ReportsGap, AnswersAck, SendsKeepAlive, TheEnd, IsEmittedAt}
+use Rattle.udt_model.proofs.EmissionLemmas.{Emitting, NewBlock, LostBlock, DropRequest, FullAck, LightAck, Reports, ReportsGap, ReportsDropGap, AnswersAck, SendsKeepAlive, TheEnd, IsEmittedAt}
 use Rattle.udt_model.proofs.ReceivingLemmas.{offset_of-some}
 use Rattle.udt_model.proofs.RecordLemmas.{emitted-from_sent, arrived_by-append}
 use Rattle.udt_model.proofs.SendingLemmas.{IsCut}
@@ -239,12 +239,6 @@ module _ {C : Type 0} (w : Ways C) where
         → IsAckedWithin (start_of socket.history) (limit_of socket) s
         → ((datagram : Datagram) → Contains (arrived_by_act act) datagram → Contains (arrivals socket.history) datagram)
         → IsHonestAct w net addr s act
-    act-honest s (Send bytes) within acked among = tt
-    act-honest s (Recv room) within acked among = tt
-    act-honest s Pack within acked among = tt
-    act-honest s Tick within acked among = tt
-    act-honest s Close within acked among = tt
-    act-honest s Measure within acked among = tt
     act-honest s (Arrive a bytes) within acked among =
         let came = pair.all (record { addr = a; bytes = bytes }) (among _ (Contains-push [] _)) in
         let is = emitted-from_sent w other.history.opening other.history.items came.1.0 pair.other_in.legal came.1.1 in
@@ -259,6 +253,7 @@ module _ {C : Type 0} (w : Ways C) where
           datagram = datagram-is is.emission.datagram addr bytes (goes.addr ∙ pair.are.back_addr) bytes_are;
           close = λ packet offset reads named. close-to s is.emission bytes packet offset within acked is.among bytes_are reads named;
         }
+    act-honest s act within acked among = tt
 
     items-honest : (s : State C) (blocks : List (List ℕ)) (items : List Item) → s.own ≡ socket.own → s.peer.addr ≡ from
         → (state_of w other.history).sending.isn ≡ s.receiving.isn

@@ -88,18 +88,13 @@ module _ {C : Type 0} (w : Ways C) where
     pub act-below : (s : State C) (act : Act) → s.own ≡ receiver.own → s.peer.addr ≡ from → (state_of w sender.history).sending.isn ≡ s.receiving.isn
         → IsWithin (start_of sender.history) limit s.receiving
         → ((datagram : Datagram) → Contains (arrived_by_act act) datagram → Contains (arrivals receiver.history) datagram) → MeetsAct IsBlockBelow s act
-    act-below s (Send bytes) own_is addr_is isn_is within among = tt
-    act-below s (Recv room) own_is addr_is isn_is within among = tt
-    act-below s Pack own_is addr_is isn_is within among = tt
-    act-below s Tick own_is addr_is isn_is within among = tt
-    act-below s Close own_is addr_is isn_is within among = tt
-    act-below s Measure own_is addr_is isn_is within among = tt
     act-below s (Arrive sender_addr bytes) own_is addr_is isn_is within among = λ number flags stamp payload offset from_is reads found.
         let arrived = subst (λ (a : Addr). Contains (arrivals receiver.history) (record { addr = a; bytes = bytes })) (from_is ∙ addr_is)
         (among _ (Contains-push [] _)) in
         let is_near = emitted-near s bytes payload number stamp flags own_is within arrived reads in
         let is = reads-as w sender.history has s.receiving.isn s.receiving.top number offset flags stamp s.own bytes payload isn_is is_near reads found in
         (is.is_block, named-below is_near.emission number flags stamp s.own payload offset is_near.among (ap read is_near.same ∙ reads) is.named)
+    act-below s act own_is addr_is isn_is within among = tt
 
     -- so the receiver stands within these bounds after the event too
     pub stays-within : (s : State C) (event : Event) → MeetsAct IsBlockBelow s event.act → IsWithin (start_of sender.history) limit s.receiving

@@ -1,20 +1,22 @@
 -- How a history cuts what it accepts into blocks: the kept ones are the last of them.
-use Rattle.std.proofs.Common.{◌≡◌, ℕ, zero, suc, ◌≤◌, List, [], ◌∷◌, ◌++◌, length, take, Ok, Err, refl, ap, ◌∙◌, sym, subst, arith}
-use Rattle.std.specs.Prelude.{Result}
+use Rattle.std.proofs.Common.{◌≡◌, ℕ, zero, suc, ◌≤◌, Bool, false, List, [], ◌∷◌, ◌++◌, length, take, Ok, Err, refl, ap, ◌∙◌, sym, subst, arith}
+use Rattle.std.specs.Prelude.{Option, None, Result}
 use Rattle.std.specs.List.{concat}
 use Rattle.std.proofs.lemmas.List.{append_assoc, append-nil}
 use Rattle.udt_model.specs.declared.addresses.Addr.{Addr}
 use Rattle.udt_model.specs.declared.answers.Phase.{Phase}
 use Rattle.udt_model.specs.declared.answers.Phase.TheVariants as phase
 use Rattle.udt_model.specs.declared.answers.SendNo.{SendNo}
+use Rattle.udt_model.specs.declared.packets.Kind.{Kind}
+use Rattle.udt_model.specs.declared.packets.Kind.TheVariants as kind
 use Rattle.udt_model.specs.declared.sockets.ExpOutcome.{ExpOutcome}
 use Rattle.udt_model.specs.declared.sockets.ExpOutcome.TheVariants as exp
 use Rattle.udt_model.specs.Arrivals.{on_read}
-use Rattle.udt_model.specs.Calls.{taken_as, send_in, recv_in, pack_in}
-use Rattle.udt_model.specs.Events.{Act, Send, Recv, Pack, Tick, Close, Measure, Arrive, Event, Sent, Outcome, at_moment}
+use Rattle.udt_model.specs.Calls.{taken_as, send_in, send_as, recv_in, recv_as, send_message_in, send_message_as, recv_message_in, recv_message_as, pack_in}
+use Rattle.udt_model.specs.Events.{Act, Send, Recv, SendMessage, RecvMessage, Pack, Tick, Close, Measure, Arrive, Event, Sent, SentMessage, Outcome, at_moment}
 use Rattle.udt_model.specs.History.{Item, taken_by, accepted_by, after_items, AreLegal}
 use Rattle.udt_model.specs.Rate.{Ways}
-use Rattle.udt_model.specs.SendHalf.{Sending, send_answer, after_answer, after_send, Packing, packing}
+use Rattle.udt_model.specs.SendHalf.{Sending, send_answer, message_answer, expiry_of, after_answer, after_send, after_send_message, Packing, packing}
 use Rattle.udt_model.specs.State.{State}
 use Rattle.udt_model.specs.Step.{on_act, step}
 use Rattle.udt_model.specs.Ticks.{exp_outcome, after_exp, after_reports, tick_in}
@@ -28,19 +30,37 @@ use Rattle.udt_model.proofs.StepLemmas.{step-keeps}
 
 module _ {C : Type 0} where
   -- the blocks into which a send cuts what it takes
-  abbrev pub blocks_taken : Sending C → List ℕ → Result ℕ SendNo → List (List ℕ)
-  blocks_taken s bytes (Ok zero) = []
-  blocks_taken s bytes (Ok (suc n)) = bytes_of (new_blocks s (take (suc n) bytes))
-  blocks_taken s bytes (Err why) = []
+  abbrev pub blocks_taken : Sending C → Bool → Option ℕ → List ℕ → Result ℕ SendNo → List (List ℕ)
+  blocks_taken s order expires bytes (Ok zero) = []
+  blocks_taken s order expires bytes (Ok (suc n)) = bytes_of (new_blocks s order expires (take (suc n) bytes))
+  blocks_taken s order expires bytes (Err why) = []
 
   abbrev pub blocks_sent : State C → List ℕ → Phase → List (List ℕ)
-  blocks_sent s bytes phase.Connected = blocks_taken s.sending bytes (send_answer s.sending (length bytes))
+  blocks_sent s bytes phase.Connected = blocks_taken s.sending false None bytes (send_answer s.sending (length bytes))
   blocks_sent s bytes (phase.Broken why) = []
   blocks_sent s bytes phase.Closing = []
   blocks_sent s bytes phase.Closed = []
 
+  -- a socket that carries messages takes no bytes of a stream
+  abbrev pub blocks_sent_as : State C → List ℕ → Kind → List (List ℕ)
+  blocks_sent_as s bytes kind.Stream = blocks_sent s bytes s.phase
+  blocks_sent_as s bytes kind.Message = []
+
+  abbrev pub blocks_asked : State C → Option ℕ → Bool → List ℕ → Phase → List (List ℕ)
+  blocks_asked s ttl order bytes phase.Connected =
+      blocks_taken s.sending order (expiry_of s.last ttl) bytes (message_answer s.sending (length bytes))
+  blocks_asked s ttl order bytes (phase.Broken why) = []
+  blocks_asked s ttl order bytes phase.Closing = []
+  blocks_asked s ttl order bytes phase.Closed = []
+
+  -- and one that carries a stream takes no message
+  abbrev pub blocks_asked_as : State C → Option ℕ → Bool → List ℕ → Kind → List (List ℕ)
+  blocks_asked_as s ttl order bytes kind.Stream = []
+  blocks_asked_as s ttl order bytes kind.Message = blocks_asked s ttl order bytes s.phase
+
   abbrev pub blocks_in : State C → Act → List (List ℕ)
-  blocks_in s (Send bytes) = blocks_sent s bytes s.phase
+  blocks_in s (Send bytes) = blocks_sent_as s bytes s.kind
+  blocks_in s (SendMessage ttl order bytes) = blocks_asked_as s ttl order bytes s.kind
   blocks_in s act = []
 
   -- the blocks that an event adds
@@ -49,29 +69,60 @@ module _ {C : Type 0} where
 
   -- ---- joined they are what was accepted
 
-  taken-joined : (s : Sending C) (bytes : List ℕ) (answer : Result ℕ SendNo) → 1 ≤ s.blocks.payload
-      → concat (blocks_taken s bytes answer) ≡ taken_by (Send bytes) (Sent (taken_as answer))
-  taken-joined s bytes (Ok zero) some = refl
-  taken-joined s bytes (Ok (suc n)) some = blocks_of-all _ s.blocks.payload _ (take (suc n) bytes) some
-  taken-joined s bytes (Err why) some = refl
+  taken-joined : (s : Sending C) (order : Bool) (expires : Option ℕ) (bytes : List ℕ) (answer : Result ℕ SendNo) → 1 ≤ s.blocks.payload
+      → concat (blocks_taken s order expires bytes answer) ≡ taken_by (Send bytes) (Sent (taken_as answer))
+  taken-joined s order expires bytes (Ok zero) some = refl
+  taken-joined s order expires bytes (Ok (suc n)) some = blocks_of-all _ s.blocks.payload _ (take (suc n) bytes) some
+  taken-joined s order expires bytes (Err why) some = refl
+
+  message-joined : (s : Sending C) (ttl : Option ℕ) (order : Bool) (expires : Option ℕ) (bytes : List ℕ) (answer : Result ℕ SendNo) → 1 ≤ s.blocks.payload
+      → concat (blocks_taken s order expires bytes answer) ≡ taken_by (SendMessage ttl order bytes) (SentMessage (taken_as answer))
+  message-joined s ttl order expires bytes (Ok zero) some = refl
+  message-joined s ttl order expires bytes (Ok (suc n)) some = blocks_of-all _ s.blocks.payload _ (take (suc n) bytes) some
+  message-joined s ttl order expires bytes (Err why) some = refl
 
   sent-joined : (s : State C) (bytes : List ℕ) (phase : Phase) → 1 ≤ s.sending.blocks.payload
       → concat (blocks_sent s bytes phase) ≡ taken_by (Send bytes) (send_in s bytes phase).reply
-  sent-joined s bytes phase.Connected some = taken-joined s.sending bytes (send_answer s.sending (length bytes)) some
+  sent-joined s bytes phase.Connected some = taken-joined s.sending false None bytes (send_answer s.sending (length bytes)) some
   sent-joined s bytes (phase.Broken why) some = refl
   sent-joined s bytes phase.Closing some = refl
   sent-joined s bytes phase.Closed some = refl
 
-  answer-cut : (s : Sending C) (start : ℕ) (blocks : List (List ℕ)) (bytes : List ℕ) (answer : Result ℕ SendNo) → IsCut s start blocks
-      → IsCut (after_answer s bytes answer) start (blocks ++ blocks_taken s bytes answer)
-  answer-cut s start blocks bytes (Ok zero) is_cut = rw append-nil is_cut
-  answer-cut s start blocks bytes (Ok (suc n)) is_cut = cut-with_message s start blocks (take (suc n) bytes) is_cut
-  answer-cut s start blocks bytes (Err why) is_cut = rw append-nil is_cut
+  sent_as-joined : (s : State C) (bytes : List ℕ) (k : Kind) → 1 ≤ s.sending.blocks.payload
+      → concat (blocks_sent_as s bytes k) ≡ taken_by (Send bytes) (send_as s bytes k).reply
+  sent_as-joined s bytes kind.Stream some = sent-joined s bytes s.phase some
+  sent_as-joined s bytes kind.Message some = refl
+
+  asked-joined : (s : State C) (ttl : Option ℕ) (order : Bool) (bytes : List ℕ) (phase : Phase) → 1 ≤ s.sending.blocks.payload
+      → concat (blocks_asked s ttl order bytes phase) ≡ taken_by (SendMessage ttl order bytes) (send_message_in s ttl order bytes phase).reply
+  asked-joined s ttl order bytes phase.Connected some =
+      message-joined s.sending ttl order (expiry_of s.last ttl) bytes (message_answer s.sending (length bytes)) some
+  asked-joined s ttl order bytes (phase.Broken why) some = refl
+  asked-joined s ttl order bytes phase.Closing some = refl
+  asked-joined s ttl order bytes phase.Closed some = refl
+
+  asked_as-joined : (s : State C) (ttl : Option ℕ) (order : Bool) (bytes : List ℕ) (k : Kind) → 1 ≤ s.sending.blocks.payload
+      → concat (blocks_asked_as s ttl order bytes k) ≡ taken_by (SendMessage ttl order bytes) (send_message_as s ttl order bytes k).reply
+  asked_as-joined s ttl order bytes kind.Stream some = refl
+  asked_as-joined s ttl order bytes kind.Message some = asked-joined s ttl order bytes s.phase some
+
+  answer-cut : (s : Sending C) (start : ℕ) (blocks : List (List ℕ)) (order : Bool) (expires : Option ℕ) (bytes : List ℕ) (answer : Result ℕ SendNo)
+      → IsCut s start blocks → IsCut (after_answer s order expires bytes answer) start (blocks ++ blocks_taken s order expires bytes answer)
+  answer-cut s start blocks order expires bytes (Ok zero) is_cut = rw append-nil is_cut
+  answer-cut s start blocks order expires bytes (Ok (suc n)) is_cut = cut-with_message s start blocks order expires (take (suc n) bytes) is_cut
+  answer-cut s start blocks order expires bytes (Err why) is_cut = rw append-nil is_cut
 
   send-cut : (s : Sending C) (start : ℕ) (blocks : List (List ℕ)) (bytes : List ℕ) → IsCut s start blocks
-      → IsCut (after_send s bytes) start (blocks ++ blocks_taken s bytes (send_answer s (length bytes)))
+      → IsCut (after_send s bytes) start (blocks ++ blocks_taken s false None bytes (send_answer s (length bytes)))
   unfolding after_send
-  send-cut s start blocks bytes is_cut = answer-cut s start blocks bytes (send_answer s (length bytes)) is_cut
+  send-cut s start blocks bytes is_cut = answer-cut s start blocks false None bytes (send_answer s (length bytes)) is_cut
+
+  message-cut : (s : Sending C) (start : ℕ) (blocks : List (List ℕ)) (now : ℕ) (ttl : Option ℕ) (order : Bool) (bytes : List ℕ) → IsCut s start blocks
+      → IsCut (after_send_message s now ttl order bytes) start
+      (blocks ++ blocks_taken s order (expiry_of now ttl) bytes (message_answer s (length bytes)))
+  unfolding after_send_message
+  message-cut s start blocks now ttl order bytes is_cut =
+      answer-cut s start blocks order (expiry_of now ttl) bytes (message_answer s (length bytes)) is_cut
 
 module _ {C : Type 0} (w : Ways C) where
   -- the blocks that items add, from this state on
@@ -88,8 +139,10 @@ module _ {C : Type 0} (w : Ways C) where
       ∙ sym (append_assoc (blocks_of s item.event) (blocks_by next items) (blocks_by (after_items w next items) more))
 
   in-joined : (s : State C) (act : Act) → 1 ≤ s.sending.blocks.payload → concat (blocks_in s act) ≡ taken_by act (on_act w s act).reply
-  in-joined s (Send bytes) some = sent-joined s bytes s.phase some
+  in-joined s (Send bytes) some = sent_as-joined s bytes s.kind some
   in-joined s (Recv room) some = refl
+  in-joined s (SendMessage ttl order bytes) some = asked_as-joined s ttl order bytes s.kind some
+  in-joined s (RecvMessage room) some = refl
   in-joined s Pack some = refl
   in-joined s Tick some = refl
   in-joined s Close some = refl
@@ -133,6 +186,36 @@ module _ {C : Type 0} (w : Ways C) where
     recv_in-cut room phase.Closing = stays-cut
     recv_in-cut room phase.Closed = stays-cut
 
+    send_as-cut : (bytes : List ℕ) (k : Kind) → IsCut (send_as s bytes k).after.sending start (blocks ++ blocks_sent_as s bytes k)
+    send_as-cut bytes kind.Stream = send_in-cut bytes s.phase
+    send_as-cut bytes kind.Message = stays-cut
+
+    recv_as-cut : (room : ℕ) (k : Kind) → IsCut (recv_as s room k).after.sending start (blocks ++ [])
+    recv_as-cut room kind.Stream = recv_in-cut room s.phase
+    recv_as-cut room kind.Message = stays-cut
+
+    asked_in-cut : (ttl : Option ℕ) (order : Bool) (bytes : List ℕ) (phase : Phase)
+        → IsCut (send_message_in s ttl order bytes phase).after.sending start (blocks ++ blocks_asked s ttl order bytes phase)
+    asked_in-cut ttl order bytes phase.Connected = message-cut s.sending start blocks s.last ttl order bytes is_cut
+    asked_in-cut ttl order bytes (phase.Broken why) = stays-cut
+    asked_in-cut ttl order bytes phase.Closing = stays-cut
+    asked_in-cut ttl order bytes phase.Closed = stays-cut
+
+    asked_as-cut : (ttl : Option ℕ) (order : Bool) (bytes : List ℕ) (k : Kind)
+        → IsCut (send_message_as s ttl order bytes k).after.sending start (blocks ++ blocks_asked_as s ttl order bytes k)
+    asked_as-cut ttl order bytes kind.Stream = stays-cut
+    asked_as-cut ttl order bytes kind.Message = asked_in-cut ttl order bytes s.phase
+
+    shown_in-cut : (room : ℕ) (phase : Phase) → IsCut (recv_message_in s room phase).after.sending start (blocks ++ [])
+    shown_in-cut room phase.Connected = stays-cut
+    shown_in-cut room (phase.Broken why) = stays-cut
+    shown_in-cut room phase.Closing = stays-cut
+    shown_in-cut room phase.Closed = stays-cut
+
+    shown_as-cut : (room : ℕ) (k : Kind) → IsCut (recv_message_as s room k).after.sending start (blocks ++ [])
+    shown_as-cut room kind.Stream = stays-cut
+    shown_as-cut room kind.Message = shown_in-cut room s.phase
+
     pack_in-cut : (phase : Phase) → IsCut (pack_in w s phase).after.sending start (blocks ++ [])
     pack_in-cut phase.Connected =
         none-added _ (cut-after_packing w s.sending start s.last blocks (packing w s.sending s.last) refl is_cut)
@@ -158,6 +241,7 @@ module _ {C : Type 0} (w : Ways C) where
           passed = λ counters answer differs. stays-cut;
           noticed = λ counters answer differs connected. stays-cut;
           brought = λ number flags stamp payload connected sender is. stays-cut;
+          dropped = λ message stamp first last range connected sender is messages taken. stays-cut;
           acknowledged = λ number stamp body offset connected sender is acks.
               none-added _ (cut-after_ack w s.sending start blocks s.rtt body is_cut);
           reported = λ stamp ranges connected sender is. none-added _ (cut-after_nak w s.sending start blocks s.rtt ranges is_cut);
@@ -166,8 +250,10 @@ module _ {C : Type 0} (w : Ways C) where
         })
 
     act-cut : (act : Act) → IsCut (on_act w s act).after.sending start (blocks ++ blocks_in s act)
-    act-cut (Send bytes) = send_in-cut bytes s.phase
-    act-cut (Recv room) = recv_in-cut room s.phase
+    act-cut (Send bytes) = send_as-cut bytes s.kind
+    act-cut (Recv room) = recv_as-cut room s.kind
+    act-cut (SendMessage ttl order bytes) = asked_as-cut ttl order bytes s.kind
+    act-cut (RecvMessage room) = shown_as-cut room s.kind
     act-cut Pack = pack_in-cut s.phase
     act-cut Tick = tick_in-cut s.phase
     act-cut Close = stays-cut

@@ -17,7 +17,7 @@ use Rattle.udt_model.specs.Records.{Way, PairedAt, opened_by, IsWay}
 use Rattle.udt_model.specs.State.{State, Emission}
 use Rattle.udt_model.specs.Step.{step}
 use Rattle.udt_model.specs.Wire.{Packet, Block, destination, read}
-use Rattle.udt_model.proofs.EmissionLemmas.{Emitting, NewBlock, LostBlock, FullAck, LightAck, Reports, ReportsGap, AnswersAck, SendsKeepAlive, TheEnd, IsEmittedAt, emitted-at}
+use Rattle.udt_model.proofs.EmissionLemmas.{Emitting, NewBlock, LostBlock, DropRequest, FullAck, LightAck, Reports, ReportsGap, ReportsDropGap, AnswersAck, SendsKeepAlive, TheEnd, IsEmittedAt, emitted-at}
 use Rattle.udt_model.proofs.InOrder.{none_in_order}
 use Rattle.udt_model.proofs.SendingLemmas.{IsCut, cut-kept_at, packing-sends, packing-again, lost-within}
 use Rattle.udt_model.proofs.StepLemmas.{after_items-keeps}
@@ -112,10 +112,12 @@ module _ {C : Type 0} (w : Ways C) where
           carries = cut-kept_at s.sending start blocks offset block cut least.kept ∙ ap (λ (b : List ℕ). Some b) bytes_are;
           numbered = cc;
         }
+    block-of (DropRequest message connected packs is) same = absurd (cc)
     block-of (FullAck ack connected tells is) same = absurd (cc)
     block-of (LightAck from raw number' flags' stamp' bytes connected arrives carries sender replies is) same = absurd (cc)
     block-of (Reports range ranges connected reports is) same = absurd (cc)
     block-of (ReportsGap from raw number' flags' stamp' bytes ends connected arrives carries sender gap is) same = absurd (cc)
+    block-of (ReportsDropGap from raw message stamp' first last range ends connected arrives asks sender messages taken gap is) same = absurd (cc)
     block-of (AnswersAck number' connected is) same = absurd (cc)
     block-of (SendsKeepAlive connected is) same = absurd (cc)
     block-of (TheEnd closing is) same = absurd (cc)
@@ -148,6 +150,7 @@ module _ {C : Type 0} (w : Ways C) where
       sent_to = omega arith;
       lost = tt;
       messages = tt;
+      ends = tt;
       message = omega arith;
       payload = omega (arith, in_range.values.payload, in_range.values.peer_payload);
     };
