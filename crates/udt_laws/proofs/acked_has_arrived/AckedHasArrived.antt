@@ -3,6 +3,7 @@ use Rattle.std.proofs.Common.{◌≡◌, ℕ, ◌+◌, ◌^◌, ◌<◌, ◌≤�
 use Rattle.std.specs.List.{Contains}
 use Rattle.std.proofs.lemmas.Option.{same_Some}
 use Rattle.std.proofs.lemmas.List.Elements.{Contains-append_left, Contains-append_right, Contains-push}
+use Rattle.udt_model.specs.declared.packets.Kind.TheVariants.{Stream}
 use Rattle.udt_model.specs.declared.addresses.Addr.{Addr}
 use Rattle.udt_model.specs.declared.answers.Peer.{Peer}
 use Rattle.udt_model.specs.declared.packets.AckBody.{AckBody}
@@ -80,16 +81,16 @@ module _ {C : Type 0} (w : Ways C) where
         (items-ack h.opening h.items are.own_is are.peer_addr refl honest) (begins-acked h other.history are.same_start))
 
   pub prefix-arrived : (net : List (EndpointRecord C)) (addr : Addr) (socket other : Enrolled C) (peer : PeerPair) → AreLawful w net → IsHonest w net
-      → StandsAt net addr socket → own_peer w socket.history ≡ Some peer → StandsAt net peer.addr other → other.own ≡ peer.id
+      → StandsAt net addr socket → socket.history.opening.kind ≡ Stream → own_peer w socket.history ≡ Some peer → StandsAt net peer.addr other → other.own ≡ peer.id
       → acked w socket.history ≤ arrived w other.history
-  prefix-arrived net addr socket other peer lawful honest here peer_is there own_is =
+  prefix-arrived net addr socket other peer lawful honest here stream peer_is there own_is =
       let law = lawful.each here.endpoint here.among in
       let in_record = law.sockets socket here.enrolled in
       let met = law.met socket here.enrolled in
       let other_law = lawful.each met.stands.endpoint met.stands.among in
       let other_in = other_law.sockets met.other met.stands.enrolled in
       let are = ack-mates w here.endpoint.addr socket.own socket.way socket.history met.other_addr met.other.own met.other.way met.other.history
-      met.paired in_record.opened other_in.in_range other_in.opened other_in.legal in
+      met.paired in_record.opened other_in.in_range other_in.opened other_in.legal stream in
       let last = (after_items-keeps w socket.history.opening socket.history.items).peer in
       let named = same_Some _ _ peer_is in
       let addr_is : peer.addr ≡ met.other_addr = sym (ap (λ (p : PeerPair). p.addr) named) ∙ ap (λ (p : Peer). p.addr) last ∙ are.peer_addr in
@@ -143,13 +144,13 @@ module _ {C : Type 0} (w : Ways C) where
 
   -- of two sockets that were made as a pair, as long as the one has sent no block from this offset on
   pub below-arrived : (addr peer_addr : Addr) (socket other : Enrolled C) (high : ℕ) → IsSocket w socket → IsSocket w other
-      → ArePaired addr socket.own socket.way peer_addr other.own other.way → ComesFrom socket peer_addr other
-      → high < start_of socket.history + 2 ^ 30 → SendsBelow w high socket.history.opening socket.history.items
+      → ArePaired addr socket.own socket.way peer_addr other.own other.way → socket.history.opening.kind ≡ Stream
+      → ComesFrom socket peer_addr other → high < start_of socket.history + 2 ^ 30 → SendsBelow w high socket.history.opening socket.history.items
       → acked w socket.history ≤ arrived w other.history
-  below-arrived addr peer_addr socket other high is_socket is_other paired comes few below =
+  below-arrived addr peer_addr socket other high is_socket is_other paired stream comes few below =
       let h = socket.history in
       let are = ack-mates w addr socket.own socket.way h peer_addr other.own other.way other.history paired
-      is_socket.opened is_other.in_range is_other.opened is_other.legal in
+      is_socket.opened is_other.in_range is_other.opened is_other.legal stream in
       all-arrived w h other.history are.same_start
       (items-acked w (HasAllBelow w other.history) h.opening h.items
       (items-below addr peer_addr socket other is_other comes are high few h.opening h.items are.own_is are.peer_addr refl below (λ datagram among. among))
@@ -159,14 +160,14 @@ module _ {C : Type 0} (w : Ways C) where
   pub pair-arrived : PairArrived w
   pair-arrived addr peer_addr socket other is_socket is_other paired stream comes few =
       let h = socket.history in
-      below-arrived addr peer_addr socket other (start_of h + length (sent h)) is_socket is_other paired comes (omega (arith, few))
-      (sends-below_sent w socket.own socket.way h is_socket.in_range is_socket.opened is_socket.legal)
+      below-arrived addr peer_addr socket other (start_of h + length (sent h)) is_socket is_other paired stream comes (omega (arith, few))
+      (sends-below_sent w socket.own socket.way h is_socket.in_range is_socket.opened stream is_socket.legal)
 
   -- and one an event at most
   pub events-arrived : (addr peer_addr : Addr) (socket other : Enrolled C) → IsSocket w socket → IsSocket w other
-      → ArePaired addr socket.own socket.way peer_addr other.own other.way → ComesFrom socket peer_addr other
+      → ArePaired addr socket.own socket.way peer_addr other.own other.way → socket.history.opening.kind ≡ Stream → ComesFrom socket peer_addr other
       → length socket.history.items < 2 ^ 30 → acked w socket.history ≤ arrived w other.history
-  events-arrived addr peer_addr socket other is_socket is_other paired comes few =
+  events-arrived addr peer_addr socket other is_socket is_other paired stream comes few =
       let h = socket.history in
-      below-arrived addr peer_addr socket other (start_of h + length h.items) is_socket is_other paired comes (omega (arith, few))
-      (sends-below_events w socket.own socket.way h is_socket.in_range is_socket.opened)
+      below-arrived addr peer_addr socket other (start_of h + length h.items) is_socket is_other paired stream comes (omega (arith, few))
+      (sends-below_events w socket.own socket.way h is_socket.in_range is_socket.opened stream)

@@ -1,6 +1,7 @@
 -- What a history acknowledges: each ACK that it emits names one offset, before which all was placed.
 use Rattle.std.proofs.Common.{◌≡◌, ℕ, ◌≤◌, List, [], ◌∷◌, ◌++◌, Ok, ap, ◌∙◌, sym, subst, arith}
 use Rattle.std.specs.List.{Contains}
+use Rattle.udt_model.specs.declared.packets.Kind.TheVariants.{Stream}
 use Rattle.udt_model.specs.declared.answers.Peer.{Peer}
 use Rattle.udt_model.specs.declared.packets.AckBody.{AckBody}
 use Rattle.udt_model.specs.declared.packets.AckBody.TheVariants.{Light, Full}
@@ -95,10 +96,11 @@ module _ {C : Type 0} (w : Ways C) where
 
   -- so what it emits and is read as an ACK tells of what was placed in it
   pub history-tells : (own : ℕ) (way : Way) (h : History C) → IsWay own way → h.opening ≡ opened_by w own way → IsLegal w h
+      → h.opening.kind ≡ Stream
       → (emission : Emission) (number stamp dest : ℕ) (body : AckBody) → Contains (emitted w h) emission
       → read emission.datagram.bytes ≡ Ok (Ack number stamp dest body)
       → TellsOf (HasPlaced h) (start_of h) h.opening.receiving.isn emission (acked_number body)
-  history-tells own way h in_range opened legal emission number stamp dest body among reads =
+  history-tells own way h in_range opened legal stream emission number stamp dest body among reads =
       let P = HasPlaced h in
       let at = emission-at w own way h in_range opened legal emission among in
       let spelled = emission-reads w own way h in_range opened legal emission at in
@@ -106,7 +108,7 @@ module _ {C : Type 0} (w : Ways C) where
       let moment = moment-at w own way h in_range opened legal emission at in
       let here_legal = subst (λ (items : List Item). IsLegal w (record { opening = h.opening; items = items })) at.joined legal in
       let all_meet = subst (λ (items : List Item). AllMeet P (placed_from w h.opening items)) at.joined (λ n among. among) in
-      let covers = items-covers w P (start_of h) h.opening at.front (at.item ∷ at.rest) here_legal all_meet (way-covers P own way h opened) in
+      let covers = items-covers w P (start_of h) h.opening at.front (at.item ∷ at.rest) stream here_legal all_meet (way-covers P own way h opened) in
       let meets = item-meets w P (start_of h) h.opening at.front at.item at.rest here_legal all_meet in
       subst (λ (isn : ℕ). TellsOf P (start_of h) isn emission (acked_number body)) moment.receiving_isn
       (emitting-tells P (start_of h) (at_moment there at.item.event.now) at.item.event.act _ emission at.emitting number stamp dest body

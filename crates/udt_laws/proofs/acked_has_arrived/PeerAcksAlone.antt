@@ -1,6 +1,7 @@
 -- Of two sockets that were made as a pair, the one acknowledges only what arrived from the other, in the other's numbers.
 use Rattle.std.proofs.Common.{◌≡◌, ℕ, ◌≤◌, Ok, ap, ◌∙◌, sym, arith}
 use Rattle.std.specs.List.{Contains}
+use Rattle.udt_model.specs.declared.packets.Kind.TheVariants.{Stream}
 use Rattle.udt_model.specs.declared.addresses.Addr.{Addr}
 use Rattle.udt_model.specs.declared.answers.Peer.{Peer}
 use Rattle.udt_model.specs.declared.packets.AckBody.{AckBody}
@@ -11,7 +12,7 @@ use Rattle.udt_model.specs.Records.{Way, PairedAt, opened_by, IsWay, ArePaired}
 use Rattle.udt_model.specs.Emissions.{emitted}
 use Rattle.udt_model.specs.Rate.{Ways}
 use Rattle.udt_model.specs.State.{Emission}
-use Rattle.udt_laws.proofs.sockets.Opened.{opened_own, opened_peer, opened_receiving, opened_sending, opened_start, last_peer}
+use Rattle.udt_laws.proofs.sockets.Opened.{opened_own, opened_peer, opened_receiving, opened_sending, opened_start, last_peer, pair-stream}
 use Rattle.udt_laws.proofs.acked_has_arrived.CountsWithoutGap.{AllBetween, gapless-stretch}
 use Rattle.udt_laws.proofs.acked_has_arrived.AcksNamePlaced.{TellsOf, HasPlaced, history-tells}
 
@@ -36,8 +37,8 @@ module _ {C : Type 0} (w : Ways C) where
 
   pub ack-mates : (addr : Addr) (own : ℕ) (way : Way) (h : History C) (other_addr : Addr) (other_own : ℕ) (other_way : Way) (g : History C)
       → ArePaired addr own way other_addr other_own other_way → h.opening ≡ opened_by w own way
-      → IsWay other_own other_way → g.opening ≡ opened_by w other_own other_way → IsLegal w g → AreAckMates addr own h other_addr other_own g
-  ack-mates addr own (PairedAt config peer now start) h other_addr other_own (PairedAt other_config other_peer other_now other_start) g paired opened in_range other_opened other_legal =
+      → IsWay other_own other_way → g.opening ≡ opened_by w other_own other_way → IsLegal w g → h.opening.kind ≡ Stream → AreAckMates addr own h other_addr other_own g
+  ack-mates addr own (PairedAt config peer now start) h other_addr other_own (PairedAt other_config other_peer other_now other_start) g paired opened in_range other_opened other_legal stream =
       let peer_is = opened_peer w own config peer now start h opened in
       let back_is = last_peer w other_own other_config other_peer other_now other_start g other_opened in
       let start_is = opened_start w own config peer now start h opened in
@@ -50,7 +51,8 @@ module _ {C : Type 0} (w : Ways C) where
         same_isn = opened_receiving w other_own other_config other_peer other_now other_start g other_opened ∙ paired.5
             ∙ sym (opened_sending w own config peer now start h opened);
         same_start = opened_start w other_own other_config other_peer other_now other_start g other_opened ∙ paired.6 ∙ sym start_is;
-        tells = history-tells w other_own (PairedAt other_config other_peer other_now other_start) g in_range other_opened other_legal;
+        tells = history-tells w other_own (PairedAt other_config other_peer other_now other_start) g in_range other_opened other_legal
+            (pair-stream w addr own (PairedAt config peer now start) h other_addr other_own (PairedAt other_config other_peer other_now other_start) g paired opened other_opened stream);
       }
 
   -- where all below the acknowledged offset was placed, no more is acknowledged than has arrived

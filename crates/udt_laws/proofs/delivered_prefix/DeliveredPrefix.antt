@@ -3,6 +3,7 @@
 use Rattle.std.proofs.Common.{◌≡◌, ℕ, List, [], ◌∷◌, Some, Ok, refl, ap, ◌∙◌, sym, subst}
 use Rattle.std.specs.List.{Contains}
 use Rattle.std.proofs.lemmas.Option.{same_Some}
+use Rattle.udt_model.specs.declared.packets.Kind.TheVariants.{Stream}
 use Rattle.udt_model.specs.declared.addresses.Addr.{Addr}
 use Rattle.udt_model.specs.declared.answers.Peer.{Peer}
 use Rattle.udt_model.specs.declared.packets.Flags.{Flags}
@@ -60,9 +61,9 @@ module _ {C : Type 0} (w : Ways C) where
 
     -- the sockets that a script paired
     paired-prefix : (addr : Addr) (receiver : Enrolled C) (peer : PeerPair) (sender : Enrolled C) → IsHonest w net → StandsAt net addr receiver
-        → own_peer w receiver.history ≡ Some peer → StandsAt net peer.addr sender → sender.own ≡ peer.id
+        → receiver.history.opening.kind ≡ Stream → own_peer w receiver.history ≡ Some peer → StandsAt net peer.addr sender → sender.own ≡ peer.id
         → IsPrefix (delivered receiver.history) (accepted sender.history)
-    paired-prefix addr receiver peer sender honest here peer_is there own_is =
+    paired-prefix addr receiver peer sender honest here stream peer_is there own_is =
         let law = lawful.each here.endpoint here.among in
         let in_record = law.sockets receiver here.enrolled in
         let met = law.met receiver here.enrolled in
@@ -79,11 +80,11 @@ module _ {C : Type 0} (w : Ways C) where
         (names w met.other.history here.endpoint.addr receiver.own are.back_addr are.back_id) receiver.history.opening receiver.history.items
         are.own_is are.peer_addr are.same_isn
         (subst (λ (a : Addr). AreHonest w net a receiver.history.opening receiver.history.items) (sym here.addr_is) (honest addr receiver here)) in
-        subst (λ (x : Enrolled C). IsPrefix (delivered receiver.history) (accepted x.history)) same (are.front meets)
+        subst (λ (x : Enrolled C). IsPrefix (delivered receiver.history) (accepted x.history)) same (are.front stream meets)
 
   -- so what a socket delivers is a prefix of what its own peer accepted
   pub prefix-delivered : (net : List (EndpointRecord C)) (addr : Addr) (socket other : Enrolled C) (peer : PeerPair) → AreLawful w net → IsHonest w net
-      → StandsAt net addr socket → own_peer w socket.history ≡ Some peer → StandsAt net peer.addr other → other.own ≡ peer.id
+      → StandsAt net addr socket → socket.history.opening.kind ≡ Stream → own_peer w socket.history ≡ Some peer → StandsAt net peer.addr other → other.own ≡ peer.id
       → IsPrefix (delivered socket.history) (accepted other.history)
-  prefix-delivered net addr socket other peer lawful honest here peer_is there own_is =
-      paired-prefix net lawful addr socket peer other honest here peer_is there own_is
+  prefix-delivered net addr socket other peer lawful honest here stream peer_is there own_is =
+      paired-prefix net lawful addr socket peer other honest here stream peer_is there own_is

@@ -5,6 +5,7 @@ use Rattle.std.specs.List.{Contains, concat}
 use Rattle.std.proofs.lemmas.Option.{same_Some}
 use Rattle.std.proofs.lemmas.List.{append_assoc}
 use Rattle.std.proofs.lemmas.List.Elements.{Contains-push}
+use Rattle.udt_model.specs.declared.packets.Kind.TheVariants.{Stream}
 use Rattle.udt_model.specs.declared.answers.Peer.{Peer}
 use Rattle.udt_model.specs.declared.packets.Config.{Config}
 use Rattle.udt_model.specs.declared.packets.Flags.{Flags}
@@ -92,9 +93,9 @@ module _ {C : Type 0} (w : Ways C) where
 
     -- a socket that begins where the sender does, and places only its blocks, delivers a front of what it accepted
     pub delivers-front : (own : ℕ) (config : Config) (peer : Peer) (now start : ℕ) (h : History C) → h.opening ≡ opening w own config peer now start
-        → IsLegal w h → start_of g ≡ start → AllMeet w IsBlockAt h.opening h.items → IsPrefix (delivered h) (accepted g)
-    delivers-front own config peer now start h opened legal same_start meets =
-        let front = delivers-front_of w IsBlockAt start h.opening h.items legal meets
+        → IsLegal w h → start_of g ≡ start → h.opening.kind ≡ Stream → AllMeet w IsBlockAt h.opening h.items → IsPrefix (delivered h) (accepted g)
+    delivers-front own config peer now start h opened legal same_start stream meets =
+        let front = delivers-front_of w IsBlockAt start h.opening h.items stream legal meets
         (opened_kept w own config peer now start h opened legal IsBlockAt) in
         front-accepted (delivered h) (subst (λ (n : ℕ). IsPrefixOf IsBlockAt n (delivered h)) (sym same_start) front)
 
@@ -112,7 +113,7 @@ module _ {C : Type 0} (w : Ways C) where
     pub same_isn : (state_of w g).sending.isn ≡ h.opening.receiving.isn
     pub same_start : start_of g ≡ start_of h
     pub stands : IsWithin (start_of h) (start_of h) h.opening.receiving
-    pub front : AllMeet w (IsBlockAt g has) h.opening h.items → IsPrefix (delivered h) (accepted g)
+    pub front : h.opening.kind ≡ Stream → AllMeet w (IsBlockAt g has) h.opening h.items → IsPrefix (delivered h) (accepted g)
 
   pub mates : (addr : Addr) (own : ℕ) (way : Way) (h : History C) (other_addr : Addr) (other_own : ℕ) (other_way : Way) (g : History C)
       → ArePaired addr own way other_addr other_own other_way → h.opening ≡ opened_by w own way → IsLegal w h

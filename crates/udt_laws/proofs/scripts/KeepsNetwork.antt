@@ -58,7 +58,6 @@ module _ {C : Type 0} (w : Ways C) where
     pub plan : Plan
     pub at : slice_get plans k ≡ Some plan
     pub host : script_socket.host ≡ plan.host
-    pub stream : IsStream script_socket.history
     pub socket : IsSocket w (enrolled_at k plan.way script_socket.history)
 
   -- the network is one that a script makes
@@ -168,7 +167,6 @@ module _ {C : Type 0} (w : Ways C) where
               plan = planned.plan;
               at = planned.at;
               host = planned.host;
-              stream = planned.stream;
               socket = record { in_range = socket.in_range; opened = socket.opened; legal = IsLegal-happened w script_socket.history 0 event socket.legal };
             } in
             subst (λ (j : ℕ). IsPlanned is.plans j found) new.0 (subst (IsPlanned is.plans place) new.1 mine)

@@ -62,9 +62,8 @@ module _ {C : Type 0} (w : Ways C) where
         plan = first_plan;
         at = append-second is.plans _ (length n.sockets) 0 first_plan (omega (arith, is.count)) refl;
         host = refl;
-        stream = refl;
         socket = record {
-          in_range = record { stream = refl; values = can_open second_host (length n.sockets + 2); own_fits = omega (arith, room); id_fits = omega (arith, room); isn_fits = in_range.isn };
+          in_range = record { values = can_open second_host (length n.sockets + 2); own_fits = omega (arith, room); id_fits = omega (arith, room); isn_fits = in_range.isn };
           opened = refl;
           legal = tt;
         };
@@ -78,9 +77,8 @@ module _ {C : Type 0} (w : Ways C) where
             plan = second_plan;
             at = append-second is.plans _ (length n.sockets + 1) 1 second_plan (omega (arith, is.count)) refl;
             host = refl;
-            stream = refl;
             socket = record {
-              in_range = record { stream = refl; values = can_open first_host (length n.sockets + 1); own_fits = omega (arith, room); id_fits = omega (arith, room); isn_fits = in_range.isn };
+              in_range = record { values = can_open first_host (length n.sockets + 1); own_fits = omega (arith, room); id_fits = omega (arith, room); isn_fits = in_range.isn };
               opened = ap (λ (own : ℕ). opening w own (config_of p) (peer_of p first_host (length n.sockets + 1)) 0 p.start) own_is;
               legal = tt;
             };
@@ -120,7 +118,7 @@ module _ {C : Type 0} (w : Ways C) where
       socket-planned k script_socket at = elim (socket-found k script_socket at) [
         | inl old ↦
             let planned = is.sockets k script_socket old in
-            record { plan = planned.plan; at = append-first is.plans _ k planned.plan planned.at; host = planned.host; stream = planned.stream; socket = planned.socket }
+            record { plan = planned.plan; at = append-first is.plans _ k planned.plan planned.at; host = planned.host; socket = planned.socket }
         | inr new ↦ elim new [
           | inl one ↦ subst (λ (at_k : ℕ). IsPlanned w with_both at_k script_socket) one.0 (subst (IsPlanned w with_both (length n.sockets)) one.1 first-planned)
           | inr two ↦ subst (λ (at_k : ℕ). IsPlanned w with_both at_k script_socket) two.0 (subst (IsPlanned w with_both (length n.sockets + 1)) two.1 second-planned)

@@ -5,7 +5,7 @@ use Rattle.std.proofs.lemmas.Bool.Decides.{nat_tests}
 use Rattle.udt_model.specs.declared.limits.TheConstants.{MOST_PAYLOAD, FEWEST_BLOCKS, MOST_BLOCKS, LAST_START}
 use Rattle.udt_model.specs.Addresses.{addr_of}
 use Rattle.udt_model.specs.Words.{◌>>=◌, words_of, is_word, name_of, number_of, if_within, number_within, bytes_of}
-use Rattle.udt_model.specs.Lines.{Pairing, Line, PairLine, is_silent, moment_of, pairing_of, pair_line, is_call, call_of, call_line, deliver_line, raw_line, line_by_words, read_line}
+use Rattle.udt_model.specs.Lines.{Pairing, Line, PairLine, is_silent, moment_of, kind_of, pairing_of, pair_line, is_call, call_of, call_line, deliver_line, raw_line, line_by_words, read_line}
 
 -- the values of a pair are in their ranges
 pub record IsPairing (p : Pairing) : Type 0 where
@@ -33,10 +33,11 @@ number-within least most word n is =
     let found = bind-some (number_of word) (if_within least most) n is in
     lies-within least most found.0 n found.2
 
-made-pairing : (a b payload isn blocks : List ℕ) (start : ℕ) (p : Pairing) → start ≤ LAST_START
-    → pairing_of a b payload isn blocks start ≡ Some (PairLine p) → IsPairing p
-made-pairing a b payload isn blocks start p fits is =
-    let one = bind-some (name_of a) _ _ is in
+made-pairing : (kind a b payload isn blocks : List ℕ) (start : ℕ) (p : Pairing) → start ≤ LAST_START
+    → pairing_of kind a b payload isn blocks start ≡ Some (PairLine p) → IsPairing p
+made-pairing kind a b payload isn blocks start p fits is =
+    let zeroth = bind-some (kind_of kind) _ _ is in
+    let one = bind-some (name_of a) _ _ zeroth.2 in
     let two = bind-some (name_of b) _ _ one.2 in
     let three = bind-some (number_within 1 MOST_PAYLOAD payload) _ _ two.2 in
     let four = bind-some (number_within 0 (2 ^ 31 - 1) isn) _ _ three.2 in
@@ -57,18 +58,18 @@ made-pairing a b payload isn blocks start p fits is =
       start = omega (arith, fits, start_is);
     }
 
-pair-in_range : (words : List (List ℕ)) (p : Pairing) → pair_line words ≡ Some (PairLine p) → IsPairing p
+pair-in_range : (kind : List ℕ) (words : List (List ℕ)) (p : Pairing) → pair_line kind words ≡ Some (PairLine p) → IsPairing p
 unfolding pair_line
-pair-in_range [] p is = absurd (cc)
-pair-in_range (a ∷ []) p is = absurd (cc)
-pair-in_range (a ∷ b ∷ []) p is = absurd (cc)
-pair-in_range (a ∷ b ∷ c ∷ []) p is = absurd (cc)
-pair-in_range (a ∷ b ∷ c ∷ d ∷ []) p is = absurd (cc)
-pair-in_range (a ∷ b ∷ c ∷ d ∷ e ∷ []) p is = made-pairing a b c d e 0 p (omega arith) is
-pair-in_range (a ∷ b ∷ c ∷ d ∷ e ∷ f ∷ []) p is =
+pair-in_range kind [] p is = absurd (cc)
+pair-in_range kind (a ∷ []) p is = absurd (cc)
+pair-in_range kind (a ∷ b ∷ []) p is = absurd (cc)
+pair-in_range kind (a ∷ b ∷ c ∷ []) p is = absurd (cc)
+pair-in_range kind (a ∷ b ∷ c ∷ d ∷ []) p is = absurd (cc)
+pair-in_range kind (a ∷ b ∷ c ∷ d ∷ e ∷ []) p is = made-pairing kind a b c d e 0 p (omega arith) is
+pair-in_range kind (a ∷ b ∷ c ∷ d ∷ e ∷ f ∷ []) p is =
     let found = bind-some (number_within 0 LAST_START f) _ _ is in
-    made-pairing a b c d e found.0 p (number-within 0 LAST_START f found.0 found.1).1 found.2
-pair-in_range (a ∷ b ∷ c ∷ d ∷ e ∷ f ∷ g ∷ others) p is = absurd (cc)
+    made-pairing kind a b c d e found.0 p (number-within 0 LAST_START f found.0 found.1).1 found.2
+pair-in_range kind (a ∷ b ∷ c ∷ d ∷ e ∷ f ∷ g ∷ others) p is = absurd (cc)
 
 call-no_pair : (name call : List ℕ) (words : List (List ℕ)) (p : Pairing) → call_line name call words ≡ Some (PairLine p) → ⊥
 unfolding call_line
@@ -112,8 +113,8 @@ words-in_range (first ∷ second ∷ others) p is =
         | inl delivers ↦ absurd (deliver-no_pair second others p delivers)
         | inr two ↦ elim (if-some (is_word first (codes "raw")) _ _ _ two) [
           | inl raws ↦ absurd (raw-no_pair second others p raws)
-          | inr three ↦ elim (if-some (is_word first (codes "pair") && is_word second (codes "stream")) _ _ _ three) [
-            | inl pairs ↦ pair-in_range others p pairs
+          | inr three ↦ elim (if-some (is_word first (codes "pair")) _ _ _ three) [
+            | inl pairs ↦ pair-in_range second others p pairs
             | inr none ↦ absurd (cc)
           ]
         ]

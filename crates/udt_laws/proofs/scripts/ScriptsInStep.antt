@@ -75,13 +75,8 @@ module _ {C : Type 0} (w : Ways C) where
 
   -- no call is an arrival
   nothing-came_by : (n : Network C) (act : Act) → is_arrival act ≡ false → (datagram : Datagram) → Contains (arrived_by_act act) datagram → CameAs n.datagrams datagram
-  nothing-came_by n (Send bytes) call = nothing-came n
-  nothing-came_by n (Recv room) call = nothing-came n
-  nothing-came_by n Pack call = nothing-came n
-  nothing-came_by n Tick call = nothing-came n
-  nothing-came_by n Close call = nothing-came n
-  nothing-came_by n Measure call = nothing-came n
   nothing-came_by n (Arrive from bytes) call = absurd (cc)
+  nothing-came_by n act call = nothing-came n
 
   datagram-came : (n : Network C) (script_datagram : ScriptDatagram) → Contains n.datagrams script_datagram → (datagram : Datagram)
       → Contains (record { addr = script_datagram.from; bytes = script_datagram.bytes } ∷ []) datagram → CameAs n.datagrams datagram
@@ -263,7 +258,7 @@ module _ {C : Type 0} (w : Ways C) where
         )
 
   pub script_prefix : ScriptPrefix w
-  script_prefix lines place peer_place script_socket peer few emitted at peer_at names =
+  script_prefix lines place peer_place script_socket peer few emitted at peer_at stream names =
       let made = network-made lines emitted in
       let n = network_after w lines in
       let a = made.network.sockets place script_socket at in
@@ -274,9 +269,9 @@ module _ {C : Type 0} (w : Ways C) where
       let are = mate-at n made.network place peer_place script_socket a.plan b.plan a.socket a.at b.at id in
       let comes = comes-from n made.network place peer_place script_socket peer at peer_at id a b in
       record {
-        prefix = events-prefix w a.plan.host b.plan.host one other a.socket b.socket are a.stream comes
+        prefix = events-prefix w a.plan.host b.plan.host one other a.socket b.socket are stream comes
             (omega (arith, made.few peer_place peer peer_at, few));
-        acknowledged = events-arrived w a.plan.host b.plan.host one other a.socket b.socket are comes (omega (arith, made.few place script_socket at, few));
+        acknowledged = events-arrived w a.plan.host b.plan.host one other a.socket b.socket are stream comes (omega (arith, made.few place script_socket at, few));
       }
 
 -- there are at most as many lines as bytes with their line feeds, so the lines of a script are few enough

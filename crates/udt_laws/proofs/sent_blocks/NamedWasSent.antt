@@ -191,6 +191,14 @@ module _ {C : Type 0} (w : Ways C) where
     none = stream-none_expires w s event endless.stream endless.none;
   }
 
+  pub moment-endless : (s : State C) (now : ℕ) → IsEndless s → IsEndless (at_moment s now)
+  moment-endless s now endless = record { stream = endless.stream; none = endless.none }
+
+  pub items-endless : (s : State C) (items : List Item) → IsEndless s → IsEndless (after_items w s items)
+  unfolding after_items
+  items-endless s [] endless = endless
+  items-endless s (item ∷ items) endless = items-endless (step w s item.event).after items (stays-endless s item.event endless)
+
   -- a stream begins so
   opening-endless_by : (own : ℕ) (way : Way) → NoneExpires (opened_by w own way).sending.blocks.kept
   unfolding opening

@@ -3,11 +3,12 @@ use Rattle.std.proofs.Common.{◌≡◌, ℕ, [], Some, sym, ap, ◌∙◌}
 use Rattle.udt_model.specs.declared.answers.Peer.{Peer}
 use Rattle.udt_model.specs.declared.answers.Phase.TheVariants as phase
 use Rattle.udt_model.specs.declared.packets.Config.{Config}
+use Rattle.udt_model.specs.declared.packets.Kind.TheVariants.{Stream}
 use Rattle.udt_model.specs.declared.addresses.Addr.{Addr}
 use Rattle.udt_model.specs.History.{History, state_of, start_of}
 use Rattle.udt_model.specs.Opening.{opening}
 use Rattle.udt_model.specs.Rate.{Ways}
-use Rattle.udt_model.specs.Records.{Way, PairedAt, opened_by, PeerPair, own_peer}
+use Rattle.udt_model.specs.Records.{Way, PairedAt, ArePaired, opened_by, PeerPair, own_peer}
 use Rattle.udt_model.specs.State.{State}
 use Rattle.udt_model.proofs.StepLemmas.{after_items-keeps}
 
@@ -16,6 +17,10 @@ module _ {C : Type 0} (w : Ways C) (own : ℕ) (config : Config) (peer : Peer) (
   pub opened_own : h.opening.own ≡ own
   unfolding opening
   opened_own = ap (λ (s : State C). s.own) opened
+
+  pub opened_kind : h.opening.kind ≡ config.kind
+  unfolding opening
+  opened_kind = ap (λ (s : State C). s.kind) opened
 
   pub opened_peer : h.opening.peer ≡ peer
   unfolding opening
@@ -81,3 +86,11 @@ module _ {C : Type 0} (w : Ways C) where
   unfolding pair_from
   names h addr id addr_is id_is =
       ap (λ (p : PeerPair). Some p) (pair_from-same (state_of w h).peer.addr addr (state_of w h).peer.id id addr_is id_is)
+
+  -- where one of a pair is a stream, the other is
+  pub pair-stream : (addr : Addr) (own : ℕ) (way : Way) (h : History C) (other_addr : Addr) (other_own : ℕ) (other_way : Way) (g : History C)
+      → ArePaired addr own way other_addr other_own other_way → h.opening ≡ opened_by w own way → g.opening ≡ opened_by w other_own other_way
+      → h.opening.kind ≡ Stream → g.opening.kind ≡ Stream
+  pair-stream addr own (PairedAt config peer now start) h other_addr other_own (PairedAt other_config other_peer other_now other_start) g paired opened other_opened stream =
+      opened_kind w other_own other_config other_peer other_now other_start g other_opened ∙ paired.4
+      ∙ sym (opened_kind w own config peer now start h opened) ∙ stream
