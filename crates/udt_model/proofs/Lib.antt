@@ -21,3 +21,4 @@ pub mod TakenOffsets
 pub mod MissingOffsets
 pub mod InOrder
 pub mod MessageLemmas
+pub mod DropLemmas

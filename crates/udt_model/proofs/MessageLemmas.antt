@@ -17,11 +17,11 @@ bytes_in : PlacedBlock → List ℕ
 bytes_in block = block.bytes
 
 -- these are placed
-abbrev AreAmong : List PlacedBlock → ReceiveBlocks → Type 0
+abbrev pub AreAmong : List PlacedBlock → ReceiveBlocks → Type 0
 AreAmong placed b = (block : PlacedBlock) → Contains placed block → Contains b.placed block
 
 -- all that are placed from this offset on are among these
-abbrev HasAll : ReceiveBlocks → ℕ → List PlacedBlock → Type 0
+abbrev pub HasAll : ReceiveBlocks → ℕ → List PlacedBlock → Type 0
 HasAll b offset placed = (block : PlacedBlock) → Contains b.placed block → offset ≤ block.offset → Contains placed block
 
 first-contained : (block : PlacedBlock) (others : List PlacedBlock) → Contains (block ∷ others) block
@@ -154,7 +154,7 @@ found-by b offset number block next m true false None among goes ends is later =
 found-by b offset number block next m true false (Some more) among goes ends is later =
     found-more b offset number block next more m (goes-on b offset number block among goes) ends (later more refl) is
 
-pub found : (b : ReceiveBlocks) (offset number : ℕ) (block : PlacedBlock) (others : List PlacedBlock) (m : WholeMessage) → AreAmong (block ∷ others) b
+found : (b : ReceiveBlocks) (offset number : ℕ) (block : PlacedBlock) (others : List PlacedBlock) (m : WholeMessage) → AreAmong (block ∷ others) b
     → up_to_last offset number (block ∷ others) ≡ Some m → IsFound b offset number block m
 unfolding up_to_last
 found b offset number block [] m among is =
@@ -238,6 +238,19 @@ no-more : (first : PlacedBlock) (o : Option WholeMessage) → option_map (with_f
 no-more first None is = refl
 no-more first (Some m) is = absurd (cc)
 
+-- what the search makes of a block that goes on, by whether it is the last one
+last-found : (offset : ℕ) (bytes : List ℕ) (goes last : Bool) (more : Option WholeMessage) → goes ≡ true → last ≡ true
+    → (if goes then (if last then Some (record { first = offset; count = 1; bytes = bytes }) else more) else None) ≡ None → ⊥
+last-found offset bytes true true more goes_is last_is none = cc
+last-found offset bytes true false more goes_is last_is none = cc
+last-found offset bytes false last more goes_is last_is none = cc
+
+more-found : (offset : ℕ) (bytes : List ℕ) (goes last : Bool) (more : Option WholeMessage) → goes ≡ true → last ≡ false
+    → (if goes then (if last then Some (record { first = offset; count = 1; bytes = bytes }) else more) else None) ≡ None → more ≡ None
+more-found offset bytes true false more goes_is last_is none = none
+more-found offset bytes true true more goes_is last_is none = absurd (cc)
+more-found offset bytes false last more goes_is last_is none = absurd (cc)
+
 -- parts of a message are found, from their first block on
 pub parts-found : (b : ReceiveBlocks) (offset number : ℕ) (first : PlacedBlock) (others placed : List PlacedBlock) → AreRising offset placed → HasAll b offset placed
     → AreParts b offset number (first ∷ others) → up_to_last offset number placed ≡ None → ⊥
@@ -246,15 +259,16 @@ parts-found b offset number first [] placed rising all parts none =
     let stands = stands-first b offset placed first rising all parts.0.among parts.0.at in
     let goes = part-goes-on b offset number first parts.0 in
     let is = rw stands.is at none in
-    let some = rw (goes, parts.1) at is in
-    cc
+    last-found offset first.bytes (goes_on offset number first) first.flags.last
+    (option_map (with_first first) (up_to_last (offset + 1) number stands.rest)) goes parts.1 is
 parts-found b offset number first (next ∷ others) placed rising all parts none =
     let stands = stands-first b offset placed first rising all parts.0.among parts.0.at in
     let goes = part-goes-on b offset number first parts.0 in
     let rising_all : AreRising offset (first ∷ stands.rest) = rw stands.is at rising in
     let has_all : HasAll b offset (first ∷ stands.rest) = subst (HasAll b offset) stands.is all in
     let is = rw stands.is at none in
-    let later = rw (goes, parts.1) at is in
+    let later = more-found offset first.bytes (goes_on offset number first) first.flags.last
+    (option_map (with_first first) (up_to_last (offset + 1) number stands.rest)) goes parts.1 is in
     let place : first.offset ≡ offset = parts.0.at in
     parts-found b (offset + 1) number next others stands.rest
     (subst (λ (n : ℕ). AreRising (n + 1) stands.rest) place rising_all.1)
@@ -262,7 +276,7 @@ parts-found b offset number first (next ∷ others) placed rising all parts none
     parts.2 (no-more first (up_to_last (offset + 1) number stands.rest) later)
 
 -- what was found begins no later
-abbrev IsAtMost : ℕ → Option WholeMessage → Type 0
+abbrev pub IsAtMost : ℕ → Option WholeMessage → Type 0
 IsAtMost offset None = ⊥
 IsAtMost offset (Some m) = m.first ≤ offset
 

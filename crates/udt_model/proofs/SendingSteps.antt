@@ -36,8 +36,8 @@ module _ {C : Type 0} (w : Ways C) where
     pub times_out : Q (after_timeout w s.sending s.rtt)
 
   module _ (s : State C) (Q : Sending C → Type 0) where
-    send-shows : (bytes : List ℕ) (phase : Phase) → s.phase ≡ phase → Q s.sending → (s.phase ≡ phase.Connected → Q (after_send s.sending bytes))
-        → Q (send_in s bytes phase).after.sending
+    send-shows : (bytes : List ℕ) (now_in : Phase) → s.phase ≡ now_in → Q s.sending
+        → (s.phase ≡ phase.Connected → Q (after_send s.sending bytes)) → Q (send_in s bytes now_in).after.sending
     send-shows bytes phase.Connected is stays sends = sends is
     send-shows bytes (phase.Broken why) is stays sends = stays
     send-shows bytes phase.Closing is stays sends = stays
@@ -48,9 +48,9 @@ module _ {C : Type 0} (w : Ways C) where
     send_as-shows bytes kind.Stream is stays sends = send-shows bytes s.phase refl stays (sends is)
     send_as-shows bytes kind.Message is stays sends = stays
 
-    send_message-shows : (ttl : Option ℕ) (order : Bool) (bytes : List ℕ) (phase : Phase) → s.phase ≡ phase → Q s.sending
+    send_message-shows : (ttl : Option ℕ) (order : Bool) (bytes : List ℕ) (now_in : Phase) → s.phase ≡ now_in → Q s.sending
         → (s.phase ≡ phase.Connected → Q (after_send_message s.sending s.last ttl order bytes))
-        → Q (send_message_in s ttl order bytes phase).after.sending
+        → Q (send_message_in s ttl order bytes now_in).after.sending
     send_message-shows ttl order bytes phase.Connected is stays asks = asks is
     send_message-shows ttl order bytes (phase.Broken why) is stays asks = stays
     send_message-shows ttl order bytes phase.Closing is stays asks = stays
