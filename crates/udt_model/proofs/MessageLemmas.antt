@@ -206,8 +206,8 @@ search-readable b offset gapless (block ∷ others) m among before is =
     let still = gapless && block.offset == offset in
     let own : Contains b.placed block = among block (first-contained block others) in
     let up_to : still ≡ true → (n : ℕ) → b.base ≤ n → n < block.offset → is_taken n b.placed ≡ true = λ holds n low high.
-        let parts = and_parts gapless (block.offset == offset) holds in
-        before parts.0 n low (omega (arith, high, eqb-true block.offset offset parts.1)) in
+    let parts = and_parts gapless (block.offset == offset) holds in
+    before parts.0 n low (omega (arith, high, eqb-true block.offset offset parts.1)) in
     search-by b block m still (may_begin still block) (up_to_last block.offset block.flags.message (block ∷ others))
     (message_from (block.offset + 1) still others) refl is
     (λ x there. found b block.offset block.flags.message block others x among there)
@@ -331,7 +331,7 @@ search-least b offset gapless (block ∷ others) m low among rising all knows re
     let rising_here : AreRising block.offset (block ∷ others) = (omega arith, rising.1) in
     let above : block.offset ≤ first.offset = above-first block.offset (block ∷ others) first rising_here there in
     let whole : (x : WholeMessage) → up_to_last block.offset block.flags.message (block ∷ others) ≡ Some x → x.first ≡ block.offset =
-        λ x is. (found b block.offset block.flags.message block others x among is).first in
+    λ x is. (found b block.offset block.flags.message block others x among is).first in
     least-by block m.first (may_begin still block) (up_to_last block.offset block.flags.message (block ∷ others))
     (message_from (block.offset + 1) still others) whole (omega (arith, above, part.at))
     (λ at. elim (contained-cases block others first there) [
@@ -344,11 +344,12 @@ search-least b offset gapless (block ∷ others) m low among rising all knows re
             | inr free ↦ or_left (not block.flags.order) still (not_false block.flags.order free)
           ] in
           let parts_here : AreParts b block.offset block.flags.message (block ∷ readable.others) =
-              subst (λ (x : PlacedBlock). AreParts b block.offset x.flags.message (x ∷ readable.others)) (sym same)
-              (subst (λ (n : ℕ). AreParts b n first.flags.message (first ∷ readable.others)) (sym at) readable.parts) in
-          let all_here : HasAll b block.offset (block ∷ others) = λ x inside up. all x inside (omega (arith, up, rising.0)) in
-          (both_true block.flags.first (not block.flags.order || still) (ap (λ (x : PlacedBlock). x.flags.first) same ∙ readable.begins) may,
-          parts-found b block.offset block.flags.message block readable.others (block ∷ others) rising_here all_here parts_here)
+          subst (λ (x : PlacedBlock). AreParts b block.offset x.flags.message (x ∷ readable.others)) (sym same)
+          (subst (λ (n : ℕ). AreParts b n first.flags.message (first ∷ readable.others)) (sym at) readable.parts) in
+          let all_here : HasAll b block.offset (block ∷ others) = λ x inside up. all x inside (omega (arith, up, rising.0)) in (
+            both_true block.flags.first (not block.flags.order || still) (ap (λ (x : PlacedBlock). x.flags.first) same ∙ readable.begins) may,
+            parts-found b block.offset block.flags.message block readable.others (block ∷ others) rising_here all_here parts_here,
+          )
       | inr later ↦ absurd (omega (arith, above-first (block.offset + 1) others first rising.1 later, at, part.at))
     ])
     (λ less. search-least b (block.offset + 1) still others m (omega (arith, low, rising.0))
@@ -364,13 +365,14 @@ next-by b None rising is = λ m readable.
     let low = above-first b.base b.placed readable.first rising part.among in
     subst (IsAtMost m.first) is
     (search-least b b.base true b.placed m (omega arith) (λ x there. there) rising (λ x there up. there) (λ taken. refl) readable (omega (arith, low, part.at)))
-next-by b (Some m) rising is =
-    (search-readable b b.base true b.placed m (λ x there. there) (λ gapless n low high. absurd (omega (arith, low, high))) is,
-    λ other readable.
-    let part = first-part b other.first readable.first.flags.message readable.first readable.others readable.parts in
-    let low = above-first b.base b.placed readable.first rising part.among in
-    subst (IsAtMost other.first) is
-    (search-least b b.base true b.placed other (omega arith) (λ x there. there) rising (λ x there up. there) (λ taken. refl) readable (omega (arith, low, part.at))))
+next-by b (Some m) rising is = (
+  search-readable b b.base true b.placed m (λ x there. there) (λ gapless n low high. absurd (omega (arith, low, high))) is,
+  λ other readable.
+      let part = first-part b other.first readable.first.flags.message readable.first readable.others readable.parts in
+      let low = above-first b.base b.placed readable.first rising part.among in
+      subst (IsAtMost other.first) is
+      (search-least b b.base true b.placed other (omega arith) (λ x there. there) rising (λ x there up. there) (λ taken. refl) readable (omega (arith, low, part.at))),
+)
 
 -- the search finds the readable message with the least offset, and none only where none is readable
 pub next_message-is : (b : ReceiveBlocks) → AreRising b.base b.placed → IsNextMessage b (next_message b)
