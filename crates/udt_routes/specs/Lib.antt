@@ -1,0 +1,5 @@
+pub mod Sorted
+pub mod Keys
+pub mod Drawers
+pub mod Tables
+pub mod Inside
