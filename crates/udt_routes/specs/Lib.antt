@@ -3,3 +3,4 @@ pub mod Keys
 pub mod Drawers
 pub mod Tables
 pub mod Inside
+pub mod Routing

@@ -1,10 +1,11 @@
 -- Pairs of a key and a value in rising order of their keys, read as a finite map.
-use Rattle.std.specs.Prelude.{◌≡◌, ℕ, ◌<◌, ◌≤◌, Bool, true, false, List, [], ◌∷◌, length, slice_get, Some, None, Option}
+use Rattle.std.specs.Prelude.{◌≡◌, ℕ, ◌<◌, ◌≤◌, Bool, true, false, List, length, Some, None, Option}
 use Rattle.std.specs.declared.cmp.Ordering.{Ordering}
 use Rattle.std.specs.declared.cmp.Ordering.TheVariants.{Less, Equal, Greater}
 use Rattle.std.specs.Ordering.{is_eq}
 use Rattle.std.specs.Map.{lookup, keys_of}
 use Rattle.std.specs.BTreeMap.{is_at}
+use Rattle.std.specs.List.{HoldsAt, AllWithin}
 use Rattle.std.specs.List.Sorted.{IsStrictlySortedBy}
 
 module _ {K V : Type 0} (cmp : K → K → Ordering) where
@@ -19,13 +20,13 @@ module _ {K V : Type 0} (cmp : K → K → Ordering) where
   -- the pair at this place has the key
   pub record IsAt (pairs : List (K × V)) (key : K) (i : ℕ) : Type 0 where
     pub in_range : i < length pairs
-    pub has_key : (pair : K × V) → slice_get pairs i ≡ Some pair → cmp pair.0 key ≡ Equal
+    pub has_key : HoldsAt (λ pair. cmp pair.0 key ≡ Equal) pairs i
 
   -- the key would go to this place: smaller keys stand before it, and greater ones from it on
   pub record IsGapFor (pairs : List (K × V)) (key : K) (i : ℕ) : Type 0 where
     pub in_range : i ≤ length pairs
-    pub smaller : (j : ℕ) (pair : K × V) → j < i → slice_get pairs j ≡ Some pair → cmp pair.0 key ≡ Less
-    pub greater : (j : ℕ) (pair : K × V) → i ≤ j → slice_get pairs j ≡ Some pair → cmp pair.0 key ≡ Greater
+    pub smaller : AllWithin (λ pair. cmp pair.0 key ≡ Less) pairs 0 i
+    pub greater : AllWithin (λ pair. cmp pair.0 key ≡ Greater) pairs i (length pairs)
 
 module _ {K V : Type 0} (cmp : K → K → Ordering) where
   -- the key has this value now, or none, and each other key has what it had

@@ -1,5 +1,5 @@
 -- What is known of the sockets of one endpoint.
-use Rattle.std.specs.Prelude.{◌≡◌, ◌≢◌, ◌⊎◌, ◌<◌, ◌≤◌, ℕ, Bool, IsSome, not, ◌&&◌, nat_lt, nat_eq, is_some, List, [], ◌∷◌, ◌++◌, length, Option, Some, None, refl}
+use Rattle.std.specs.Prelude.{◌≡◌, ◌≢◌, ◌⊎◌, ◌<◌, ◌≤◌, ℕ, Bool, IsSome, not, ◌&&◌, nat_lt, nat_eq, is_some, List, [], ◌∷◌, ◌++◌, length, Option, Some, None, if◌then◌else◌, refl}
 use Rattle.std.specs.Coded.{Coded, code_by, coded×, coded_ℕ, coded_list, coded_option}
 use Rattle.std.specs.Map.{lookup}
 use Rattle.std.specs.Ordering.{nat_cmp}
@@ -29,6 +29,11 @@ table_code {R} code =
     (λ t. ((t.ids, t.live), (t.enrolled, (t.adoptions, (t.listener, t.meetings)))))
     (λ p. record { ids = p.0.0; live = p.0.1; enrolled = p.1.0; adoptions = p.1.1.0; listener = p.1.1.1.0; meetings = p.1.1.1.1 })
     (λ _. refl)
+
+-- the listener, where it isn't this ID
+abbrev pub listener_without : Option ℕ → ℕ → Option ℕ
+listener_without None id = None
+listener_without (Some listener) id = if nat_eq listener id then None else Some listener
 
 module _ {R : Type 0} where
   -- a table of which nothing is known yet
@@ -87,11 +92,6 @@ module _ {R : Type 0} where
   -- no two sockets meet the same address
   abbrev pub IsMetOnce : Table R → Type 0
   IsMetOnce t = (one other : ℕ) (addr : Addr) → met_by t one ≡ Some addr → met_by t other ≡ Some addr → one ≡ other
-
-  -- the listener, where it isn't this ID
-  abbrev pub listener_without : Option ℕ → ℕ → Option ℕ
-  listener_without None id = None
-  listener_without (Some listener) id = if nat_eq listener id then None else Some listener
 
   -- an ID is enrolled, and nothing else changes
   pub record Enrols (old new : Table R) (id : ℕ) (what : R) : Type 0 where

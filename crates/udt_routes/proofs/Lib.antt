@@ -1,0 +1,2 @@
+mod SortedLemmas
+mod KeyLemmas
