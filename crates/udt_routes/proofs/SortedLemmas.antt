@@ -1,5 +1,5 @@
 -- What a search among pairs in rising order finds, and what an edit at that place does.
-use Rattle.std.proofs.Common.{◌≡◌, ℕ, zero, suc, ◌<◌, ◌≤◌, Bool, true, false, cond, List, [], ◌∷◌, length, get_or, Option, Some, None, Result, Ok, Err, IfOk, IfErr, refl, sym, ap, ◌∙◌, subst, arith}
+use Rattle.std.proofs.Common.{◌≡◌, ℕ, zero, suc, ◌<◌, ◌≤◌, Bool, true, false, cond, List, [], ◌∷◌, length, get_or, Option, Some, None, Result, Ok, Err, IfOk, IfErr, is_some, true≢false, refl, sym, ap, ◌∙◌, subst, arith}
 use Rattle.std.specs.declared.cmp.Ordering.{Ordering}
 use Rattle.std.specs.declared.cmp.Ordering.TheVariants.{Less, Equal, Greater}
 use Rattle.std.specs.Ordering.{is_eq, eq_by_cmp, ordering_index, ordering_reverse}
@@ -109,6 +109,12 @@ module _ {K : Type 0} {R : K → K → Ordering} (o : IsTotalOrder R) where
     value_found (e ∷ es) s k (suc at) is d =
         ap (λ c. cond (is_eq c) (Some e.1) (lookup (is_at (R k)) es)) (flip_less e.0 k (first_below e es k at s is))
         ∙ value_found es (sorted_tail R e.0 (keys_of es) s) k at (at_tail e es k at is) d
+
+    -- a key that stands somewhere has a value
+    pub found_isnt_absent : (l : List (K × V)) → IsRising R l → (k : K) (at : ℕ) → IsAt R l k at → value_at R l k ≡ None → ⊥
+    found_isnt_absent [] s k at is none = omega (arith, is.in_range)
+    found_isnt_absent (e ∷ es) s k at is none =
+        true≢false (ap is_some (sym (value_found (e ∷ es) s k at is e) ∙ none))
 
     -- a key that has a gap has no value
     pub value_absent : (l : List (K × V)) → IsRising R l → (k : K) (at : ℕ) → IsGapFor R l k at → value_at R l k ≡ None

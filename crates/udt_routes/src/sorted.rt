@@ -1,6 +1,6 @@
 // Pairs of a key and a value in rising order of their keys, in room that was reserved.
 
-ghost use Rattle.std.specs.Prelude.{◌≡◌, ◌+◌, ◌<◌, ◌≤◌, length, vec_len, vec_capacity, is_some, if◌then◌else◌, IfOk, IfErr, IsNone};
+ghost use Rattle.std.specs.Prelude.{◌≡◌, ◌+◌, ◌<◌, ◌≤◌, vec_len, vec_capacity, is_some, if◌then◌else◌, IfOk, IfErr, None};
 ghost use Rattle.std.specs.Option.{option_copied};
 ghost use Rattle.udt_routes.specs.Sorted.{value_at, IsRising, IsAt, IsGapFor, Puts, TakesOut};
 
@@ -24,20 +24,29 @@ pub(crate) fn find<'a, K: Ord + Copy + Drop, V>(pairs: &'a Vec<(K, V)>, key: &K)
     }
 }
 
+// Where a new key goes.
+fn gap_of<K: Ord + Copy + Drop, V>(pairs: &Vec<(K, V)>, key: &K) -> usize
+    requires order { IsRising K.cmp pairs.now.items }
+    requires absent { value_at K.cmp pairs.now.items key.now ≡ None }
+    ensures { IsGapFor K.cmp pairs.now.items key.now result }
+{
+    match place_of(pairs, key) {
+        Ok(at) => at,
+        Err(at) => at,
+    }
+}
+
 // Puts in a pair with a new key.
 pub(crate) fn put<K: Ord + Copy + Drop, V>(pairs: &mut Vec<(K, V)>, key: K, value: V)
     requires order { IsRising K.cmp pairs.old.items }
-    requires absent { IsNone (value_at K.cmp pairs.old.items key) }
+    requires absent { value_at K.cmp pairs.old.items key ≡ None }
     requires room { vec_len pairs.old < vec_capacity pairs.old }
     ensures next { Puts K.cmp pairs.old.items pairs.new.items key value }
     ensures order { IsRising K.cmp pairs.new.items }
     ensures len { vec_len pairs.new ≡ vec_len pairs.old + 1 }
     ensures capacity { vec_capacity pairs.old ≤ vec_capacity pairs.new }
 {
-    let at = match place_of(pairs, &key) {
-        Ok(at) => at,
-        Err(at) => at,
-    };
+    let at = gap_of(pairs, &key);
     pairs.insert(at, (key, value)).unwrap();
 }
 
