@@ -10,17 +10,19 @@ pub struct Drawer {
     drawers: u32,
     place: u32,
     drawn: u32,
+    next: u64,
 }
 
 impl Model for Drawer {
-    ghost use Rattle.std.specs.Prelude.{◌<◌, ◌≤◌};
     ghost use Rattle.udt_routes.specs.Drawers.{Draws};
 
     ghost Value = { Draws };
 
-    ghost view = { λ d. record { first = d.first; ids = d.ids; drawers = d.drawers; place = d.place; drawn = d.drawn } };
+    ghost use Rattle.udt_routes.specs.Drawing.{draws_of, IsDrawer};
 
-    ghost invariant = { λ d. (d.ids ≤ d.first) × (d.place < d.drawers) };
+    ghost view = { draws_of };
+
+    ghost invariant = { IsDrawer };
 }
 
 impl Drawer {
@@ -39,19 +41,22 @@ impl Drawer {
             drawers,
             place,
             drawn: 0,
+            next: place as u64,
         }
     }
 
     /// The next ID. None where all are given.
+    #[tactic(auto, using(crate::proofs::DrawerLemmas::draws_none, crate::proofs::DrawerLemmas::draws_some, crate::proofs::DrawerLemmas::next_depth))]
     pub fn next_id(&mut self) -> Option<u32>
         ensures value { result ≡ draw self.old self.old.drawn }
         ensures next { self.new ≡ record self.old { drawn = if is_some result then self.old.drawn + 1 else self.old.drawn } }
     {
-        let at = self.drawers as u64 * self.drawn as u64 + self.place as u64;
-        if at >= self.ids as u64 {
+        let depth = self.next;
+        if depth >= self.ids as u64 {
             return None;
         }
         self.drawn += 1;
-        Some(self.first - at as u32)
+        self.next += self.drawers as u64;
+        Some(self.first - depth as u32)
     }
 }
