@@ -59,6 +59,7 @@ module _ {K : Type 0} {R : K → K → Ordering} (o : IsTotalOrder R) where
     where
       least : R x k ≡ Less → ordering_index (R x k) ≤ ordering_index (R y k)
       least is = subst (λ c. ordering_index c ≤ ordering_index (R y k)) (sym is) (omega arith)
+
       by : (c : Ordering) → R y k ≡ c → ordering_index (R x k) ≤ ordering_index (R y k)
       by Less e = least (o.trans x y k p e)
       by Equal e = least (below_equal x y k p e)
@@ -98,8 +99,8 @@ module _ {K : Type 0} {R : K → K → Ordering} (o : IsTotalOrder R) where
     first_below : (e : K × V) (es : List (K × V)) (k : K) (at : ℕ) → IsRising R (e ∷ es) → IsAt R (e ∷ es) k (suc at) → R e.0 k ≡ Less
     first_below e es k at s is =
         below_equal e.0 (get_or es at e).0 k
-          (all_at (λ y. R e.0 y ≡ Less) es at e (sorted_head R e.0 (keys_of es) s) (omega (arith, is.in_range)))
-          (is.has_key e)
+        (all_at (λ y. R e.0 y ≡ Less) es at e (sorted_head R e.0 (keys_of es) s) (omega (arith, is.in_range)))
+        (is.has_key e)
 
     -- the value at a key's place is the key's
     pub value_found : (l : List (K × V)) → IsRising R l → (k : K) (at : ℕ) → IsAt R l k at → (d : K × V) → value_at R l k ≡ Some (get_or l at d).1
@@ -134,6 +135,7 @@ module _ {K : Type 0} {R : K → K → Ordering} (o : IsTotalOrder R) where
       where
         none : NonePasses (is_at (R k)) l
         none = none_passes_from_lookup (is_at (R k)) l (value_absent l s k at gap)
+
         looks : (q : K) → value_at R (insert l at (k, v)) q ≡ cond (is_eq (R k q)) (Some v) (value_at R l q)
         looks q = lookup-insert {eq = eq_by_cmp R} (eq_by_cmp_equiv o) k v q l at none
 
