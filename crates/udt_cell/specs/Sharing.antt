@@ -14,7 +14,8 @@ module _ {C : Type 0} (w : Ways C) {g : story.Ghosts (State C) Entry} where
   abbrev pub state_of : Pass (State C) Entry g → State C
   state_of pass = value_of (tale_of_sockets w) (seen_of pass)
 
-  -- this act at this moment, with its reply and what it emitted, is the last item that the pass has seen, and one more of its own
+  -- this act at this moment, with its reply and what it emitted, is the last item that the pass has seen, and one more of
+  -- its own
   abbrev pub AddsEvent : ℕ → Act → Reply → List Datagram → Pass (State C) Entry g → Pass (State C) Entry g → Type 0
   AddsEvent now act reply outs before after = Adds (tale_of_sockets w) (entry (event now act) reply outs) before after
 

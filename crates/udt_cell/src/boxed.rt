@@ -59,9 +59,11 @@ impl<C: Control> Story for BoxedSocket<C> {
 }
 
 impl<C: Control> BoxedSocket<C> {
-    ghost use Rattle.std.specs.Prelude.{◌≡◌, ◌≢◌, ◌<◌, ◌≤◌, [], length, drop, Err, IfOk, OnOk, OnErr, MatchBool};
+    ghost use Rattle.std.specs.Prelude.{◌≡◌, ◌≢◌, ◌<◌, ◌≤◌, [], length, drop, Err};
+    ghost use Rattle.std.specs.Prelude.{IfOk, OnOk, OnErr, MatchBool};
     ghost use Rattle.udt_core.specs.Received.{received_in};
-    ghost use Rattle.udt_model.specs.Events.{Send, Recv, Pack, Tick, Close, Measure, Arrive, Sent, Received, DidPack, DidTick, DidClose, DidMeasure, DidHear, event};
+    ghost use Rattle.udt_model.specs.Events.{Send, Recv, Pack, Tick, Close, Measure, Arrive, event};
+    ghost use Rattle.udt_model.specs.Events.{Sent, Received, DidPack, DidTick, DidClose, DidMeasure, DidHear};
     ghost use Rattle.udt_model.specs.Moments as moments;
     ghost use Rattle.udt_cell.specs.Entries.{entry, Follows, last_count};
 
@@ -93,7 +95,8 @@ impl<C: Control> BoxedSocket<C> {
         now: u64,
         bytes: &[u8],
     ) -> Result<Result<usize, Refusal>, EventsSpent>
-        ensures ok { IfOk result (λ answer. Follows C.ways (entry (event now (Send bytes.now)) (Sent answer) []) self.old self.new) }
+        ensures ok { IfOk result (λ answer. Follows C.ways
+            (entry (event now (Send bytes.now)) (Sent answer) []) self.old self.new) }
         ensures reason { IfOk result (λ answer. answer ≢ Err Refusal.EventsSpent) }
         ensures spent { OnErr result (last_count ≤ self.old.count) }
         ensures err { OnErr result (self.new ≡ self.old) }
@@ -112,10 +115,12 @@ impl<C: Control> BoxedSocket<C> {
         into: &mut [u8],
     ) -> Result<Result<usize, Refusal>, EventsSpent>
         ensures ok { IfOk result (λ answer. Follows C.ways
-            (entry (event now (Recv (length into.old))) (Received (received_in answer into.new)) []) self.old self.new) }
+            (entry (event now (Recv (length into.old))) (Received (received_in answer into.new)) [])
+            self.old self.new) }
         ensures reason { IfOk result (λ answer. answer ≢ Err Refusal.EventsSpent) }
         ensures within { IfOk result (λ answer. IfOk answer (λ count. count ≤ length into.old)) }
-        ensures rest { IfOk result (λ answer. IfOk answer (λ count. drop count into.new ≡ drop count into.old)) }
+        ensures rest { IfOk result
+            (λ answer. IfOk answer (λ count. drop count into.new ≡ drop count into.old)) }
         ensures refused { IfOk result (λ answer. OnErr answer (into.new ≡ into.old)) }
         ensures len { length into.new ≡ length into.old }
         ensures spent { OnErr result (last_count ≤ self.old.count) }
@@ -145,7 +150,8 @@ impl<C: Control> BoxedSocket<C> {
     // A measurement, where it may have a further event.
     #[tactic(auto, using(crate::proofs::QuietLemmas::perf_quiet))]
     pub(crate) fn perf(&mut self, now: u64) -> Result<Perf, EventsSpent>
-        ensures ok { IfOk result (λ perf. Follows C.ways (entry (event now Measure) (DidMeasure perf) []) self.old self.new) }
+        ensures ok { IfOk result (λ perf. Follows C.ways
+            (entry (event now Measure) (DidMeasure perf) []) self.old self.new) }
         ensures spent { OnErr result (last_count ≤ self.old.count) }
         ensures err { OnErr result (self.new ≡ self.old) }
     {
@@ -178,7 +184,8 @@ impl<C: Control> BoxedSocket<C> {
     // A tick, where it may have a further event.
     #[tactic(auto, using(crate::proofs::QuietLemmas::tick_done))]
     pub(crate) fn tick(&mut self, now: u64, outs: &mut Outs) -> Result<(), EventsSpent>
-        ensures ok { OnOk result (Follows C.ways (entry (event now Tick) DidTick outs.new) self.old self.new) }
+        ensures ok { OnOk result
+            (Follows C.ways (entry (event now Tick) DidTick outs.new) self.old self.new) }
         ensures spent { OnErr result (last_count ≤ self.old.count) }
         ensures err { OnErr result (self.new ≡ self.old) }
         ensures untouched { OnErr result (outs.new ≡ outs.old) }
@@ -192,7 +199,8 @@ impl<C: Control> BoxedSocket<C> {
 
     // A packing, where it may have a further event.
     pub(crate) fn pack(&mut self, now: u64, outs: &mut Outs) -> Result<Packed, EventsSpent>
-        ensures ok { IfOk result (λ packed. Follows C.ways (entry (event now Pack) (DidPack packed) outs.new) self.old self.new) }
+        ensures ok { IfOk result (λ packed. Follows C.ways
+            (entry (event now Pack) (DidPack packed) outs.new) self.old self.new) }
         ensures spent { OnErr result (last_count ≤ self.old.count) }
         ensures err { OnErr result (self.new ≡ self.old) }
         ensures untouched { OnErr result (outs.new ≡ outs.old) }

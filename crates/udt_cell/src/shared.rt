@@ -5,7 +5,8 @@ ghost use Rattle.udt_model.specs.Readiness.{ready_bits};
 ghost use Rattle.udt_turn.specs.History.{Begins, longer, mine_in, last_of};
 ghost use Rattle.udt_turn.specs.Rule.{NoTwice};
 ghost use Rattle.udt_turn.specs.Kinds.{newcomer, IsSound};
-ghost use Rattle.udt_turn.specs.Words.{IsPassOf, KeepsNames, HasBranched, MakesPair, OnlySees, view_of, opening_of, seen_of, mine_of, number_of, names_of, made_of, drawn_of};
+ghost use Rattle.udt_turn.specs.Words.{IsPassOf, KeepsNames, HasBranched, MakesPair, OnlySees};
+ghost use Rattle.udt_turn.specs.Words.{view_of, opening_of, seen_of, mine_of, number_of, names_of, made_of, drawn_of};
 ghost use Rattle.udt_cell.specs.Entries.{tale_of_sockets, last_count};
 ghost use Rattle.udt_cell.specs.Sharing.{state_of};
 

@@ -1,11 +1,13 @@
 // Stories of shared sockets, with the native control. What is expected was worked out by hand.
-ghost use Rattle.std.specs.Prelude.{◌≡◌, IfSome};
+ghost use Rattle.std.specs.Prelude.{◌<◌, ◌^◌, IfSome};
 ghost use Rattle.udt_turn.specs.Words.{IsPassOf};
 
 use crate::{SharedSocket, SocketPass};
 use std::alloc::Global;
 use std::sync::{Mutex, Wait};
 use std::test::Fail;
+use std::thread;
+use std::thread::Threads;
 use udt_core::{Outs, Socket};
 use udt_model::{Addr, Config, Ip, Kind, Packed, Peer, Refusal};
 use udt_outside::{FreeGate, Gate, Point};
@@ -31,9 +33,9 @@ fn addr_of(host: u32) -> Addr {
     }
 }
 
-// A socket with this ID and its peer, and a count to begin with.
+// A shared socket with this ID and its first pass. Its count begins here.
 fn opened(alloc: Global, own: u32, count: u64) -> Option<(SharedSocket<Native>, SocketPass<Native>)>
-    requires { count ≤ LAST }
+    requires { count < 2 ^ 55 }
     ensures { IfSome result (λ r. IsPassOf r.0.turn r.1) }
 {
     let peer = Peer {
@@ -43,8 +45,13 @@ fn opened(alloc: Global, own: u32, count: u64) -> Option<(SharedSocket<Native>, 
         payload: 4,
         flow: 8,
     };
-    let socket = Socket::paired(alloc, own, STREAM, peer, 0).ok()?;
-    SharedSocket::make(alloc, socket.counted(count)).ok()
+    let Ok(socket) = Socket::paired(alloc, own, STREAM, peer, 0) else {
+        return None;
+    };
+    match SharedSocket::make(alloc, socket.counted(count)) {
+        Ok(made) => Some(made),
+        Err(_) => None,
+    }
 }
 
 // A gate that counts the calls with the turn of one socket held, and all others.
@@ -150,5 +157,60 @@ fn the_gate_is_called_once_an_event_with_the_turn_held(rt: HostRuntime) -> Resul
     assert_eq!(rt; socket.look(&mut pass).count, 4);
     assert_eq!(rt; *gate.held.lock(&rt), 3);
     assert_eq!(rt; *gate.others.lock(&rt), 0);
+    Ok(())
+}
+
+// Sends a byte a thousand times. Most are refused, since no block is free, and each is an event.
+fn send_thousand<R: Wait>(
+    rt: &R,
+    socket: &SharedSocket<Native>,
+    mut pass: SocketPass<Native>,
+) -> SocketPass<Native>
+    requires { IsPassOf socket.now.turn pass }
+    ensures { IsPassOf socket.now.turn result }
+{
+    for now in 0..1000u64 {
+        let _ = socket.send(rt, &mut pass, now, b"x");
+    }
+    pass
+}
+
+// Two threads send a thousand times each, and the second pass is joined into the first.
+fn send_by_two<R: Threads + Wait + Sync>(
+    rt: &R,
+    socket: &SharedSocket<Native>,
+    first: SocketPass<Native>,
+    second: SocketPass<Native>,
+) -> SocketPass<Native>
+    requires first { IsPassOf socket.now.turn first }
+    requires second { IsPassOf socket.now.turn second }
+    ensures { IsPassOf socket.now.turn result }
+{
+    let (mut first, second) = thread::join(
+        rt,
+        move ||
+            requires { IsPassOf socket.now.turn first }
+            ensures { IsPassOf socket.entry.now.turn result }
+        { send_thousand(rt, socket, first) },
+        move ||
+            requires { IsPassOf socket.now.turn second }
+            ensures { IsPassOf socket.entry.now.turn result }
+        { send_thousand(rt, socket, second) },
+    );
+    socket.join(second, &mut first);
+    first
+}
+
+#[test]
+fn two_threads_make_one_history(rt: HostRuntime) -> Result<(), Fail> {
+    let Some((socket, mut first)) = opened(rt.alloc(), 1, 0) else {
+        panic!(rt; "no memory")
+    };
+    let Ok(second) = socket.split(&mut first) else {
+        panic!(rt; "no number")
+    };
+    let mut pass = send_by_two(&rt, &socket, first, second);
+    assert_eq!(rt; socket.look(&mut pass).count, 2000);
+    assert_eq!(rt; socket.at(&pass), 2000);
     Ok(())
 }

@@ -1,5 +1,6 @@
 // The events that a caller makes.
-ghost use Rattle.std.specs.Prelude.{◌≡◌, ◌≢◌, ◌≤◌, [], length, drop, Some, Err, IfOk, OnOk, OnErr};
+ghost use Rattle.std.specs.Prelude.{◌≡◌, ◌≢◌, ◌≤◌, [], length, drop, Some, Err};
+ghost use Rattle.std.specs.Prelude.{IfOk, OnOk, OnErr};
 ghost use Rattle.udt_core.specs.Received.{received_in};
 ghost use Rattle.udt_model.specs.Events.{Send, Recv, Close, Measure, Sent, Received, DidClose, DidMeasure, event};
 ghost use Rattle.udt_turn.specs.History.{value_of};
@@ -58,8 +59,8 @@ impl<C: Control> SharedSocket<C> {
         requires { IsPassOf self.now.turn pass.old }
         ensures own { IsPassOf self.now.turn pass.new }
         ensures names { KeepsNames (view_of pass.old) (view_of pass.new) }
-        ensures event { result ≢ Err Refusal.EventsSpent → AddsEvent C.ways now (Recv (length into.old))
-            (Received (received_in result into.new)) [] pass.old pass.new }
+        ensures event { result ≢ Err Refusal.EventsSpent → AddsEvent C.ways now
+            (Recv (length into.old)) (Received (received_in result into.new)) [] pass.old pass.new }
         ensures within { IfOk result (λ count. count ≤ length into.old) }
         ensures rest { IfOk result (λ count. drop count into.new ≡ drop count into.old) }
         ensures err { OnErr result (into.new ≡ into.old) }
@@ -146,7 +147,8 @@ fn tell_sent<C: Control, N: Naming<EventEntry>>(
         (value_of (tale_of_sockets C.ways) (found_by held)) held.value }
     ensures own { IsPassOf held.entry.turn.now held.exit.1.0.now }
     ensures names { KeepsNames (view_of held.entry.pass.now) (view_of held.exit.1.0.now) }
-    ensures adds { AddsEvent C.ways now (Send bytes.now) (Sent answer.now) [] held.entry.pass.now held.exit.1.0.now }
+    ensures adds { AddsEvent C.ways now (Send bytes.now) (Sent answer.now) []
+        held.entry.pass.now held.exit.1.0.now }
 {
     held.publish::<N>();
 }
@@ -160,12 +162,16 @@ fn tell_received<C: Control, N: Naming<EventEntry>>(
     into: &[u8],
 )
     requires held { IsHeld (tale_of_sockets C.ways) held }
-    requires item { N.item ≡ Some (entry (event now (Recv (length into.now))) (Received (received_in answer.now into.now)) []) }
-    requires follows { Follows C.ways (entry (event now (Recv (length into.now))) (Received (received_in answer.now into.now)) [])
+    requires item { N.item ≡ Some
+        (entry (event now (Recv (length into.now))) (Received (received_in answer.now into.now)) []) }
+    requires follows { Follows C.ways
+        (entry (event now (Recv (length into.now))) (Received (received_in answer.now into.now)) [])
         (value_of (tale_of_sockets C.ways) (found_by held)) held.value }
     ensures own { IsPassOf held.entry.turn.now held.exit.1.0.now }
     ensures names { KeepsNames (view_of held.entry.pass.now) (view_of held.exit.1.0.now) }
-    ensures adds { AddsEvent C.ways now (Recv (length into.now)) (Received (received_in answer.now into.now)) [] held.entry.pass.now held.exit.1.0.now }
+    ensures adds { AddsEvent C.ways now
+        (Recv (length into.now)) (Received (received_in answer.now into.now)) []
+        held.entry.pass.now held.exit.1.0.now }
 {
     held.publish::<N>();
 }

@@ -34,7 +34,8 @@ impl<C: Control> SharedSocket<C> {
         ensures own { IsPassOf self.now.turn pass.new }
         ensures names { KeepsNames (view_of pass.old) (view_of pass.new) }
         ensures event { IfOk result
-            (λ heard. AddsEvent C.ways now (Arrive from bytes.now) (DidHear heard) outs.new pass.old pass.new) }
+            (λ heard. AddsEvent C.ways now (Arrive from bytes.now) (DidHear heard) outs.new
+            pass.old pass.new) }
         ensures spent { OnErr result (FindsSpent C.ways pass.old pass.new) }
         ensures err { OnErr result (outs.new ≡ outs.old) }
     {
@@ -132,7 +133,8 @@ fn tell_heard<C: Control, N: Naming<EventEntry>>(
         (value_of (tale_of_sockets C.ways) (found_by held)) held.value }
     ensures own { IsPassOf held.entry.turn.now held.exit.1.0.now }
     ensures names { KeepsNames (view_of held.entry.pass.now) (view_of held.exit.1.0.now) }
-    ensures adds { AddsEvent C.ways now (Arrive from bytes.now) (DidHear heard) outs.now held.entry.pass.now held.exit.1.0.now }
+    ensures adds { AddsEvent C.ways now (Arrive from bytes.now) (DidHear heard) outs.now
+        held.entry.pass.now held.exit.1.0.now }
 {
     held.publish::<N>();
 }
