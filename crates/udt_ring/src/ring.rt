@@ -130,7 +130,8 @@ impl<H: Copy> Ring<H> {
     pub fn put(&mut self, i: usize, head: H, bytes: &[u8])
         requires within { i < length self.old.list }
         requires room { length bytes.now ≤ self.old.room }
-        ensures { self.new ≡ with_part self.old i head bytes.now }
+        ensures next { self.new ≡ with_part self.old i head bytes.now }
+        ensures fits { length (joined self.new.list) < 2 ^ 64 }
     {
         let at = Self::place_after(self.first, i, self.places.len());
         self.hot = take_slot(&mut self.places, at, self.hot);

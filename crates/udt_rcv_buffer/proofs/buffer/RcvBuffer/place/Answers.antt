@@ -64,7 +64,7 @@ new c =
 
 pub extend-requires : goal.extend-requires
 extend-requires c =
-    let list = ap (λ (ps : Parts Head). ps.list) c.put.ensures in
+    let list = ap (λ (ps : Parts Head). ps.list) c.put.ensures.next in
     rw list (placed_marked c.self.inside.marks _ c.self.inside.ring.list (c.args.offset - c.self.inside.base) _ _ c.self.invariant.marked c.part.ensures.value c.if-head.false refl refl c.max-self-inside.ensures)
 
 pub invariant_of-self : goal.invariant_of-self
@@ -73,7 +73,7 @@ invariant_of-self c =
     let i = c.self.invariant in
     let place = c.args.offset - b.base in
     let part : Part Head = record { head = record { used = true; consumed = false; flags = c.args.flags }; bytes = c.args.bytes.now } in
-    let list = ap (λ (ps : Parts Head). ps.list) c.put.ensures in
+    let list = ap (λ (ps : Parts Head). ps.list) c.put.ensures.next in
     let len = length-set b.ring.list place part in
     record {
       few = rw (list, len) i.few;
@@ -89,8 +89,8 @@ returns-clause-value c = rw (new ((goal.at.returns-clause-value c).Else-head)) r
 pub returns-clause-next : goal.returns-clause-next
 returns-clause-next c =
     let b = c.self.inside in
-    let list = ap (λ (ps : Parts Head). ps.list) c.put.ensures in
-    let room = ap (λ (ps : Parts Head). ps.room) c.put.ensures in
+    let list = ap (λ (ps : Parts Head). ps.list) c.put.ensures.next in
+    let room = ap (λ (ps : Parts Head). ps.room) c.put.ensures.next in
     let place = c.args.offset - b.base in
     let part : Part Head = record { head = record { used = true; consumed = false; flags = c.args.flags }; bytes = c.args.bytes.now } in
     let again : b.base + place ≡ c.args.offset = omega (arith, c.if-offset-self.false) in
