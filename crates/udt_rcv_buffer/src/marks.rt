@@ -33,10 +33,32 @@ fn passed(ring: &Ring<Head>, run: usize, given: usize) -> Option<usize>
 }
 
 impl Marks {
-    ghost use Rattle.std.specs.Prelude.{◌≡◌, ◌+◌, ◌^◌, ◌<◌, ◌≤◌, max, length, if◌then◌else◌, nat_eq};
+    ghost use Rattle.std.specs.Prelude.{◌≡◌, ◌≢◌, ◌+◌, ◌^◌, ◌<◌, ◌≤◌, max, length, if◌then◌else◌, nat_eq};
     ghost use Rattle.udt_model.specs.ReceiveBlocks.{beginning};
     ghost use Rattle.udt_rcv_buffer.specs.PlacedParts.{placed_from, consume_parts, IsSettled};
-    ghost use Rattle.udt_rcv_buffer.specs.Marked.{IsMarked, EndsRun};
+    ghost use Rattle.udt_rcv_buffer.specs.Marked.{IsMarked, EndsRun, HasBlock};
+    ghost use Rattle.udt_ring.specs.Parts.{joined};
+
+    /// Takes in that the part at this place, which wasn't used, has a block of this many bytes now. Where
+    /// it follows the run, as most do, it is counted without another look at it.
+    pub fn add(&mut self, ring: &Ring<Head>, place: usize, len: usize)
+        requires marked { IsMarked (record self.old { top = max self.old.top (place + 1) }) ring.now.list }
+        requires block { HasBlock place len ring.now.list }
+        requires run { self.old.run ≢ place → EndsRun self.old.run ring.now.list }
+        requires few { length ring.now.list ≤ 2 ^ 32 }
+        requires fits { length (joined ring.now.list) < 2 ^ 64 }
+        ensures marked { IsMarked self.new ring.now.list }
+        ensures run { EndsRun self.new.run ring.now.list }
+        ensures given { self.new.given ≡ self.old.given }
+        ensures top { self.new.top ≡ max self.old.top (place + 1) }
+    {
+        self.top = self.top.max(place + 1);
+        if self.run == place {
+            self.run += 1;
+            self.bytes += len;
+            self.extend(ring);
+        }
+    }
 
     /// Goes on with the run, where it has become longer.
     pub fn extend(&mut self, ring: &Ring<Head>)
