@@ -39,8 +39,8 @@ impl<C: Control> Socket<C> {
         }
     }
 
-    // Bytes that spell no block. They go their way apart, so that a block's has no room for other packets.
-    #[inline(never)]
+    // Bytes that spell no block.
+    #[inline(always)]
     fn on_other(&mut self, from: Addr, bytes: &[u8], outs: &mut Outs) -> Heard
         requires empty { outs.old ≡ [] }
         requires no_block { ¬ SpellsBlock bytes.now }
@@ -64,6 +64,7 @@ impl<C: Control> Socket<C> {
     }
 
     // A packet that is no block. A socket that isn't connected takes nothing in.
+    #[inline(always)]
     fn on_packet(&mut self, from: Addr, packet: Packet, outs: &mut Outs) -> Heard
         requires empty { outs.old ≡ [] }
         requires no_block { ¬ IsBlock (packet_of packet) }
@@ -133,7 +134,9 @@ impl<C: Control> Socket<C> {
         self.exp_count = 1;
     }
 
-    // A packet from the peer that is no block. No use is made of drop requests and handshakes yet.
+    // A packet from the peer that is no block. No use is made of drop requests and handshakes yet. It goes its
+    // way apart, so that a block's has no room for other packets.
+    #[inline(never)]
     fn on_own(&mut self, packet: Packet, outs: &mut Outs) -> Heard
         requires empty { outs.old ≡ [] }
         requires no_block { ¬ IsBlock (packet_of packet) }
