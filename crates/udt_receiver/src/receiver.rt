@@ -208,8 +208,7 @@ impl Receiver {
             Placed::New => {}
             placed => return unplaced(placed),
         }
-        let gap = note_placed(&mut self.lost, self.top, offset, now);
-        self.top = self.top.max(offset + 1);
+        let gap = note_placed(&mut self.lost, &mut self.top, offset, now);
         let light = self.fresh + 1 == LIGHT_ACK_COUNT;
         self.fresh = if light { 0 } else { self.fresh + 1 };
         Arrived {
@@ -317,11 +316,16 @@ impl Receiver {
 }
 
 // The offset that a data packet has, unless it is past the limit of packets.
+#[tactic(auto, using(crate::proofs::Expected::near_top))]
 fn offset_of(isn: u32, top: u64, seq: u32) -> Option<u64>
     requires { top ≤ PACKET_LIMIT }
     ensures value { result ≡ within_limit (near_in isn top seq) }
     ensures limit { IfSome result (λ offset. offset < PACKET_LIMIT) }
 {
+    // packets mostly come in order
+    if seq == seq_of(isn, top) && top < PACKET_LIMIT {
+        return Some(top);
+    }
     let offset = near(isn, top, seq)?;
     if offset < PACKET_LIMIT {
         Some(offset)
