@@ -168,9 +168,9 @@ impl<H: Copy> Ring<H> {
         let at = Self::place_after(self.first, i, self.places.len());
         self.hot = take_slot(&mut self.places, at, self.hot);
         let slot = self.places[at].slot;
-        write(&mut self.memory, slot as usize * self.room, bytes);
         let len = bytes.len() as u32;
         self.places[at] = Place { head, len, slot };
+        write(&mut self.memory, slot as usize * self.room, bytes);
     }
 
     /// Lets the ring begin this many parts later: those before come after all others, with this head
