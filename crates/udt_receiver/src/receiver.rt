@@ -323,10 +323,17 @@ fn offset_of(isn: u32, top: u64, seq: u32) -> Option<u64>
     ensures limit { IfSome result (λ offset. offset < PACKET_LIMIT) }
 {
     // packets mostly come in order
-    if seq == seq_of(isn, top) && top < PACKET_LIMIT {
-        return Some(top);
+    if seq == seq_of(isn, top) {
+        return below_limit(top);
     }
-    let offset = near(isn, top, seq)?;
+    below_limit(near(isn, top, seq)?)
+}
+
+// The offset, unless it is past the limit of packets.
+fn below_limit(offset: u64) -> Option<u64>
+    ensures value { result ≡ within_limit (Some offset) }
+    ensures limit { IfSome result (λ offset. offset < PACKET_LIMIT) }
+{
     if offset < PACKET_LIMIT {
         Some(offset)
     } else {
