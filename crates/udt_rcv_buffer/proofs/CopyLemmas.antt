@@ -40,7 +40,7 @@ part_there parts i more = elim (cases_lt i (length parts)) [
 ]
 
 -- the bytes from a part on are those of this part and of the others
-pub joined_at : (parts : List (Part Head)) (i : ℕ) (part : Part Head) → slice_get parts i ≡ Some part → joined (drop i parts) ≡ part.bytes ++ joined (drop (i + 1) parts)
+joined_at : (parts : List (Part Head)) (i : ℕ) (part : Part Head) → slice_get parts i ≡ Some part → joined (drop i parts) ≡ part.bytes ++ joined (drop (i + 1) parts)
 joined_at parts i part found = ap joined (drop_at_part parts i part found)
 
 pub joined_at_len : (parts : List (Part Head)) (i : ℕ) (part : Part Head) → slice_get parts i ≡ Some part → length (joined (drop i parts)) ≡ length part.bytes + length (joined (drop (i + 1) parts))
