@@ -3,209 +3,32 @@
 
     Player().line("pair stream a b 4 5 4") -> ["pair a 1 b 2"], or None where the line is refused
 
-As a program it plays the script of its input, as `replay` does.
+usage: play.py replay [CONTROL]             prints what the program prints for the script of its input
+       play.py world N TURNS [CONTROL]      prints the line of the generated run
+
+CONTROL is native, fixed or aimd. The exit status is the program's: 2 where a line was refused.
 """
 import re
 import struct
 import sys
 
-from read import read
+from controls import CONTROLS, NATIVE
+from read import NUMBERS
+from sockets import Opening, Refused, Socket
 
 HOSTS = ("10.0.0.1:9000", "10.0.0.2:9000")
-NUMBERS = 1 << 31           # sequence numbers, before they wrap
-NEAR = 1 << 30              # a number names the offset that lies less far from where its reader stands
-PACKETS = 1 << 60           # the packets that a direction may ever have
+MOST_PAYLOAD = 8_956
+LEAST_BLOCKS, MOST_BLOCKS = 2, 65_536
+LAST_START = 1 << 59
 LAST_MOMENT = (1 << 53) - 1
-ACK_INTERVAL = 10_000       # microseconds, like all times here
-RTT, VARIANCE = 100_000, 50_000
-EXP_UNIT = 4 * RTT + VARIANCE + ACK_INTERVAL
-WINDOW = 16                 # packets that may be in flight
-FIRST, LAST = 1 << 31, 1 << 30
+MOST_ROOM = 65_536
 MOST_SOCKETS = 1_024
 LONGEST_LINE = 65_536
-
-
-def near(initial, base, number):
-    """The offset near the base that has this sequence number, or None."""
-    ahead = (number - initial - base) % NUMBERS
-    found = [n for n in (base + ahead, base + ahead - NUMBERS) if n >= 0 and abs(n - base) < NEAR]
-    return found[0] if found else None
-
-
-def words(*numbers):
-    return struct.pack(">%dI" % len(numbers), *numbers)
-
-
-def clamped(blocks):
-    return max(2, min(65_536, blocks))
-
-
-class Socket:
-    """One socket of a pair, which is connected from its opening on."""
-
-    def __init__(self, name, own, host, peer_host, peer, payload, initial, room, start):
-        self.name, self.own, self.host, self.peer_host, self.peer = name, own, host, peer_host, peer
-        self.payload, self.initial, self.room = payload, initial, room
-        self.phase, self.cause, self.now = "connected", None, 0
-        self.heard, self.exp_from, self.exp_count = 0, 0, 1
-        self.acked = self.next = self.end = start
-        self.kept, self.lost, self.flow, self.message = {}, set(), clamped(room), 1
-        self.base = self.top = self.confirmed = start
-        self.placed, self.given, self.told, self.ack_due = {}, 0, None, ACK_INTERVAL
-
-    def at(self, moment):
-        """A moment never goes back."""
-        self.now = max(self.now, min(moment, LAST_MOMENT))
-
-    def cut_off(self):
-        """Why a call is refused, where the socket isn't connected."""
-        return f"refused 2001 {self.cause}" if self.phase == "broken" else "refused 2002"
-
-    def send(self, given):
-        """Takes the bytes that fit, as blocks of one message."""
-        if self.phase != "connected":
-            return self.cut_off()
-        left, free = PACKETS - self.end, self.room - (self.end - self.acked)
-        if given and left == 0:
-            return "refused 9001"
-        if given and free == 0:
-            return "again"
-        taken = given[: min(free, left) * self.payload]
-        if not taken:
-            return "0"
-        blocks = [taken[i : i + self.payload] for i in range(0, len(taken), self.payload)]
-        for i, block in enumerate(blocks):
-            flags = (FIRST if i == 0 else 0) + (LAST if i == len(blocks) - 1 else 0) + self.message
-            self.kept[self.end] = (flags, block)
-            self.end += 1
-        self.message = self.message % ((1 << 29) - 1) + 1
-        return str(len(taken))
-
-    def first_gap(self):
-        """The first offset that has not arrived."""
-        gap = self.base
-        while gap in self.placed:
-            gap += 1
-        return gap
-
-    def recv(self, room):
-        """Gives the first bytes that wait."""
-        if self.phase not in ("connected", "broken"):
-            return self.cut_off()
-        waiting = b"".join(self.placed[n] for n in range(self.base, self.first_gap()))[self.given :]
-        if room == 0:
-            return "-"
-        if not waiting:
-            return "again" if self.phase == "connected" else self.cut_off()
-        given = waiting[:room]
-        self.given += len(given)
-        while self.base in self.placed and self.given >= len(self.placed[self.base]):
-            self.given -= len(self.placed.pop(self.base))
-            self.base += 1
-        return given.hex()
-
-    def close(self):
-        self.phase = "closing" if self.phase in ("connected", "closing") else "closed"
-
-    def packet(self, first, second, *field):
-        return words(first, second, self.now % (1 << 32), self.peer, *field)
-
-    def block_out(self, offset):
-        flags, block = self.kept[offset]
-        return self.packet((self.initial + offset) % NUMBERS, flags) + block
-
-    def pack(self):
-        """The least lost block goes out first, then the next one where both windows allow it."""
-        if self.phase == "connected" and self.lost:
-            again = min(self.lost)
-            self.lost.remove(again)
-            return "data", [self.block_out(again)]
-        if self.phase == "connected" and self.next < self.end and self.next - self.acked < min(self.flow, WINDOW):
-            self.next += 1
-            return "data", [self.block_out(self.next - 1)]
-        return "nothing", []
-
-    def tick(self):
-        """What a tick does: the ACK timer, and then the EXP timer."""
-        if self.phase == "closing":
-            self.phase = "closed"
-            return [self.packet(0x80050000, 0)]
-        if self.phase != "connected":
-            return []
-        return self.acknowledge() + self.watch()
-
-    def acknowledge(self):
-        if self.now < self.ack_due:
-            return []
-        self.ack_due = self.now + ACK_INTERVAL
-        gap = self.first_gap()
-        number, offset, moment = self.told or (0, None, 0)
-        if gap == self.confirmed or (gap == offset and self.now - moment < 2 * RTT):
-            return []
-        self.told = (number % (NUMBERS - 1) + 1, gap, self.now)
-        free = max(2, self.room - (gap - self.base))
-        return [self.packet(0x80020000, self.told[0], (self.initial + gap) % NUMBERS, RTT, VARIANCE, free, 0, 0)]
-
-    def watch(self):
-        if self.now < self.exp_from + max(self.exp_count * EXP_UNIT, 500_000):
-            return []
-        silent = self.now - self.heard
-        if silent >= 180_000_000 or (self.exp_count > 16 and silent >= 3_000_000):
-            self.phase, self.cause = "broken", "expired"
-            return []
-        self.exp_count, self.exp_from = self.exp_count + 1, self.now
-        if self.next > self.acked:
-            self.lost = set(range(self.acked, self.next))
-            return []
-        return [self.packet(0x80010000, 0)]
-
-    def arrive(self, sender, data):
-        """What a datagram that reaches the socket is answered."""
-        told = read(data)
-        if "malformed" in told:
-            return f"malformed {told['malformed']}"
-        if self.phase != "connected":
-            return "stale"
-        kind = told["packet"]
-        if sender != self.peer_host or (kind != "handshake" and told["dest"] != self.own):
-            return "foreign"
-        self.heard = self.exp_from = self.now
-        self.exp_count = 1
-        if kind == "block":
-            return self.block_in(told["seq"], bytes.fromhex(told["bytes"]))
-        if kind == "ack":
-            return self.ack_in(told["body"])
-        if kind == "shutdown":
-            self.phase, self.cause = "broken", "shutdown"
-        return {"keepalive": "alive", "shutdown": "shutdown"}.get(kind, "stale")
-
-    def block_in(self, number, block):
-        if not 1 <= len(block) <= self.payload:
-            return "badlength"
-        offset = near(self.initial, self.top, number)
-        if offset is None or offset >= PACKETS:
-            return "above"
-        if offset < self.base:
-            return "below"
-        if offset >= self.base + self.room:
-            return "above"
-        if offset in self.placed:
-            return "double"
-        self.placed[offset] = block
-        self.top = max(self.top, offset + 1)
-        return "placed"
-
-    def ack_in(self, body):
-        offset = near(self.initial, self.acked, body["ack"])
-        if offset is None or not self.acked <= offset <= self.next:
-            return "stale"
-        newly = offset - self.acked
-        for n in range(self.acked, offset):
-            del self.kept[n]
-        self.acked = offset
-        self.lost = {n for n in self.lost if n >= offset}
-        self.flow = max(2, self.flow - newly) if body["form"] == "light" else clamped(body["buffer"])
-        return "ack"
+LONGEST_SCRIPT = 67_108_864
+SHORTEST_DATAGRAM = 16
+LAST_SEED = (1 << 32) - 1       # of the generated run
+MOST_TURNS = 400_000
+STATUS_PLAYED, STATUS_REFUSED = 0, 2
 
 
 def number_in(word, least, most):
@@ -215,6 +38,10 @@ def number_in(word, least, most):
 
 def moment_in(word):
     return number_in(word, 0, LAST_MOMENT)
+
+
+def room_in(word):
+    return number_in(word, 0, MOST_ROOM)
 
 
 def bytes_in(word):
@@ -238,20 +65,27 @@ def is_address(word):
     return len(told) == 8 if len(halves) == 1 else len(told) < 8
 
 
+# (what the words after the moment of a call are)
+CALLS = {"send": [bytes_in], "recv": [room_in], "pack": [], "tick": [], "close": [], "perf": []}
+
+
 class Player:
     """The sockets of a script, and the datagrams that they emitted."""
 
-    def __init__(self):
+    def __init__(self, control=NATIVE):
+        self.control = CONTROLS[control]
         self.sockets, self.named, self.datagrams = [], {}, []
 
     def line(self, line):
         """What a line prints, as lines. None where it is refused."""
-        if line == "" or line[0] == "#":
-            return [] if len(line) <= LONGEST_LINE else None
-        form = line.split(" ")
-        if len(line) > LONGEST_LINE or len(form) < 3:
+        if len(line) > LONGEST_LINE:
             return None
-        if form[1] in ("send", "recv", "pack", "tick", "close"):
+        if line == "" or line[0] == "#":
+            return []
+        form = line.split(" ")
+        if len(form) < 3:
+            return None
+        if form[1] in CALLS:
             return self.call_line(*form)
         by_first = {"pair": self.pair_line, "deliver": self.deliver_line, "raw": self.raw_line}
         return by_first[form[0]](*form[1:]) if form[0] in by_first else None
@@ -259,7 +93,7 @@ class Player:
     def pair_line(self, kind, *rest):
         if kind != "stream" or len(rest) not in (5, 6):
             return None
-        ranges = [(1, 8_956), (0, NUMBERS - 1), (2, 65_536), (0, 1 << 59)]
+        ranges = [(1, MOST_PAYLOAD), (0, NUMBERS - 1), (LEAST_BLOCKS, MOST_BLOCKS), (0, LAST_START)]
         values = [number_in(word, *within) for word, within in zip(rest[2:], ranges)]
         new = [it for it in rest[:2] if re.fullmatch("[a-z][a-z0-9]{0,15}", it) and it not in self.named]
         if None in values or len(set(new)) < 2 or len(self.sockets) + 2 > MOST_SOCKETS:
@@ -267,10 +101,9 @@ class Player:
         return self.pair(rest[:2], *values)
 
     def call_line(self, name, call, moment, *rest):
-        read_rest = {"send": [bytes_in], "recv": [lambda word: number_in(word, 0, 65_536)]}.get(call, [])
-        if len(rest) != len(read_rest) or name not in self.named or moment_in(moment) is None:
+        if len(rest) != len(CALLS[call]) or name not in self.named or moment_in(moment) is None:
             return None
-        values = [read_word(word) for read_word, word in zip(read_rest, rest)]
+        values = [read_word(word) for read_word, word in zip(CALLS[call], rest)]
         return None if None in values else self.call(self.named[name], call, int(moment), *values)
 
     def deliver_line(self, number, moment, *rest):
@@ -284,32 +117,36 @@ class Player:
         data = bytes_in(rest[2])
         return None if data is None else self.arrival(int(moment), rest[0], rest[1], data)
 
-    def pair(self, names, payload, initial, room, start=0):
-        own = len(self.sockets) + 1
+    def pair(self, names, payload, isn, blocks, start=0):
+        """Two sockets, each of which is the other's peer."""
+        opening, own = Opening(payload, isn, blocks, start, self.control), len(self.sockets) + 1
         ends = [(own, HOSTS[0], HOSTS[1], own + 1), (own + 1, HOSTS[1], HOSTS[0], own)]
         for name, end in zip(names, ends):
-            self.named[name] = Socket(name, *end, payload, initial, room, start)
+            self.named[name] = Socket(name, *end, opening)
             self.sockets.append(self.named[name])
         return [f"pair {names[0]} {own} {names[1]} {own + 1}"]
 
     def call(self, socket, name, moment, *values):
+        """A call of a socket, or a tick."""
         socket.at(moment)
-        outs = []
-        if name == "send":
-            answer = " " + socket.send(*values)
-        elif name == "recv":
-            answer = " " + socket.recv(*values)
-        elif name == "pack":
-            packed, outs = socket.pack()
-            answer = " " + packed
-        elif name == "tick":
-            answer, outs = "", socket.tick()
-        else:
-            answer = ""
-            socket.close()
-        return [f"{socket.name} {name}{answer}"] + [self.emitted(socket, data) for data in outs]
+        try:
+            answer, outs = self.answer(socket, name, *values)
+        except Refused as refused:
+            answer, outs = str(refused), []
+        return [" ".join([socket.name, name, answer]).rstrip()] + [self.emitted(socket, data) for data in outs]
+
+    def answer(self, socket, name, *values):
+        """What a call answers, and what it emits."""
+        if name == "pack":
+            return socket.pack()
+        if name == "tick":
+            return "", socket.tick()
+        told = getattr(socket, name)(*values)
+        texts = {"send": str, "recv": lambda given: given.hex() or "-", "perf": str, "close": lambda _: ""}
+        return texts[name](told), []
 
     def emitted(self, socket, data):
+        """A datagram is on its way."""
         self.datagrams.append((socket.host, socket.peer_host, data))
         return f"datagram {len(self.datagrams) - 1} {socket.host} {socket.peer_host} {data.hex()}"
 
@@ -317,7 +154,7 @@ class Player:
         """A datagram goes to the socket at its host whose ID is its destination."""
         if host not in HOSTS:
             return ["dropped host"]
-        if len(data) < 16:
+        if len(data) < SHORTEST_DATAGRAM:
             return ["dropped short"]
         dest = struct.unpack(">I", data[12:16])[0]
         if dest == 0:
@@ -326,20 +163,109 @@ class Player:
         if not socket or socket.host != host or socket.phase == "closed":
             return ["dropped id"]
         socket.at(moment)
-        return [f"{socket.name} arrive {socket.arrive(sender, data)}"]
+        word, outs = socket.arrive(sender, data)
+        return [f"{socket.name} arrive {word}"] + [self.emitted(socket, data) for data in outs]
 
 
-def main():
-    player = Player()
-    lines = sys.stdin.read().split("\n")
+def play(script, control=NATIVE):
+    """What the program prints for a script, as lines, and its exit status."""
+    player, printed, end = Player(control), [], 0
+    lines = script.split("\n")
     for number, line in enumerate(lines[:-1] if lines[-1] == "" else lines, 1):
-        printed = player.line(line)
-        if printed is None:
-            print(f"line {number} refused")
-            sys.exit(2)
-        for text in printed:
-            print(text)
+        # (where the next line begins)
+        end = min(end + len(line) + 1, len(script))
+        told = player.line(line) if end <= LONGEST_SCRIPT else None
+        if told is None:
+            return printed + [f"line {number} refused"], STATUS_REFUSED
+        printed += told
+    return printed, STATUS_PLAYED
+
+
+def drawn(seed):
+    """The draws of the generated run."""
+    state = seed
+    while True:
+        state = (6364136223846793005 * state + 1442695040888963407) % (1 << 64)
+        yield state >> 33
+
+
+class World:
+    """The generated run: two sockets, and a network that loses, repeats and reorders by the draws."""
+
+    # (the bytes that are sent are the places in the stream, modulo this number)
+    BYTES = 251
+    PAYLOAD, BLOCKS, ROOM, INTERVAL, NEWEST = 1_456, 64, 4_096, 50, 32
+
+    def __init__(self, seed, control=NATIVE):
+        self.draws, self.player = drawn(seed), Player(control)
+        self.player.pair(["a", "b"], self.PAYLOAD, seed % NUMBERS, self.BLOCKS)
+        self.a, self.b = self.player.sockets
+        self.accepted, self.delivered, self.now = 0, 0, 0
+        self.bytes = bytes(it % self.BYTES for it in range(self.BYTES + self.ROOM))
+
+    def draw(self, count):
+        return next(self.draws) % count
+
+    def turn(self):
+        self.now += self.INTERVAL
+        kind = self.draw(8)
+        if kind == 0:
+            self.send(1 + self.draw(self.ROOM))
+        elif kind == 1:
+            self.recv()
+        elif kind in (2, 3):
+            self.player.call(self.a, "pack", self.now)
+        elif kind == 4:
+            self.player.call(self.a, "tick", self.now)
+            self.player.call(self.b, "tick", self.now)
+        elif self.player.datagrams:
+            self.deliver(is_new=kind in (5, 6))
+
+    def send(self, length):
+        first = self.accepted % self.BYTES
+        self.a.at(self.now)
+        try:
+            self.accepted += self.a.send(self.bytes[first : first + length])
+        except Refused:
+            pass
+
+    def recv(self):
+        self.b.at(self.now)
+        try:
+            self.delivered += len(self.b.recv(self.ROOM))
+        except Refused:
+            pass
+
+    def deliver(self, is_new):
+        """One of the newest datagrams arrives, or one of all."""
+        count = len(self.player.datagrams)
+        number = count - 1 - self.draw(min(count, self.NEWEST)) if is_new else self.draw(count)
+        self.player.arrival(self.now, *self.player.datagrams[number])
+
+
+def world(seed, turns, control=NATIVE):
+    """The line of the generated run."""
+    run = World(seed, control)
+    for _ in range(turns):
+        run.turn()
+    told = {"turns": turns, "accepted": run.accepted, "delivered": run.delivered, "acked": run.a.sender.acked,
+            "datagrams": len(run.player.datagrams)}
+    return f"world {seed} " + " ".join(f"{name} {value}" for name, value in told.items())
+
+
+def main(given):
+    command, rest = given[:1], given[1:]
+    if command == ["replay"] and len(rest) <= 1 and set(rest) <= set(CONTROLS):
+        # (a character for each byte, since lines are counted in bytes)
+        printed, status = play(sys.stdin.buffer.read().decode("latin-1"), *rest)
+        sys.stdout.writelines(f"{text}\n" for text in printed)
+        return status
+    counts = [number_in(word, 0, most) for word, most in zip(rest, [LAST_SEED, MOST_TURNS])]
+    if command == ["world"] and 2 <= len(rest) <= 3 and None not in counts and set(rest[2:]) <= set(CONTROLS):
+        print(world(*counts, *rest[2:]))
+        return STATUS_PLAYED
+    sys.exit(__doc__)
 
 
 if __name__ == "__main__":
-    main()
+    sys.exit(main(sys.argv[1:]))

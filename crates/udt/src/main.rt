@@ -1,4 +1,4 @@
-//! The program of the protocol: it replays scripts.
+//! The program of the protocol: it replays scripts and generates runs.
 #![tactic(auto)]
 
 mod run;

@@ -4,7 +4,7 @@ ghost use Rattle.std.specs.Prelude.{◌≡◌, ◌≢◌, true, false, ◌∷◌
 ghost use Rattle.std.specs.Vec.Iter.{into_iter_items};
 ghost use Rattle.std.specs.Process.{exit_status};
 ghost use Rattle.udt_outside.specs.Faults.{Rose};
-ghost use Rattle.udt_tool.specs.Commands.{is_replay, outcome_of, IsAmong, IsStatus, IsFaultless, HasStatus, HasText};
+ghost use Rattle.udt_tool.specs.Commands.{is_replay, is_command, outcome_of, faulty, IsStatus, IsFaultless, HasStatus, HasText, Prints};
 ghost use Rattle.udt_tool.specs.declared.offline.TheConstants.{NO_COMMAND, SOURCE_FAILED, SINK_FAILED, OUT_OF_MEMORY};
 ghost use Rattle.udt.specs.Arguments.{command_of};
 
@@ -36,19 +36,22 @@ pub fn run<S: Source, K: Sink>(
     out: &mut K,
 ) -> ExitCode
     ensures status { IsStatus (exit_status result) }
-    ensures command { IfOk args (λ given. is_replay (command_of (into_iter_items given)) ≡ true
+    ensures command { IfOk args (λ given. is_command (command_of (into_iter_items given)) ≡ true
         → exit_status result ≢ NO_COMMAND) }
-    ensures no_command { IfOk args (λ given.
-        is_replay (command_of (into_iter_items given)) ≡ false
-        → IsAmong (NO_COMMAND ∷ SINK_FAILED ∷ OUT_OF_MEMORY ∷ []) (exit_status result)) }
-    ensures no_words { OnErr args
-        (IsAmong (NO_COMMAND ∷ SINK_FAILED ∷ OUT_OF_MEMORY ∷ []) (exit_status result)) }
     ensures outcome { IfOk args (λ given.
         HasStatus (outcome_of (command_of (into_iter_items given)))
         (S.left input.old) (exit_status result)) }
     ensures text { IfOk args (λ given.
         HasText (outcome_of (command_of (into_iter_items given)))
         (S.left input.old) (K.taken out.old) (K.taken out.new) (exit_status result)) }
+    ensures printed { IfOk args (λ given. is_replay (command_of (into_iter_items given)) ≡ false
+        → Prints (outcome_of (command_of (into_iter_items given)) [])
+        (K.taken out.old) (K.taken out.new) (exit_status result)) }
+    ensures unread { IfOk args (λ given. is_replay (command_of (into_iter_items given)) ≡ false
+        → input.new ≡ input.old) }
+    ensures no_words { OnErr args
+        (Prints faulty (K.taken out.old) (K.taken out.new) (exit_status result)) }
+    ensures unwritten { exit_status result ≡ OUT_OF_MEMORY → out.new ≡ out.old }
     ensures source_failed { exit_status result ≡ SOURCE_FAILED
         → Rose (S.faults input.old) (S.faults input.new) }
     ensures sink_failed { exit_status result ≡ SINK_FAILED

@@ -18,9 +18,12 @@ fn args_of(alloc: Global, words: &[&str]) -> Result<Args, AllocError> {
 fn arguments_and_scripts_decide_the_exit_code(rt: HostRuntime) {
     let alloc = rt.alloc();
     // the first argument is the program's name
-    let table: [(&[&str], &[u8], u8); 6] = [
+    let table: [(&[&str], &[u8], u8); 9] = [
         (&["udt", "replay"], b"# nothing\n", 0),
         (&["udt", "replay"], b"no line\n", 2),
+        (&["udt", "replay", "aimd"], b"no line\n", 2),
+        (&["udt", "world", "7", "1"], b"no line\n", 0),
+        (&["udt", "world", "7", "400001"], b"# nothing\n", 1),
         (&["replay"], b"# nothing\n", 1),
         (&[], b"# nothing\n", 1),
         (&["udt", "replay", "replay"], b"# nothing\n", 1),

@@ -5,6 +5,7 @@ mod buffers;
 mod locks;
 mod loss;
 mod queues;
+mod socket;
 mod tally;
 mod turns;
 
@@ -20,6 +21,9 @@ use udt_turn::Turn;
 // This many events each thread makes.
 const EVENTS: u32 = 100_000;
 
+// 20 million bytes in blocks of 1,456 bytes.
+const PACKETS: u32 = 13_737;
+
 fn main(rt: HostRuntime) -> io::Result<()> {
     let mut words = env::args(&rt)?.skip(1);
     match words.next() {
@@ -27,8 +31,14 @@ fn main(rt: HostRuntime) -> io::Result<()> {
         Some(word) if word.as_str() == "loss" => loss::bench(&rt, rt.alloc()),
         Some(word) if word.as_str() == "buffers" => buffers::bench_buffers(&rt, rt.alloc()),
         Some(word) if word.as_str() == "queues" => queues::bench(&rt, rt.alloc()),
+        Some(word) if word.as_str() == "socket" => {
+            let packets = words
+                .next()
+                .and_then(|word| word.as_str().parse::<u32>().ok());
+            socket::bench_socket(&rt, rt.alloc(), packets.unwrap_or(PACKETS))
+        }
         _ => {
-            println!(rt; "usage: udt_bench turn|loss|buffers|queues")?;
+            println!(rt; "usage: udt_bench turn|loss|buffers|queues|socket")?;
             Ok(())
         }
     }

@@ -1,8 +1,9 @@
 // The control with a fixed period.
 ghost use Rattle.std.specs.Prelude.{ℕ, ◌≤◌};
 ghost use Rattle.udt_model.specs.declared.limits.TheConstants.{GREATEST_WINDOW};
-ghost use Rattle.udt_model.specs.Controls.{fixed_period};
+ghost use Rattle.udt_model.specs.Controls.{fixed};
 
+use std::marker::Model;
 use udt_model::{GREATEST_PERIOD, GREATEST_WINDOW};
 use udt_rate::{Control, Seen};
 
@@ -11,12 +12,18 @@ use udt_rate::{Control, Seen};
 #[derive(Clone, Copy, Debug, PartialEq, Eq)]
 pub struct Fixed<const PERIOD: u64>;
 
+impl<const PERIOD: u64> Model for Fixed<PERIOD> {
+    ghost Value = { Unit {0} };
+
+    ghost view = { λ f. tt };
+
+    ghost inverse = { λ u. record {} };
+}
+
 impl<const PERIOD: u64> Control for Fixed<PERIOD> {
-    ghost use Rattle.udt_model.specs.Rate.{ways};
     ghost use Rattle.udt_controls.specs.FixedBounds.{fixed_is_in_bounds};
 
-    ghost ways = { ways (λ packet flow. record {}) (λ c. GREATEST_WINDOW) (λ c. fixed_period PERIOD)
-        (λ c seen. c) (λ c first sent seen. c) (λ c seen. c) };
+    ghost ways = { fixed PERIOD };
 
     ghost stays_in_bounds = { λ packet flow calls positive allowed. fixed_is_in_bounds PERIOD };
 

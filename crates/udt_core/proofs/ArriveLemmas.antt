@@ -1,26 +1,74 @@
--- What an arrival does.
-use Rattle.std.proofs.Common.{◌≡◌, ℕ, false, List, [], refl}
+-- Which arrivals count as foreign.
+use Rattle.std.proofs.Common.{◌≡◌, ℕ, List, [], ◌∷◌, Bool, true, false, Option, Some, None, refl}
+use Rattle.std.specs.Prelude.{if◌then◌else◌}
 use Rattle.udt_model.specs.declared.addresses.Addr.{Addr}
+use Rattle.udt_model.specs.declared.answers.Heard.TheVariants as heard
+use Rattle.udt_model.specs.declared.answers.Phase.{Phase}
+use Rattle.udt_model.specs.declared.answers.Phase.TheVariants as phase
+use Rattle.udt_model.specs.declared.answers.Placed.{Placed}
+use Rattle.udt_model.specs.declared.answers.Placed.TheVariants as placing
 use Rattle.udt_model.specs.declared.packets.AckBody.{AckBody}
-use Rattle.udt_model.specs.Wire.{read}
-use Rattle.udt_model.specs.State.{Sending, State}
-use Rattle.udt_model.specs.Sending.{Acking, Acks, IsStale, acking, acked_number, after_ack}
-use Rattle.udt_model.specs.Step.{step}
-use Rattle.udt_model.specs.Events.{Arrive, at_moment}
-use Rattle.udt_model.proofs.ArrivalLemmas.{on_read-outs}
-use Rattle.udt_core.specs.Emissions.{is_taken}
+use Rattle.udt_model.specs.declared.sockets.SentAck.{SentAck}
+use Rattle.udt_model.specs.Arrivals.{heard_of, has_bad_length, count_stale, count_foreign, arrived_so, confirmed_so, is_own, heard_now, acked_so, reported_so, on_own, packet_in}
+use Rattle.udt_model.specs.Events.{DidHear, answered}
+use Rattle.udt_model.specs.Losses.{LostRange}
+use Rattle.udt_model.specs.Rate.{Ways}
+use Rattle.udt_model.specs.ReceiveHalf.{after_block, block_answer}
+use Rattle.udt_model.specs.SendReports.{Acking, Acks, IsStale, acking, acked_number, entering}
+use Rattle.udt_model.specs.State.{State}
+use Rattle.udt_model.specs.Timing.{last_under}
+use Rattle.udt_model.specs.Wire.{Packet, WireRange, Block, Handshake, KeepAlive, Ack, Nak, Shutdown, Ack2, DropAsk}
 
--- an arrival emits nothing
-pub arrive-outs : (s : State) (now : ℕ) (from : Addr) (bytes : List ℕ) → (step s (record { now = now; act = Arrive from bytes })).outs ≡ []
-unfolding step
-arrive-outs s now from bytes = on_read-outs (at_moment s now) from (read bytes)
+placed-own : (p : Placed) → DidHear (heard_of p) ≡ DidHear heard.Foreign → ⊥
+placed-own placing.New is = cc
+placed-own placing.Double is = cc
+placed-own placing.Below is = cc
+placed-own placing.Above is = cc
 
--- an acknowledgement that isn't taken is stale
-pub not_taken : (a : Acking) → false ≡ is_taken a → a ≡ IsStale
-not_taken (Acks offset) no_more = absurd cc
-not_taken IsStale no_more = refl
+module _ {C : Type 0} (w : Ways C) where
+  acked-own : (s : State C) (number : ℕ) (body : AckBody) (q : Acking) → (acked_so w s number body q).reply ≡ DidHear heard.Foreign → ⊥
+  acked-own s number body (Acks offset) is = cc
+  acked-own s number body IsStale is = cc
 
--- and leaves the half as it was
-pub after_ack-stale : (s : Sending) (body : AckBody) → acking s (acked_number body) ≡ IsStale → after_ack s body ≡ s
-unfolding after_ack
-after_ack-stale s body stale = rw stale refl
+  reported-own : (s : State C) (ranges : List WireRange) (entered : List LostRange) → (reported_so w s ranges entered).reply ≡ DidHear heard.Foreign → ⊥
+  reported-own s ranges [] is = cc
+  reported-own s ranges (range ∷ others) is = cc
+
+  confirmed-own : (s : State C) (number : ℕ) (found : Option SentAck) → (confirmed_so s number found).reply ≡ DidHear heard.Foreign → ⊥
+  confirmed-own s number None is = cc
+  confirmed-own s number (Some ack) is = cc
+
+  -- what the peer sends is never foreign
+  own-own : (s : State C) (packet : Packet) → (on_own w s packet).reply ≡ DidHear heard.Foreign → ⊥
+  own-own s (Block number flags stamp dest bytes) is =
+      elim (has_bad_length s.receiving bytes) as (λ bad. (
+      if bad
+      then answered (record s { counters = count_stale s.counters }) (DidHear heard.BadLength)
+      else arrived_so (record s { receiving = after_block s.receiving s.last number flags bytes }) (block_answer s.receiving number)
+      ).reply ≡ DidHear heard.Foreign → ⊥) [
+        | true ↦ λ e. cc
+        | false ↦ λ e. placed-own (block_answer s.receiving number).placed e
+      ] is
+  own-own s (Handshake stamp dest shake) is = cc
+  own-own s (KeepAlive stamp dest) is = cc
+  own-own s (Ack number stamp dest body) is = acked-own s number body (acking s.sending (acked_number body)) is
+  own-own s (Nak stamp dest ranges) is = reported-own s ranges (entering s.sending ranges) is
+  own-own s (Shutdown stamp dest) is = cc
+  own-own s (Ack2 number stamp dest) is = confirmed-own s number (last_under number s.receiving.history) is
+  own-own s (DropAsk message stamp dest first last) is = cc
+
+  -- what is foreign is counted, and changes nothing else
+  pub foreign-counts : (s : State C) (from : Addr) (packet : Packet) (p : Phase) → (packet_in w s from packet p).reply ≡ DidHear heard.Foreign
+      → (packet_in w s from packet p).after ≡ record s { counters = count_foreign s.counters }
+  foreign-counts s from packet phase.Connected is =
+      elim (is_own s from packet) as (λ own. (
+      if own then on_own w (heard_now s) packet else answered (record s { counters = count_foreign s.counters }) (DidHear heard.Foreign)
+      ).reply ≡ DidHear heard.Foreign → (
+      if own then on_own w (heard_now s) packet else answered (record s { counters = count_foreign s.counters }) (DidHear heard.Foreign)
+      ).after ≡ record s { counters = count_foreign s.counters }) [
+        | true ↦ λ e. absurd (own-own (heard_now s) packet e)
+        | false ↦ λ e. refl
+      ] is
+  foreign-counts s from packet (phase.Broken why) is = absurd (cc)
+  foreign-counts s from packet phase.Closing is = absurd (cc)
+  foreign-counts s from packet phase.Closed is = absurd (cc)

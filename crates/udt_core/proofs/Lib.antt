@@ -1,10 +1,6 @@
-pub mod CutLemmas
-pub mod LostLemmas
-pub mod PackLemmas
-pub mod CellLemmas
-pub mod RunLemmas
-pub mod PlaceLemmas
-pub mod SettleLemmas
-pub mod ReadLemmas
+mod NakLemmas
+mod BlockLemmas
+pub mod EmittedLemmas
 pub mod TickLemmas
 pub mod ArriveLemmas
+pub mod MomentLemmas

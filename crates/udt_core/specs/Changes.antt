@@ -4,7 +4,7 @@ use Rattle.udt_model.specs.State.{State}
 use Rattle.udt_model.specs.Arrivals.{count_stale}
 
 -- one count is higher, and the EXP timer may have started anew. All else is as it was
-abbrev pub ChangesExpAlone : State → State → Type 0
+abbrev pub ChangesExpAlone : {C : Type 0} → State C → State C → Type 0
 ChangesExpAlone old new =
     new ≡ record old {
       heard = new.heard;

@@ -1,12 +1,4 @@
-pub mod Stock
-pub mod Pools
 pub mod Emitted
-pub mod SendBlocks
-pub mod LostOffsets
-pub mod SendHalf
-pub mod Emissions
-pub mod Cells
-pub mod ReceiveHalf
-pub mod Receipts
 pub mod Sockets
 pub mod Changes
+pub mod Received

@@ -1,11 +1,12 @@
 -- A socket, as it lies in memory.
-use Rattle.std.specs.Prelude.{◌-◌, ◌*◌, ◌≤◌}
-use Rattle.udt_model.specs.declared.limits.TheConstants.{LAST_MOMENT, EXP_LEAST_INTERVAL}
+use Rattle.std.specs.Prelude.{◌+◌, ◌-◌, ◌*◌, ◌≤◌}
+use Rattle.udt_model.specs.declared.limits.TheConstants.{LAST_MOMENT, EXP_LEAST_INTERVAL, MOST_PAYLOAD, MOST_BLOCKS}
+use Rattle.udt_model.specs.ReceiveReports.{nak_words}
 use Rattle.udt_model.specs.State.{State}
-use Rattle.udt_model.specs.declared.sockets.Counters.{Counters}
+use Rattle.udt_timing.specs.RoundTrips.{round_trip_of}
 use Rattle.udt_core.specs.declared.socket.Socket.TheInside.{Inside}
 
-abbrev pub state_of : Inside → State
+abbrev pub state_of : {C : Type 0} → Inside C → State C
 state_of s = record {
   own = s.own;
   kind = s.kind;
@@ -17,14 +18,20 @@ state_of s = record {
   heard = s.heard;
   exp_from = s.exp_from;
   exp_count = s.exp_count;
+  rtt = round_trip_of s.rtt;
   sending = s.sending;
   receiving = s.receiving;
   counters = s.counters;
 }
 
--- the moments stand in order, within the greatest one, and each time that the EXP timer fired took its least interval
-pub record IsSocket (s : Inside) : Type 0 where
+-- the moments stand in order, within the greatest one, and each time that the EXP timer fired took its least interval.
+-- Data packets and NAKs fit into a datagram
+pub record IsSocket {C : Type 0} (s : Inside C) : Type 0 where
   pub since : s.opened ≤ s.last
   pub until : s.last ≤ LAST_MOMENT
   pub begun : s.exp_from ≤ s.last
   pub expired : EXP_LEAST_INTERVAL * (s.exp_count - 1) ≤ s.exp_from
+  pub block : s.sending.blocks.room ≤ MOST_PAYLOAD
+  pub payload : s.receiving.payload ≤ MOST_PAYLOAD
+  pub capacity : s.receiving.blocks.capacity ≤ MOST_BLOCKS
+  pub words : nak_words s.receiving ≤ s.ranges.words

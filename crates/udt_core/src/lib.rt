@@ -4,21 +4,16 @@
 //! call, each datagram that came for it and each moment, and sends what it emits.
 #![tactic(auto)]
 
-mod blocks;
-mod cell;
 mod counts;
-mod lost;
 mod memory;
 mod outs;
-mod pool;
-mod receiving;
-mod sending;
 mod socket;
 
 pub use memory::OutOfMemory;
 pub use outs::Outs;
 pub use socket::{OpenNo, Socket};
-pub use udt_model::{Cause, Heard, Packed, Peer, Phase, Refusal};
+pub use udt_model::{Cause, Heard, Packed, Peer, Perf, Phase, Refusal};
+pub use udt_rate::Control;
 
 #[cfg(test)]
 mod tests;

@@ -11,3 +11,21 @@ impl From<AllocError> for OutOfMemory {
         OutOfMemory
     }
 }
+
+impl From<udt_sender::OutOfMemory> for OutOfMemory {
+    fn from(_error: udt_sender::OutOfMemory) -> OutOfMemory {
+        OutOfMemory
+    }
+}
+
+impl From<udt_receiver::OutOfMemory> for OutOfMemory {
+    fn from(_error: udt_receiver::OutOfMemory) -> OutOfMemory {
+        OutOfMemory
+    }
+}
+
+impl From<udt_rcv_loss::OutOfMemory> for OutOfMemory {
+    fn from(_error: udt_rcv_loss::OutOfMemory) -> OutOfMemory {
+        OutOfMemory
+    }
+}

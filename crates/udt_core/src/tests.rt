@@ -1,9 +1,15 @@
-// Stories of sockets. What is expected was computed by hand from the protocol's definitions.
+// Stories of sockets. What is expected was computed by hand from the protocol's definitions, and
+// the longer ones by the second player (`tests/play.py`).
+
+ghost use Rattle.std.specs.Prelude.{◌≡◌, ◌^◌, ◌<◌};
+ghost use Rattle.udt_model.specs.declared.packets.Kind.TheVariants.{Stream};
 
 use super::*;
+use std::alloc::Global;
 use std::process::Abort;
 use std::test::*;
 use udt_model::{Addr, Config, Ip, Kind, Malformed};
+use udt_rate::{Control, Native};
 
 const STREAM: Config = Config {
     kind: Kind::Stream,
@@ -34,7 +40,8 @@ const THERE: Peer = Peer {
     flow: 8,
 };
 
-// What happens to a socket, and what it answers, or what it is ready for.
+// What happens to a socket, and what it answers, or what it is ready for. A tick may emit more than one
+// datagram.
 #[derive(Drop)]
 enum Deed<'a> {
     Sends(&'a [u8], Result<usize, Refusal>),
@@ -44,12 +51,29 @@ enum Deed<'a> {
     Ticks,
     Closes,
     Is(u8),
+    IsNext(Option<u64>),
+    Measures(Perf),
+    Counts(u64),
+    TicksOften(&'a [&'a [u8]]),
+}
+
+// Whether these datagrams, and no other, were emitted to this address.
+fn are_emitted(outs: &Outs, to: Addr, wanted: &[&[u8]]) -> bool {
+    if outs.len() != wanted.len() {
+        return false;
+    }
+    for i in 0..outs.len() {
+        if outs.get(i) != (to, wanted[i]) {
+            return false;
+        }
+    }
+    true
 }
 
 // Does each deed at its moment. Following it stands the datagram that it emits.
-fn play(
+fn play<C: Control>(
     rt: &impl Abort,
-    socket: &mut Socket,
+    socket: &mut Socket<C>,
     peer: Addr,
     outs: &mut Outs,
     story: &[(u64, Deed, Option<&[u8]>)],
@@ -75,36 +99,68 @@ fn play(
             Deed::Ticks => socket.tick(*now, outs),
             Deed::Closes => socket.close(*now),
             Deed::Is(bits) => assert_eq!(rt; socket.bits(), *bits, "at {now}"),
+            Deed::IsNext(moment) => assert_eq!(rt; socket.next_moment(), *moment, "at {now}"),
+            Deed::Measures(perf) => assert_eq!(rt; socket.perf(*now), *perf),
+            Deed::Counts(count) => assert_eq!(rt; socket.count(), *count),
+            Deed::TicksOften(all) => {
+                socket.tick(*now, outs);
+                assert!(rt; are_emitted(outs, peer, all), "at {now}");
+                outs.clear();
+            }
         }
         match emitted {
-            Some(bytes) => {
-                assert!(rt; outs.len() == 1, "at {now}");
-                assert_eq!(rt; outs.get(0), (peer, *bytes), "at {now}");
-            }
+            Some(bytes) => assert!(rt; are_emitted(outs, peer, &[*bytes]), "at {now}"),
             None => assert_eq!(rt; outs.len(), 0, "at {now}"),
         }
     }
 }
 
+// Opens a socket to this peer, and does each deed. (The control is a parameter, so that no proof looks
+// into one.)
+fn tell<C: Control + Drop>(
+    rt: &impl Abort,
+    alloc: Global,
+    config: Config,
+    peer: Peer,
+    begins: (u64, u64),
+    story: &[(u64, Deed, Option<&[u8]>)],
+) -> Result<(), Fail>
+    requires stream { config.kind ≡ Stream }
+    requires number { peer.isn < 2 ^ 31 }
+{
+    let (now, start) = begins;
+    let mut outs = Outs::new(alloc)?;
+    let mut socket: Socket<C> = Socket::paired_at(
+        alloc,
+        3 - peer.id.min(3),
+        config,
+        peer,
+        now,
+        start,
+    )?;
+    play(rt, &mut socket, peer.addr, &mut outs, story);
+    Ok(())
+}
+
 #[test]
 fn bytes_go_over_in_any_order_and_once(rt: HostRuntime) -> Result<(), Fail> {
-    // where the directions begin, and the two datagrams of "hello"
-    let stories: [(u64, &[u8], &[u8]); 2] = [
+    // where the directions begin, the two datagrams of "hello", and the NAK of the first
+    let stories: [(u64, &[u8], &[u8], &[u8]); 2] = [
         (
             0,
             b"\x7f\xff\xff\xff\x80\x00\x00\x01\x00\x00\x03\xe8\x00\x00\x00\x02hell",
             b"\x00\x00\x00\x00\x40\x00\x00\x01\x00\x00\x03\xe8\x00\x00\x00\x02o",
+            b"\x80\x03\x00\x00\x00\x00\x00\x00\x00\x00\x05\xdc\x00\x00\x00\x01\x7f\xff\xff\xff",
         ),
         (
             2_147_483_649,
             b"\x00\x00\x00\x00\x80\x00\x00\x01\x00\x00\x03\xe8\x00\x00\x00\x02hell",
             b"\x00\x00\x00\x01\x40\x00\x00\x01\x00\x00\x03\xe8\x00\x00\x00\x02o",
+            b"\x80\x03\x00\x00\x00\x00\x00\x00\x00\x00\x05\xdc\x00\x00\x00\x01\x00\x00\x00\x00",
         ),
     ];
     let again = Refusal::AgainRecv;
-    let mut outs = Outs::new(rt.alloc())?;
-    for (start, hell, o) in stories {
-        let mut here = Socket::paired_at(rt.alloc(), 1, STREAM, THERE, 500, start)?;
+    for (start, hell, o, nak) in stories {
         // a moment before the last one counts as the last one
         let sends = [
             (1_500, Deed::Sends(b"hello", Ok(5)), None),
@@ -112,11 +168,9 @@ fn bytes_go_over_in_any_order_and_once(rt: HostRuntime) -> Result<(), Fail> {
             (0, Deed::Packs(Packed::Block(17)), Some(o)),
             (1_500, Deed::Packs(Packed::Nothing), None),
         ];
-        play(&rt, &mut here, THERE.addr, &mut outs, &sends);
-
-        let mut there = Socket::paired_at(rt.alloc(), 2, STREAM, HERE, 500, start)?;
+        tell::<Native>(&rt, rt.alloc(), STREAM, THERE, (500, start), &sends)?;
         let arrivals = [
-            (2_000, Deed::Arrives(o, Heard::Placed), None),
+            (2_000, Deed::Arrives(o, Heard::Placed), Some(nak)),
             (2_000, Deed::Reads(8, Err(again)), None),
             (2_000, Deed::Arrives(o, Heard::Double), None),
             (2_000, Deed::Reads(0, Ok(b"")), None),
@@ -128,72 +182,8 @@ fn bytes_go_over_in_any_order_and_once(rt: HostRuntime) -> Result<(), Fail> {
             (2_000, Deed::Arrives(o, Heard::Below), None),
             (2_000, Deed::Reads(8, Err(again)), None),
         ];
-        play(&rt, &mut there, HERE.addr, &mut outs, &arrivals);
+        tell::<Native>(&rt, rt.alloc(), STREAM, HERE, (500, start), &arrivals)?;
     }
-    Ok(())
-}
-
-#[test]
-fn full_halves_take_no_more(rt: HostRuntime) -> Result<(), Fail> {
-    // the number, the flags and the bytes of each block
-    let blocks: [&[u8]; 8] = [
-        b"\x00\x00\x00\x05\x80\x00\x00\x01\x00\x00\x00\x07\x00\x00\x00\x02abcd",
-        b"\x00\x00\x00\x06\x00\x00\x00\x01\x00\x00\x00\x07\x00\x00\x00\x02efgh",
-        b"\x00\x00\x00\x07\x40\x00\x00\x01\x00\x00\x00\x07\x00\x00\x00\x02ij",
-        b"\x00\x00\x00\x08\x80\x00\x00\x02\x00\x00\x00\x07\x00\x00\x00\x02klmn",
-        b"\x00\x00\x00\x09\x00\x00\x00\x02\x00\x00\x00\x07\x00\x00\x00\x02opqr",
-        b"\x00\x00\x00\x0a\x00\x00\x00\x02\x00\x00\x00\x07\x00\x00\x00\x02stuv",
-        b"\x00\x00\x00\x0b\x00\x00\x00\x02\x00\x00\x00\x07\x00\x00\x00\x02wxyz",
-        b"\x00\x00\x00\x0c\x40\x00\x00\x02\x00\x00\x00\x07\x00\x00\x00\x02ABCD",
-    ];
-    // one past the last block that there is room for, and one before the first
-    let past = b"\x00\x00\x00\x0d\x80\x00\x00\x03\x00\x00\x00\x07\x00\x00\x00\x02x";
-    let before = b"\x00\x00\x00\x04\x80\x00\x00\x03\x00\x00\x00\x07\x00\x00\x00\x02x";
-    // one byte more than the payload, and none; for another socket; and too short
-    let long = b"\x00\x00\x00\x05\x80\x00\x00\x01\x00\x00\x00\x07\x00\x00\x00\x02abcde";
-    let none = b"\x00\x00\x00\x05\x80\x00\x00\x01\x00\x00\x00\x07\x00\x00\x00\x02";
-    let other = b"\x00\x00\x00\x05\x80\x00\x00\x01\x00\x00\x00\x07\x00\x00\x00\x01abcd";
-    let short = b"\x00\x00\x00\x05\x80\x00\x00\x01\x00\x00\x00\x07\x00\x00\x00";
-
-    let mut outs = Outs::new(rt.alloc())?;
-    let mut here = Socket::paired(rt.alloc(), 1, STREAM, Peer { isn: 5, ..THERE }, 0)?;
-    // three blocks, then the other five
-    let sends = [
-        (0, Deed::Sends(b"", Ok(0)), None),
-        (0, Deed::Sends(b"abcdefghij", Ok(10)), None),
-        (0, Deed::Sends(b"klmnopqrstuvwxyzABCDEFGH", Ok(20)), None),
-        (0, Deed::Sends(b"E", Err(Refusal::AgainSend)), None),
-        (0, Deed::Sends(b"", Ok(0)), None),
-        (0, Deed::Is(16), None),
-    ];
-    play(&rt, &mut here, THERE.addr, &mut outs, &sends);
-    for block in blocks {
-        let packs = [(7, Deed::Packs(Packed::Block(block.len())), Some(block))];
-        play(&rt, &mut here, THERE.addr, &mut outs, &packs);
-    }
-    let idles = [(7, Deed::Packs(Packed::Nothing), None)];
-    play(&rt, &mut here, THERE.addr, &mut outs, &idles);
-
-    let mut there = Socket::paired(rt.alloc(), 2, STREAM, Peer { isn: 5, ..HERE }, 0)?;
-    let arrivals = [
-        (8, Deed::Arrives(blocks[7], Heard::Placed), None),
-        (8, Deed::Arrives(past, Heard::Above), None),
-        (8, Deed::Arrives(before, Heard::Above), None),
-        (8, Deed::Arrives(long, Heard::BadLength), None),
-        (8, Deed::Arrives(none, Heard::BadLength), None),
-        (8, Deed::Arrives(other, Heard::Foreign), None),
-        (
-            8,
-            Deed::Arrives(short, Heard::Malformed(Malformed::TooShort)),
-            None,
-        ),
-        (8, Deed::Is(18), None),
-        (8, Deed::Arrives(blocks[0], Heard::Placed), None),
-        (8, Deed::Is(19), None),
-    ];
-    play(&rt, &mut there, HERE.addr, &mut outs, &arrivals);
-    let strange = [(8, Deed::Arrives(blocks[0], Heard::Foreign), None)];
-    play(&rt, &mut there, THERE.addr, &mut outs, &strange);
     Ok(())
 }
 
@@ -214,6 +204,9 @@ const ACK_AGAIN: &[u8] =
 const ACK_ABOVE: &[u8] =
     b"\x80\x02\x00\x00\x00\x00\x00\x03\x00\x00\x27\x10\x00\x00\x00\x01\x00\x00\x00\x08";
 
+// what answers the first of them
+const ACK2: &[u8] = b"\x80\x06\x00\x00\x00\x00\x00\x01\x00\x09\x27\xc0\x00\x00\x00\x02";
+
 const SHUTDOWN: &[u8] = b"\x80\x05\x00\x00\x00\x00\x00\x00\x00\x0a\xae\x60\x00\x00\x00\x02";
 
 #[test]
@@ -223,8 +216,6 @@ fn what_is_not_acknowledged_goes_again_until_the_end(rt: HostRuntime) -> Result<
         rcv_blocks: 4,
         ..STREAM
     };
-    let mut outs = Outs::new(rt.alloc())?;
-    let mut here = Socket::paired(rt.alloc(), 1, config, Peer { isn: 5, ..THERE }, 0)?;
     let sends = [
         (1_000, Deed::Sends(b"hello", Ok(5)), None),
         (1_000, Deed::Packs(Packed::Block(20)), Some(HELL)),
@@ -236,20 +227,23 @@ fn what_is_not_acknowledged_goes_again_until_the_end(rt: HostRuntime) -> Result<
         (500_000, Deed::Packs(Packed::Block(20)), Some(HELL_AGAIN)),
         // an ACK releases the other block before it is retransmitted
         (600_000, Deed::Arrives(ACK_ABOVE, Heard::Stale), None),
-        (600_000, Deed::Arrives(ACK, Heard::Ack), None),
+        (600_000, Deed::Arrives(ACK, Heard::Ack), Some(ACK2)),
         (600_000, Deed::Packs(Packed::Nothing), None),
         // one shutdown is sent
         (700_000, Deed::Closes, None),
         (700_000, Deed::Is(0), None),
+        (700_000, Deed::IsNext(Some(700_000)), None),
         (700_000, Deed::Sends(b"x", Err(Refusal::NotConnected)), None),
         (700_000, Deed::Ticks, Some(SHUTDOWN)),
         (700_000, Deed::Ticks, None),
         (700_000, Deed::Arrives(ACK, Heard::Stale), None),
         (700_000, Deed::Is(36), None),
+        (700_000, Deed::IsNext(None), None),
+        (700_000, Deed::Counts(15), None),
     ];
-    play(&rt, &mut here, THERE.addr, &mut outs, &sends);
+    let there = Peer { isn: 5, ..THERE };
+    tell::<Native>(&rt, rt.alloc(), config, there, (0, 0), &sends)?;
 
-    let mut there = Socket::paired(rt.alloc(), 2, config, Peer { isn: 5, ..HERE }, 0)?;
     let lost = Refusal::ConnLost(Cause::PeerShutdown);
     let arrivals = [
         (2_000, Deed::Arrives(HELL, Heard::Placed), None),
@@ -272,42 +266,146 @@ fn what_is_not_acknowledged_goes_again_until_the_end(rt: HostRuntime) -> Result<
         (9_000_000, Deed::Closes, None),
         (9_000_000, Deed::Reads(8, Err(Refusal::NotConnected)), None),
     ];
-    play(&rt, &mut there, HERE.addr, &mut outs, &arrivals);
-    Ok(())
+    let here = Peer { isn: 5, ..HERE };
+    tell::<Native>(&rt, rt.alloc(), config, here, (0, 0), &arrivals)
 }
 
 #[test]
-fn silence_is_answered_sixteen_times(rt: HostRuntime) -> Result<(), Fail> {
-    let moments: [u32; 16] = [
-        500_000, 1_420_000, 2_800_000, 4_640_000, 6_940_000, 9_700_000, 12_920_000, 16_600_000,
-        20_740_000, 25_340_000, 30_400_000, 35_920_000, 41_900_000, 48_340_000, 55_240_000,
-        62_600_000,
+fn a_lost_block_is_reported_and_sent_again(rt: HostRuntime) -> Result<(), Fail> {
+    let first = b"\x00\x00\x00\x05\x80\x00\x00\x01\x00\x00\x00\x00\x00\x00\x00\x02abcd";
+    let second = b"\x00\x00\x00\x06\x00\x00\x00\x01\x00\x00\x00\x00\x00\x00\x00\x02efgh";
+    let third = b"\x00\x00\x00\x07\x40\x00\x00\x01\x00\x00\x00\x00\x00\x00\x00\x02ijkl";
+    let nak = b"\x80\x03\x00\x00\x00\x00\x00\x00\x00\x00\x07\xd0\x00\x00\x00\x01\x00\x00\x00\x06";
+    let ack =
+        b"\x80\x02\x00\x00\x00\x00\x00\x01\x00\x00\x27\x10\x00\x00\x00\x01\x00\x00\x00\x06\x00\x01\x86\xa0\x00\x00\xc3\x50\x00\x00\x00\x07\x00\x00\x00\x00\x00\x00\x00\x00";
+    let again = b"\x00\x00\x00\x06\x00\x00\x00\x01\x00\x00\x4e\x20\x00\x00\x00\x02efgh";
+    let ack2 = b"\x80\x06\x00\x00\x00\x00\x00\x01\x00\x00\x75\x30\x00\x00\x00\x02";
+    // an ACK of the first block alone, which needs no answer
+    let light = b"\x80\x02\x00\x00\x00\x00\x00\x00\x00\x00\x27\x10\x00\x00\x00\x01\x00\x00\x00\x06";
+    let zero = Perf {
+        rtt: 100_000,
+        var: 50_000,
+        window: 16,
+        period: 0,
+        sent: 0,
+        resent: 0,
+        placed: 0,
+        double: 0,
+        below: 0,
+        above: 0,
+        control: 0,
+        stale: 0,
+        foreign: 0,
+        malformed: 0,
+        acked: 0,
+    };
+    let sends: [(u64, Deed, Option<&[u8]>); 16] = [
+        (0, Deed::Sends(b"abcdefghijkl", Ok(12)), None),
+        (0, Deed::Packs(Packed::Block(20)), Some(first)),
+        (0, Deed::Packs(Packed::Block(20)), Some(second)),
+        (0, Deed::Packs(Packed::Block(20)), Some(third)),
+        (0, Deed::IsNext(Some(10_000)), None),
+        // the NAK ends slow start: a block leaves each 6,875 microseconds from now on
+        (20_000, Deed::Arrives(nak, Heard::Nak), None),
+        (20_000, Deed::Packs(Packed::Block(20)), Some(again)),
+        (20_000, Deed::Sends(b"m", Ok(1)), None),
+        (20_000, Deed::Packs(Packed::NotYet(26_875)), None),
+        (20_000, Deed::Ticks, None),
+        (20_000, Deed::IsNext(Some(26_875)), None),
+        (30_000, Deed::Arrives(ack, Heard::Ack), Some(ack2)),
+        (30_000, Deed::Arrives(light, Heard::Ack), None),
+        (30_000, Deed::Arrives(nak, Heard::Nak), None),
+        (
+            30_000,
+            Deed::Measures(Perf {
+                var: 37_500,
+                period: 7_625_162,
+                sent: 3,
+                resent: 1,
+                control: 4,
+                acked: 1,
+                ..zero
+            }),
+            None,
+        ),
+        (30_000, Deed::Is(18), None),
     ];
-    let mut outs = Outs::new(rt.alloc())?;
-    let mut quiet = Socket::paired(rt.alloc(), 1, STREAM, THERE, 0)?;
-    for moment in moments {
-        let stamp = moment.to_be_bytes();
-        let mut sign = *b"\x80\x01\x00\x00\x00\x00\x00\x00\x00\x00\x00\x00\x00\x00\x00\x02";
-        sign[8..12].copy_from_slice(&stamp);
-        let now = moment as u64;
-        let story: [(u64, Deed, Option<&[u8]>); 2] = [
-            (now, Deed::Ticks, Some(&sign)),
-            (now + 1, Deed::Ticks, None),
-        ];
-        play(&rt, &mut quiet, THERE.addr, &mut outs, &story);
+    let there = Peer { isn: 5, ..THERE };
+    tell::<Native>(&rt, rt.alloc(), STREAM, there, (0, 0), &sends)?;
+
+    // the ACK, the NAK and the keep-alive of one tick
+    let due: [&[u8]; 3] = [
+        b"\x80\x02\x00\x00\x00\x00\x00\x02\x00\x09\x27\xc0\x00\x00\x00\x01\x00\x00\x00\x06\x00\x01\x86\xa0\x00\x00\xc3\x50\x00\x00\x00\x07\x00\x00\x00\x00\x00\x00\x00\x00",
+        b"\x80\x03\x00\x00\x00\x00\x00\x00\x00\x09\x27\xc0\x00\x00\x00\x01\x00\x00\x00\x06",
+        b"\x80\x01\x00\x00\x00\x00\x00\x00\x00\x09\x27\xc0\x00\x00\x00\x01",
+    ];
+    let found = b"\x80\x06\x00\x00\x00\x00\x00\x02\x00\x00\x00\x00\x00\x00\x00\x02";
+    let arrivals: [(u64, Deed, Option<&[u8]>); 11] = [
+        (1_000, Deed::Arrives(first, Heard::Placed), None),
+        (2_000, Deed::Arrives(third, Heard::Placed), Some(nak)),
+        (2_000, Deed::IsNext(Some(10_000)), None),
+        (10_000, Deed::Ticks, Some(ack)),
+        (10_000, Deed::IsNext(Some(20_000)), None),
+        (600_000, Deed::TicksOften(&due), None),
+        (640_000, Deed::Arrives(found, Heard::Ack2), None),
+        (640_000, Deed::Arrives(found, Heard::Stale), None),
+        (650_000, Deed::Arrives(again, Heard::Placed), None),
+        (650_000, Deed::Reads(8, Ok(b"abcdefgh")), None),
+        (
+            650_000,
+            Deed::Measures(Perf {
+                rtt: 92_500,
+                var: 52_500,
+                placed: 3,
+                control: 1,
+                stale: 1,
+                ..zero
+            }),
+            None,
+        ),
+    ];
+    let here = Peer { isn: 5, ..HERE };
+    tell::<Native>(&rt, rt.alloc(), STREAM, here, (0, 0), &arrivals)
+}
+
+#[test]
+fn the_64th_block_is_acknowledged_at_once(rt: HostRuntime) -> Result<(), Fail> {
+    arrive_64_times::<Native>(&rt, rt.alloc())
+}
+
+fn arrive_64_times<C: Control + Drop>(rt: &impl Abort, alloc: Global) -> Result<(), Fail> {
+    let config = Config {
+        rcv_blocks: 128,
+        ..STREAM
+    };
+    // the 64th block to arrive shows a gap: the NAK goes first
+    let wanted: [&[u8]; 2] = [
+        b"\x80\x03\x00\x00\x00\x00\x00\x00\x00\x00\x00\x64\x00\x00\x00\x01\x00\x00\x00\x44",
+        b"\x80\x02\x00\x00\x00\x00\x00\x00\x00\x00\x00\x64\x00\x00\x00\x01\x00\x00\x00\x44",
+    ];
+    let mut outs = Outs::new(alloc)?;
+    let mut there: Socket<C> = Socket::paired(alloc, 2, config, Peer { isn: 5, ..HERE }, 0)?;
+    let mut block = *b"\x00\x00\x00\x00\xc0\x00\x00\x01\x00\x00\x00\x00\x00\x00\x00\x02x";
+    for number in 5..68u8 {
+        block[3] = number;
+        assert_eq!(rt;
+            there.arrive(100, HERE.addr, &block, &mut outs),
+            Heard::Placed
+        );
+        assert_eq!(rt; outs.len(), 0, "of {number}");
     }
-    let lost = Refusal::ConnLost(Cause::Expired);
-    let end = [
-        (70_419_999, Deed::Ticks, None),
-        (70_419_999, Deed::Is(18), None),
-        (70_420_000, Deed::Ticks, None),
-        (70_420_000, Deed::Is(4), None),
-        (70_420_000, Deed::Sends(b"x", Err(lost)), None),
-        (70_420_000, Deed::Reads(8, Err(lost)), None),
-    ];
-    play(&rt, &mut quiet, THERE.addr, &mut outs, &end);
-    // what the socket is ready for is no event
-    assert_eq!(rt; quiet.count(), 36);
+    block[3] = 69;
+    assert_eq!(rt;
+        there.arrive(100, HERE.addr, &block, &mut outs),
+        Heard::Placed
+    );
+    assert!(rt; are_emitted(&outs, HERE.addr, &wanted));
+    block[3] = 68;
+    assert_eq!(rt;
+        there.arrive(100, HERE.addr, &block, &mut outs),
+        Heard::Placed
+    );
+    assert_eq!(rt; outs.len(), 0);
     Ok(())
 }
 
@@ -338,7 +436,21 @@ fn values_out_of_range_open_nothing(rt: HostRuntime) {
             payload: peer_payload,
             ..THERE
         };
-        let opened = Socket::paired_at(rt.alloc(), 1, config, peer, 0, start);
-        assert_eq!(rt; opened.err(), why, "{config:?} {peer:?} {start}");
+        let refused = refusal::<Native>(rt.alloc(), config, peer, start);
+        assert_eq!(rt; refused, why, "{config:?} {peer:?} {start}");
     }
+}
+
+// Why a socket isn't opened with these values.
+fn refusal<C: Control + Drop>(
+    alloc: Global,
+    config: Config,
+    peer: Peer,
+    start: u64,
+) -> Option<OpenNo>
+    requires stream { config.kind ≡ Stream }
+    requires number { peer.isn < 2 ^ 31 }
+{
+    let opened: Result<Socket<C>, OpenNo> = Socket::paired_at(alloc, 1, config, peer, 0, start);
+    opened.err()
 }

@@ -1,4 +1,4 @@
--- Prefix, the first half: what is delivered is a prefix of what the peer accepted.
+-- What is delivered is a prefix of what the peer accepted.
 pub mod WindowRises
 pub mod PeerBlocksAlone
 pub mod DeliveredPrefix

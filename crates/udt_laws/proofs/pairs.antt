@@ -1,4 +1,4 @@
--- The laws of two sockets that were made as a pair.
+-- Two sockets that were made as a pair.
 pub mod NamedIsBelow
 pub mod PairPrefix
 pub mod PairIsLawful

@@ -1,5 +1,7 @@
--- Emitted blocks and addressed: what a socket emits are the blocks of what it accepted, to its peer.
+-- What is sent: blocks of what was accepted, to the peer.
 pub mod AcceptedIsCut
+pub mod ReportsFit
+pub mod NakRanges
 pub mod EmissionsRead
 pub mod SentBlocks
 pub mod GoesToPeer

@@ -1,142 +1,148 @@
--- The main theorems, as statements about histories and records.
+-- The main theorems, as statements about histories and records, over any rate control.
 use Rattle.std.specs.Prelude.{◌≡◌, ℕ, ◌+◌, ◌-◌, ◌%◌, ◌^◌, ◌<◌, ◌≤◌, List, [], ◌∷◌, drop, length, map, Some, Ok, slice_get, true, false, ◌||◌}
 use Rattle.std.specs.List.{Contains, concat}
 use Rattle.udt_model.specs.declared.packets.Flags.{Flags}
 use Rattle.udt_model.specs.declared.packets.Kind.TheVariants.{Stream}
 use Rattle.udt_model.specs.declared.addresses.Addr.{Addr}
-use Rattle.udt_model.specs.Numbers.{sequence_number}
-use Rattle.udt_model.specs.Wire.{Packet, Block, is_handshake, destination, read, target}
-use Rattle.udt_model.specs.State.{KeptBlock, Datagram}
+use Rattle.udt_model.specs.Emissions.{IsPrefix, emitted, sent, arrivals, IsMadeOf}
 use Rattle.udt_model.specs.History.{History, IsLegal, state_of, start_of, accepted, delivered, acked, arrived}
-use Rattle.udt_model.specs.Readiness.{is_connected, is_broken}
-use Rattle.udt_model.specs.Lines.{AreEmitted}
-use Rattle.udt_model.specs.Script.{network_after}
-use Rattle.udt_model.specs.Network.{ScriptSocket}
-use Rattle.udt_model.specs.Records.{Enrolled, IsSocket, EndpointRecord, StandsAt, PeerPair, own_peer, ArePaired, AreLawful}
-use Rattle.udt_model.specs.Emissions.{IsPrefix, Emission, emitted, sent, arrivals, IsMadeOf}
 use Rattle.udt_model.specs.Honest.{IsHonest}
+use Rattle.udt_model.specs.Lines.{AreEmitted}
+use Rattle.udt_model.specs.Network.{ScriptSocket}
+use Rattle.udt_model.specs.Numbers.{sequence_number}
+use Rattle.udt_model.specs.Rate.{Ways}
+use Rattle.udt_model.specs.Records.{Enrolled, IsSocket, EndpointRecord, StandsAt, PeerPair, own_peer, ArePaired, AreLawful}
+use Rattle.udt_model.specs.Script.{network_after}
+use Rattle.udt_model.specs.SendBlocks.{KeptBlock}
+use Rattle.udt_model.specs.State.{Datagram, Emission}
+use Rattle.udt_model.specs.Wire.{Packet, Block, is_handshake, destination, read, target}
 
--- the socket carries a stream of bytes
-abbrev pub IsStream : History → Type 0
-IsStream h = h.opening.kind ≡ Stream
+module _ {C : Type 0} where
+  -- the socket carries a stream of bytes
+  abbrev pub IsStream : History C → Type 0
+  IsStream h = h.opening.kind ≡ Stream
 
--- the initial sequence number of what the peer sends
-abbrev pub peer_isn : History → ℕ
-peer_isn h = (state_of h).peer.isn
+  -- a datagram has the bytes of one that the socket emitted
+  abbrev pub WasSentBy : Enrolled C → Datagram → Type 0
+  WasSentBy sender datagram = (sent_one : Datagram) × Contains (sent sender.history) sent_one × (sent_one.bytes ≡ datagram.bytes)
 
--- One history: what a stream socket delivered is made of what arrived from its peer's address, whoever sent it
-abbrev pub OneHistory : Type 0
-OneHistory =
-    (socket : Enrolled) (peer : PeerPair) → IsSocket socket → IsStream socket.history → own_peer socket.history ≡ Some peer
-    → IsMadeOf (delivered socket.history) (arrivals socket.history) socket.own peer.addr
-    ((peer_isn socket.history + start_of socket.history) % 2 ^ 31)
+  -- each datagram that came from this address for the receiver has the bytes of one that the sender emitted
+  abbrev pub ComesFrom : Enrolled C → Addr → Enrolled C → Type 0
+  ComesFrom receiver from sender =
+      (datagram : Datagram) → Contains (arrivals receiver.history) datagram → datagram.addr ≡ from
+      → target datagram.bytes ≡ Some receiver.own
+      → WasSentBy sender datagram
 
--- a data packet that was emitted carries the block of the one offset that it names, to the peer, under the wire
--- number of that offset
-pub record CarriesBlock (h : History) (blocks : List (List ℕ)) (emission : Emission) (number dest : ℕ) (payload : List ℕ)
-    : Type 0 where
-  pub offset : ℕ
-  pub names : emission.offsets ≡ offset ∷ []
-  pub not_before : start_of h ≤ offset
-  pub carries : slice_get blocks (offset - start_of h) ≡ Some payload
-  pub numbered : number ≡ sequence_number (state_of h).sending.isn offset
-  pub sent_to : emission.datagram.addr ≡ (state_of h).peer.addr
-  pub destined : dest ≡ (state_of h).peer.id
+  -- each datagram that came at all came from this address, and has the bytes of one that the sender emitted
+  abbrev pub AllComesFrom : Enrolled C → Addr → Enrolled C → Type 0
+  AllComesFrom receiver from sender =
+      (datagram : Datagram) → Contains (arrivals receiver.history) datagram → (datagram.addr ≡ from) × WasSentBy sender datagram
 
--- the blocks of a history, the first at the offset at which it begins: joined they are what was accepted, the kept
--- ones are the last of them as long as the socket isn't closing or closed, and data packets carry no others
-pub record HasBlocks (h : History) : Type 0 where
-  pub blocks : List (List ℕ)
-  pub joined : concat blocks ≡ accepted h
-  pub kept : (is_connected (state_of h).phase || is_broken (state_of h).phase) ≡ true
-      → map (λ (block : KeptBlock). block.bytes) (state_of h).sending.kept ≡ drop ((state_of h).sending.acked - start_of h) blocks
-  pub emits : (emission : Emission) (number : ℕ) (flags : Flags) (stamp dest : ℕ) (payload : List ℕ)
-      → Contains (emitted h) emission → read emission.datagram.bytes ≡ Ok (Block number flags stamp dest payload)
-      → CarriesBlock h blocks emission number dest payload
+  -- the records of two endpoints with one socket each
+  abbrev pub both_records : Addr → Enrolled C → Addr → Enrolled C → List (EndpointRecord C)
+  both_records addr socket other_addr other =
+      record { addr = addr; sockets = socket ∷ [] } ∷ record { addr = other_addr; sockets = other ∷ [] } ∷ []
 
--- Emitted blocks: what a stream socket sends are the blocks of what it accepted, each under its own number
-abbrev pub EmittedBlocks : Type 0
-EmittedBlocks = (socket : Enrolled) → IsSocket socket → IsStream socket.history → HasBlocks socket.history
+module _ {C : Type 0} (w : Ways C) where
+  -- the initial sequence number of what the peer sends
+  abbrev pub peer_isn : History C → ℕ
+  peer_isn h = (state_of w h).peer.isn
 
--- All named: of a legal history all datagrams that it sent are emitted ones with the offsets that they name, in order
-abbrev pub AllNamed : Type 0
-AllNamed = (h : History) → IsLegal h → map (λ (emission : Emission). emission.datagram) (emitted h) ≡ sent h
+  -- One history: what a stream socket delivered is made of what arrived from its peer's address, whoever sent it
+  abbrev pub OneHistory : Type 0
+  OneHistory =
+      (socket : Enrolled C) (peer : PeerPair) → IsSocket w socket → IsStream socket.history
+      → own_peer w socket.history ≡ Some peer
+      → IsMadeOf (delivered socket.history) (arrivals socket.history) socket.own peer.addr
+      ((peer_isn socket.history + start_of socket.history) % 2 ^ 31)
 
--- Addressed: what a socket emits that isn't a handshake goes to its own peer
-abbrev pub Addressed : Type 0
-Addressed =
-    (socket : Enrolled) (emission : Emission) (packet : Packet) → IsSocket socket → Contains (emitted socket.history) emission
-    → read emission.datagram.bytes ≡ Ok packet → is_handshake packet ≡ false
-    → own_peer socket.history ≡ Some (record { addr = emission.datagram.addr; id = destination packet })
+  -- a data packet that was emitted carries the block of the one offset that it names, to the peer, under the sequence
+  -- number of that offset
+  pub record CarriesBlock (h : History C) (blocks : List (List ℕ)) (emission : Emission) (number dest : ℕ) (payload : List ℕ)
+      : Type 0 where
+    pub offset : ℕ
+    pub names : emission.offsets ≡ offset ∷ []
+    pub not_before : start_of h ≤ offset
+    pub carries : slice_get blocks (offset - start_of h) ≡ Some payload
+    pub numbered : number ≡ sequence_number (state_of w h).sending.isn offset
+    pub sent_to : emission.datagram.addr ≡ (state_of w h).peer.addr
+    pub destined : dest ≡ (state_of w h).peer.id
 
--- what is promised of a socket's history and that of its own peer: what the one delivered is a prefix of what the other
--- accepted, and no more blocks of the one are acknowledged than have arrived at the other
-pub record AreInStep (own other : History) : Type 0 where
-  pub prefix : IsPrefix (delivered own) (accepted other)
-  pub acknowledged : acked own ≤ arrived other
+  -- the blocks of a history, the first at the offset at which it begins: joined they are what was accepted, the kept
+  -- ones are the last of them, and data packets carry no others
+  pub record HasBlocks (h : History C) : Type 0 where
+    pub blocks : List (List ℕ)
+    pub joined : concat blocks ≡ accepted h
+    pub kept : map (λ (block : KeptBlock). block.bytes) (state_of w h).sending.blocks.kept
+        ≡ drop ((state_of w h).sending.blocks.first - start_of h) blocks
+    pub emits : (emission : Emission) (number : ℕ) (flags : Flags) (stamp dest : ℕ) (payload : List ℕ)
+        → Contains (emitted w h) emission → read emission.datagram.bytes ≡ Ok (Block number flags stamp dest payload)
+        → CarriesBlock h blocks emission number dest payload
 
--- Prefix: where records are lawful and honest, this holds of each stream socket and its own peer
-abbrev pub Prefix : Type 0
-Prefix =
-    (net : List EndpointRecord) (addr : Addr) (socket other : Enrolled) (peer : PeerPair) → AreLawful net → IsHonest net
-    → StandsAt net addr socket → IsStream socket.history → own_peer socket.history ≡ Some peer
-    → StandsAt net peer.addr other → other.own ≡ peer.id
-    → AreInStep socket.history other.history
+  -- Emitted blocks: what a stream socket sends are the blocks of what it accepted, each under its own number
+  abbrev pub EmittedBlocks : Type 0
+  EmittedBlocks = (socket : Enrolled C) → IsSocket w socket → IsStream socket.history → HasBlocks socket.history
 
--- a datagram has the bytes of one that the socket emitted
-abbrev pub WasSentBy : Enrolled → Datagram → Type 0
-WasSentBy sender datagram = (sent_one : Datagram) × Contains (sent sender.history) sent_one × (sent_one.bytes ≡ datagram.bytes)
+  -- All named: of a legal history all datagrams that it sent are emitted ones with the offsets that they name, in order
+  abbrev pub AllNamed : Type 0
+  AllNamed = (h : History C) → IsLegal w h → map (λ (emission : Emission). emission.datagram) (emitted w h) ≡ sent h
 
--- each datagram that came from this address for the receiver has the bytes of one that the sender emitted
-abbrev pub ComesFrom : Enrolled → Addr → Enrolled → Type 0
-ComesFrom receiver from sender =
-    (datagram : Datagram) → Contains (arrivals receiver.history) datagram → datagram.addr ≡ from
-    → target datagram.bytes ≡ Some receiver.own
-    → WasSentBy sender datagram
+  -- Addressed: what a socket emits that isn't a handshake goes to its own peer
+  abbrev pub Addressed : Type 0
+  Addressed =
+      (socket : Enrolled C) (emission : Emission) (packet : Packet) → IsSocket w socket
+      → Contains (emitted w socket.history) emission → read emission.datagram.bytes ≡ Ok packet → is_handshake packet ≡ false
+      → own_peer w socket.history ≡ Some (record { addr = emission.datagram.addr; id = destination packet })
 
--- Pair prefix: its first half for two sockets that were made as a pair, where the one emitted fewer than 2^30 datagrams
--- and the other got no others from there
-abbrev pub PairPrefix : Type 0
-PairPrefix =
-    (addr peer_addr : Addr) (receiver sender : Enrolled) → IsSocket receiver → IsSocket sender
-    → ArePaired addr receiver.own receiver.way peer_addr sender.own sender.way → IsStream receiver.history
-    → ComesFrom receiver peer_addr sender → length (sent sender.history) < 2 ^ 30
-    → IsPrefix (delivered receiver.history) (accepted sender.history)
+  -- what is promised of a socket's history and that of its own peer: what the one delivered is a prefix of what the other
+  -- accepted, and no more blocks of the one are acknowledged than have arrived at the other
+  pub record AreInStep (own other : History C) : Type 0 where
+    pub prefix : IsPrefix (delivered own) (accepted other)
+    pub acknowledged : acked w own ≤ arrived w other
 
--- Pair arrived: its second half for two such sockets, where the one emitted fewer than 2^30 datagrams itself
-abbrev pub PairArrived : Type 0
-PairArrived =
-    (addr peer_addr : Addr) (socket other : Enrolled) → IsSocket socket → IsSocket other
-    → ArePaired addr socket.own socket.way peer_addr other.own other.way → IsStream socket.history
-    → ComesFrom socket peer_addr other → length (sent socket.history) < 2 ^ 30
-    → acked socket.history ≤ arrived other.history
+  -- Prefix: where records are lawful and honest, this holds of each stream socket and its own peer
+  abbrev pub Prefix : Type 0
+  Prefix =
+      (net : List (EndpointRecord C)) (addr : Addr) (socket other : Enrolled C) (peer : PeerPair)
+      → AreLawful w net → IsHonest w net
+      → StandsAt net addr socket → IsStream socket.history → own_peer w socket.history ≡ Some peer
+      → StandsAt net peer.addr other → other.own ≡ peer.id
+      → AreInStep socket.history other.history
 
--- each datagram that came at all came from this address, and has the bytes of one that the sender emitted
-abbrev pub AllComesFrom : Enrolled → Addr → Enrolled → Type 0
-AllComesFrom receiver from sender =
-    (datagram : Datagram) → Contains (arrivals receiver.history) datagram → (datagram.addr ≡ from) × WasSentBy sender datagram
+  -- Pair prefix: its first half for two sockets that were made as a pair, where the one emitted fewer than 2^30 datagrams
+  -- and the other got no others from there
+  abbrev pub PairPrefix : Type 0
+  PairPrefix =
+      (addr peer_addr : Addr) (receiver sender : Enrolled C) → IsSocket w receiver → IsSocket w sender
+      → ArePaired addr receiver.own receiver.way peer_addr sender.own sender.way → IsStream receiver.history
+      → ComesFrom receiver peer_addr sender → length (sent sender.history) < 2 ^ 30
+      → IsPrefix (delivered receiver.history) (accepted sender.history)
 
--- the records of two endpoints with one socket each
-abbrev pub both_records : Addr → Enrolled → Addr → Enrolled → List EndpointRecord
-both_records addr socket other_addr other =
-    record { addr = addr; sockets = socket ∷ [] } ∷ record { addr = other_addr; sockets = other ∷ [] } ∷ []
+  -- Pair arrived: its second half for two such sockets, where the one emitted fewer than 2^30 datagrams itself
+  abbrev pub PairArrived : Type 0
+  PairArrived =
+      (addr peer_addr : Addr) (socket other : Enrolled C) → IsSocket w socket → IsSocket w other
+      → ArePaired addr socket.own socket.way peer_addr other.own other.way → IsStream socket.history
+      → ComesFrom socket peer_addr other → length (sent socket.history) < 2 ^ 30
+      → acked w socket.history ≤ arrived w other.history
 
--- Pair honest: the records of two sockets that were made as a pair, of which each got from the other alone, and that
--- emitted fewer than 2^30 datagrams each, are lawful and honest
-abbrev pub PairHonest : Type 0
-PairHonest =
-    (addr other_addr : Addr) (socket other : Enrolled) → (addr ≡ other_addr → ⊥) → IsSocket socket → IsSocket other
-    → ArePaired addr socket.own socket.way other_addr other.own other.way
-    → AllComesFrom socket other_addr other → AllComesFrom other addr socket
-    → length (sent socket.history) < 2 ^ 30 → length (sent other.history) < 2 ^ 30
-    → AreLawful (both_records addr socket other_addr other) × IsHonest (both_records addr socket other_addr other)
+  -- Pair honest: the records of two sockets that were made as a pair, of which each got from the other alone, and that
+  -- emitted fewer than 2^30 datagrams each, are lawful and honest
+  abbrev pub PairHonest : Type 0
+  PairHonest =
+      (addr other_addr : Addr) (socket other : Enrolled C) → (addr ≡ other_addr → ⊥) → IsSocket w socket → IsSocket w other
+      → ArePaired addr socket.own socket.way other_addr other.own other.way
+      → AllComesFrom socket other_addr other → AllComesFrom other addr socket
+      → length (sent socket.history) < 2 ^ 30 → length (sent other.history) < 2 ^ 30
+      → AreLawful w (both_records addr socket other_addr other) × IsHonest w (both_records addr socket other_addr other)
 
--- Script prefix: whatever the lines of a script deliver, lose, repeat and reorder, the same holds of each socket of it and
--- its own peer, where no line gives bytes of its own
-abbrev pub ScriptPrefix : Type 0
-ScriptPrefix =
-    (lines : List (List ℕ)) (place peer_place : ℕ) (script_socket peer : ScriptSocket) → length lines < 2 ^ 30 → AreEmitted lines
-    → slice_get (network_after lines).sockets place ≡ Some script_socket
-    → slice_get (network_after lines).sockets peer_place ≡ Some peer
-    → own_peer script_socket.history ≡ Some (record { addr = peer.host; id = peer_place + 1 })
-    → AreInStep script_socket.history peer.history
+  -- Script prefix: whatever the lines of a script deliver, lose, repeat and reorder, the same holds of each socket of it and
+  -- its own peer, where no line gives bytes of its own
+  abbrev pub ScriptPrefix : Type 0
+  ScriptPrefix =
+      (lines : List (List ℕ)) (place peer_place : ℕ) (script_socket peer : ScriptSocket C)
+      → length lines < 2 ^ 30 → AreEmitted lines
+      → slice_get (network_after w lines).sockets place ≡ Some script_socket
+      → slice_get (network_after w lines).sockets peer_place ≡ Some peer
+      → own_peer w script_socket.history ≡ Some (record { addr = peer.host; id = peer_place + 1 })
+      → AreInStep script_socket.history peer.history

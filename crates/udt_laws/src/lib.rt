@@ -4,55 +4,57 @@
 ghost use Rattle.udt_laws.specs.Laws.{OneHistory, EmittedBlocks, AllNamed, Addressed};
 ghost use Rattle.udt_laws.specs.Laws.{Prefix, PairPrefix, PairArrived, PairHonest, ScriptPrefix};
 
+use udt_rate::Control;
+
 /// Whatever arrives, a stream socket delivers a front of the payloads that came from its peer's
 /// address, each under the sequence number of its place.
-pub fn one_history()
-    ensures { OneHistory }
+pub fn one_history<C: Control>()
+    ensures { OneHistory C.ways }
 {}
 
 /// What a stream socket sends are the blocks of the bytes that it accepted, each under the wire
 /// number of its offset.
-pub fn emitted_blocks()
-    ensures { EmittedBlocks }
+pub fn emitted_blocks<C: Control>()
+    ensures { EmittedBlocks C.ways }
 {}
 
 /// Each datagram that a history sent stands among the emitted ones, in order.
-pub fn all_named()
-    ensures { AllNamed }
+pub fn all_named<C: Control>()
+    ensures { AllNamed C.ways }
 {}
 
 /// What a socket emits once it has a peer goes to that peer.
-pub fn addressed()
-    ensures { Addressed }
+pub fn addressed<C: Control>()
+    ensures { Addressed C.ways }
 {}
 
 /// Where no datagram is forged and none outlives 2^30 packets, what a stream socket delivers is a
 /// prefix of what its own peer accepted, and no more of its blocks are acknowledged than have
 /// arrived there.
-pub fn prefix()
-    ensures { Prefix }
+pub fn prefix<C: Control>()
+    ensures { Prefix C.ways }
 {}
 
 /// The first for two sockets that were made as a pair, of which the sender emitted fewer than 2^30
 /// datagrams.
-pub fn pair_prefix()
-    ensures { PairPrefix }
+pub fn pair_prefix<C: Control>()
+    ensures { PairPrefix C.ways }
 {}
 
 /// The second for two such sockets, of which the one whose blocks are acknowledged emitted fewer
 /// than 2^30 datagrams.
-pub fn pair_arrived()
-    ensures { PairArrived }
+pub fn pair_arrived<C: Control>()
+    ensures { PairArrived C.ways }
 {}
 
 /// The records of two sockets that were made as a pair are lawful and honest, where each got from
 /// the other alone and both emitted fewer than 2^30 datagrams.
-pub fn pair_honest()
-    ensures { PairHonest }
+pub fn pair_honest<C: Control>()
+    ensures { PairHonest C.ways }
 {}
 
 /// Whatever the lines of a script deliver, both hold of each socket of it and its own peer, where no
 /// line gives bytes of its own.
-pub fn script_prefix()
-    ensures { ScriptPrefix }
+pub fn script_prefix<C: Control>()
+    ensures { ScriptPrefix C.ways }
 {}

@@ -1,147 +1,235 @@
--- What a socket emits: blocks, acknowledgements, keep-alives and a shutdown, each at a moment of its history.
-use Rattle.std.proofs.Common.{◌≡◌, ℕ, List, [], ◌∷◌, ◌++◌, refl, ap, sym, subst, inl, inr, arith}
-use Rattle.std.specs.List.{Contains}
+-- What a socket emits: blocks, ACKs, NAKs, ACK2s, keep-alives and a shutdown, each at a moment of its history.
+use Rattle.std.proofs.Common.{◌≡◌, ℕ, true, false, List, [], ◌∷◌, ◌++◌, Ok, refl, ap, sym, subst, inl, inr, arith}
+use Rattle.std.specs.Prelude.{Bool, Option, Some, None, Result, map}
+use Rattle.std.specs.List.{Contains, concat}
 use Rattle.std.proofs.lemmas.List.Elements.{Contains-append_cases, Contains-push_cases}
+use Rattle.udt_model.specs.declared.addresses.Addr.{Addr}
+use Rattle.udt_model.specs.declared.answers.Arrived.{Arrived}
 use Rattle.udt_model.specs.declared.answers.Phase.{Phase}
 use Rattle.udt_model.specs.declared.answers.Phase.TheVariants as phase
-use Rattle.udt_model.specs.Wire.{KeepAlive, Shutdown, read}
-use Rattle.udt_model.specs.State.{KeptBlock, State, Datagram}
-use Rattle.udt_model.specs.declared.sockets.SentAck.{SentAck}
-use Rattle.udt_model.specs.Sending.{Packing, Waits, Retransmits, Sends, Idles, packing}
-use Rattle.udt_model.specs.Receiving.{AckOutcome, IsEarly, IsKnown, EmitsAck, ack_outcome}
+use Rattle.udt_model.specs.declared.packets.AckBody.{AckBody}
+use Rattle.udt_model.specs.declared.packets.AckBody.TheVariants.{Light, Buffer, Full}
+use Rattle.udt_model.specs.declared.packets.Flags.{Flags}
+use Rattle.udt_model.specs.declared.packets.Malformed.{Malformed}
 use Rattle.udt_model.specs.declared.sockets.ExpOutcome.{ExpOutcome}
 use Rattle.udt_model.specs.declared.sockets.ExpOutcome.TheVariants as exp
+use Rattle.udt_model.specs.declared.sockets.SentAck.{SentAck}
+use Rattle.udt_model.specs.Arrivals.{heard_now, heard_of, emitted_by_gap, emitted_by_light, emitted_by_ack2, on_read}
+use Rattle.udt_model.specs.Calls.{stamp_of, emission as emits, block_emission, send_in, recv_in, packed_so, pack_in, emitted_by_packing}
+use Rattle.udt_model.specs.Emissions.{emitted_by}
+use Rattle.udt_model.specs.Events.{Act, Send, Recv, Pack, Tick, Close, Measure, Arrive, Event, Reply, DidHear, Outcome, at_moment}
+use Rattle.udt_model.specs.History.{Item, after_items}
+use Rattle.udt_model.specs.Losses.{LostRange}
+use Rattle.udt_model.specs.Rate.{Ways}
+use Rattle.udt_model.specs.ReceiveHalf.{block_answer, after_block}
+use Rattle.udt_model.specs.ReceiveReports.{AckOutcome, IsEarly, IsKnown, EmitsAck, ack_outcome, full_ack, light_ack, ack_offset, nak_report}
+use Rattle.udt_model.specs.SendBlocks.{KeptBlock}
+use Rattle.udt_model.specs.SendHalf.{Packing, Waits, Retransmits, Sends, Idles, packing}
+use Rattle.udt_model.specs.State.{State, Datagram, Emission}
 use Rattle.udt_model.specs.Step.{on_act, step}
-use Rattle.udt_model.specs.Events.{Act, Send, Recv, Pack, Tick, Close, Arrive, Event, at_moment}
-use Rattle.udt_model.specs.Ticks.{exp_outcome, round_trip, ack_emitted, keep_alives, ack_packet, tick_in}
-use Rattle.udt_model.specs.Calls.{stamp_of, to_peer, block_datagram, send_in, recv_in, packed_as, pack_in}
-use Rattle.udt_model.specs.Arrivals.{on_read}
-use Rattle.udt_model.specs.History.{Item, after_items, AreLegal}
-use Rattle.udt_model.specs.Emissions.{Emission, named_by_packing, named_by_pack, named_by_ack, named_by_exp, named_by_tick, named_by_act, named, with_offsets, emitted_by}
+use Rattle.udt_model.specs.Ticks.{emitted_by_ack, numbers_of, ends_of, nak_of, emitted_by_reports, exp_outcome, emitted_by_exp, tick_in}
+use Rattle.udt_model.specs.Wire.{Packet, Block, KeepAlive, Ack, Nak, Shutdown, Ack2, read}
+use Rattle.udt_model.proofs.ArrivalLemmas.{arrival-shows}
 
--- what a socket in this state emits: a new block, a lost one again, an acknowledgement, a keep-alive, or the end
-pub data Emitting (s : State) (emission : Emission) : Type 0 where
-  NewBlock : (block : KeptBlock) → s.phase ≡ phase.Connected → packing s.sending s.last ≡ Sends block
-      → emission ≡ record { datagram = block_datagram s s.sending.next block; offsets = s.sending.next ∷ [] } → Emitting s emission
-  LostBlock : (offset : ℕ) → (block : KeptBlock) → s.phase ≡ phase.Connected → packing s.sending s.last ≡ Retransmits offset block
-      → emission ≡ record { datagram = block_datagram s offset block; offsets = offset ∷ [] } → Emitting s emission
-  Acknowledgement : (ack : SentAck) → s.phase ≡ phase.Connected → ack_outcome s.receiving s.last round_trip.rtt ≡ EmitsAck ack
-      → emission ≡ record { datagram = to_peer s (ack_packet s ack); offsets = ack.offset ∷ [] } → Emitting s emission
-  SendsKeepAlive : s.phase ≡ phase.Connected → emission ≡ record { datagram = to_peer s (KeepAlive (stamp_of s) s.peer.id); offsets = [] }
-      → Emitting s emission
-  TheEnd : s.phase ≡ phase.Closing → emission ≡ record { datagram = to_peer s (Shutdown (stamp_of s) s.peer.id); offsets = [] }
-      → Emitting s emission
+module _ {C : Type 0} (w : Ways C) where
+  -- what a socket in this state emits: a new block, a lost one again, a full or a light ACK, a NAK of what is due or of a gap, an
+  -- ACK2, a keep-alive, or the end
+  pub data Emitting (s : State C) (act : Act) (reply : Reply) (emission : Emission) : Type 0 where
+    NewBlock : (block : KeptBlock) → s.phase ≡ phase.Connected → packing w s.sending s.last ≡ Sends block
+        → emission ≡ block_emission s s.sending.next block → Emitting s act reply emission
+    LostBlock : (offset : ℕ) → (block : KeptBlock) → s.phase ≡ phase.Connected → packing w s.sending s.last ≡ Retransmits offset block
+        → emission ≡ block_emission s offset block → Emitting s act reply emission
+    FullAck : (ack : SentAck) → s.phase ≡ phase.Connected → ack_outcome s.receiving s.last s.rtt ≡ EmitsAck ack
+        → emission ≡ emits s (Ack ack.number (stamp_of s) s.peer.id (full_ack s.receiving s.rtt ack.offset)) (ack.offset ∷ [])
+        → Emitting s act reply emission
+    LightAck : (from : Addr) → (raw : List ℕ) → (number : ℕ) → (flags : Flags) → (stamp : ℕ) → (bytes : List ℕ)
+        → s.phase ≡ phase.Connected → act ≡ Arrive from raw → read raw ≡ Ok (Block number flags stamp s.own bytes)
+        → from ≡ s.peer.addr → reply ≡ DidHear (heard_of (block_answer s.receiving number).placed)
+        → emission ≡ emits s
+        (Ack 0 (stamp_of s) s.peer.id (light_ack (after_block s.receiving s.last number flags bytes)))
+        (ack_offset (after_block s.receiving s.last number flags bytes) ∷ [])
+        → Emitting s act reply emission
+    Reports : (range : LostRange) → (ranges : List LostRange) → s.phase ≡ phase.Connected
+        → nak_report s.receiving s.last s.rtt ≡ range ∷ ranges
+        → emission ≡ emits s
+        (Nak (stamp_of s) s.peer.id (map (numbers_of s) (range ∷ ranges)))
+        (concat (map ends_of (range ∷ ranges)))
+        → Emitting s act reply emission
+    ReportsGap : (from : Addr) → (raw : List ℕ) → (number : ℕ) → (flags : Flags) → (stamp : ℕ) → (bytes : List ℕ) → (ends : ℕ × ℕ)
+        → s.phase ≡ phase.Connected → act ≡ Arrive from raw → read raw ≡ Ok (Block number flags stamp s.own bytes)
+        → from ≡ s.peer.addr → (block_answer s.receiving number).gap ≡ Some ends
+        → emission ≡ emits s
+        (Nak (stamp_of s) s.peer.id
+        (numbers_of (record s { receiving = after_block s.receiving s.last number flags bytes }) (record { first = ends.0; last = ends.1 }) ∷ []))
+        (ends.0 ∷ ends.1 ∷ [])
+        → Emitting s act reply emission
+    AnswersAck : (number : ℕ) → s.phase ≡ phase.Connected → emission ≡ emits s (Ack2 number (stamp_of s) s.peer.id) []
+        → Emitting s act reply emission
+    SendsKeepAlive : s.phase ≡ phase.Connected → emission ≡ emits s (KeepAlive (stamp_of s) s.peer.id) [] → Emitting s act reply emission
+    TheEnd : s.phase ≡ phase.Closing → emission ≡ emits s (Shutdown (stamp_of s) s.peer.id) [] → Emitting s act reply emission
 
--- each of these emissions is one of those
-AllEmitting : State → List Emission → Type 0
-AllEmitting s emissions = (emission : Emission) → Contains emissions emission → Emitting s emission
+  -- each of these emissions is one of those
+  AllEmitting : State C → Act → Reply → List Emission → Type 0
+  AllEmitting s act reply emissions = (emission : Emission) → Contains emissions emission → Emitting s act reply emission
 
-none-emitting : (s : State) (emissions : List Emission) → emissions ≡ [] → AllEmitting s emissions
-unfolding AllEmitting
-none-emitting s emissions none emission among =
-    let there = subst (λ (l : List Emission). Contains l emission) none among in
-    absurd (omega (arith, there.1))
+  module _ (s : State C) (act : Act) (reply : Reply) where
+    none-emitting : AllEmitting s act reply []
+    unfolding AllEmitting
+    none-emitting emission among = absurd (omega (arith, among.1))
 
-one-emitting : (s : State) (first : Emission) → ((emission : Emission) → emission ≡ first → Emitting s emission) → AllEmitting s (first ∷ [])
-unfolding AllEmitting
-one-emitting s first is emission among = elim (Contains-push_cases [] first emission among) [
-  | inl none ↦ absurd (omega (arith, none.1))
-  | inr same ↦ is emission (sym same)
-]
-
-both-emitting : (s : State) (first second : List Emission) → AllEmitting s first → AllEmitting s second → AllEmitting s (first ++ second)
-unfolding AllEmitting
-both-emitting s first second one two emission among = elim (Contains-append_cases first second emission among) [
-  | inl here ↦ one emission here
-  | inr there ↦ two emission there
-]
-
-packed-emitting : (s : State) (p : Packing) → s.phase ≡ phase.Connected → packing s.sending s.last ≡ p
-    → AllEmitting s (with_offsets (packed_as s p).outs (named_by_packing s p))
-packed-emitting s (Waits until) connected is = none-emitting s [] refl
-packed-emitting s (Retransmits offset block) connected is = one-emitting s _ (λ emission same. LostBlock offset block connected is same)
-packed-emitting s (Sends block) connected is = one-emitting s _ (λ emission same. NewBlock block connected is same)
-packed-emitting s Idles connected is = none-emitting s [] refl
-
-pack-emitting : (s : State) (phase : Phase) → s.phase ≡ phase → AllEmitting s (with_offsets (pack_in s phase).outs (named_by_pack s phase))
-pack-emitting s phase.Connected is = packed-emitting s (packing s.sending s.last) is refl
-pack-emitting s (phase.Broken why) is = none-emitting s [] refl
-pack-emitting s phase.Closing is = none-emitting s [] refl
-pack-emitting s phase.Closed is = none-emitting s [] refl
-
-keep_alives-emitting : (s : State) (what : ExpOutcome) → s.phase ≡ phase.Connected → AllEmitting s (with_offsets (keep_alives s what) (named_by_exp what))
-keep_alives-emitting s exp.NotDue connected = none-emitting s [] refl
-keep_alives-emitting s exp.Breaks connected = none-emitting s [] refl
-keep_alives-emitting s exp.LosesAll connected = none-emitting s [] refl
-keep_alives-emitting s exp.KeepsAlive connected = one-emitting s _ (λ emission same. SendsKeepAlive connected same)
-
-ack_emitted-emitting : (s : State) (t : AckOutcome) (what : ExpOutcome) → s.phase ≡ phase.Connected → ack_outcome s.receiving s.last round_trip.rtt ≡ t
-    → AllEmitting s (with_offsets (ack_emitted s t ++ keep_alives s what) (named_by_ack t ++ named_by_exp what))
-ack_emitted-emitting s IsEarly what connected is = keep_alives-emitting s what connected
-ack_emitted-emitting s IsKnown what connected is = keep_alives-emitting s what connected
-ack_emitted-emitting s (EmitsAck ack) what connected is =
-    both-emitting s (record { datagram = to_peer s (ack_packet s ack); offsets = ack.offset ∷ [] } ∷ []) _
-    (one-emitting s _ (λ emission same. Acknowledgement ack connected is same)) (keep_alives-emitting s what connected)
-
-tick-emitting : (s : State) (phase : Phase) → s.phase ≡ phase → AllEmitting s (with_offsets (tick_in s phase).outs (named_by_tick s phase))
-tick-emitting s phase.Connected is = ack_emitted-emitting s (ack_outcome s.receiving s.last round_trip.rtt) (exp_outcome s) is refl
-tick-emitting s (phase.Broken why) is = none-emitting s [] refl
-tick-emitting s phase.Closing is = one-emitting s _ (λ emission same. TheEnd is same)
-tick-emitting s phase.Closed is = none-emitting s [] refl
-
-with_none : (outs : List Datagram) → with_offsets outs [] ≡ []
-with_none [] = refl
-with_none (first ∷ others) = refl
-
-act-emitting : (s : State) (act : Act) → AllEmitting s (with_offsets (on_act s act).outs (named_by_act s act))
-act-emitting s (Send bytes) = none-emitting s _ (with_none (send_in s bytes s.phase).outs)
-act-emitting s (Recv room) = none-emitting s _ (with_none (recv_in s room s.phase).outs)
-act-emitting s Pack = pack-emitting s s.phase refl
-act-emitting s Tick = tick-emitting s s.phase refl
-act-emitting s Close = none-emitting s [] refl
-act-emitting s (Arrive from bytes) = none-emitting s _ (with_none (on_read s from (read bytes)).outs)
-
--- what an event emits, the socket emits in the state at its moment
-pub step-emitting : (s : State) (event : Event) (emission : Emission) → Contains (with_offsets (step s event).outs (named s event)) emission
-    → Emitting (at_moment s event.now) emission
-unfolding step named AllEmitting
-step-emitting s event emission among = act-emitting (at_moment s event.now) event.act emission among
-
--- ---- histories
-
--- the item of these with which this was emitted, and those before and after it
-pub record IsEmittedAt (s : State) (items : List Item) (emission : Emission) : Type 0 where
-  pub front : List Item
-  pub item : Item
-  pub rest : List Item
-  pub joined : items ≡ front ++ item ∷ rest
-  pub among : Contains (with_offsets item.outs (named (after_items s front) item.event)) emission
-  pub emitting : Emitting (at_moment (after_items s front) item.event.now) emission
-
--- each emission of legal items was emitted with one of them
-pub emitted-at : (s : State) (items : List Item) (emission : Emission) → AreLegal s items → Contains (emitted_by s items) emission
-    → IsEmittedAt s items emission
-unfolding after_items AreLegal emitted_by
-emitted-at s [] emission legal among = absurd (omega (arith, among.1))
-emitted-at s (item ∷ items) emission legal among =
-    elim (Contains-append_cases (with_offsets item.outs (named s item.event)) _ emission among) [
-      | inl here ↦ record {
-        front = [];
-        item = item;
-        rest = items;
-        joined = refl;
-        among = here;
-        emitting = step-emitting s item.event emission
-            (subst (λ (outs : List Datagram). Contains (with_offsets outs (named s item.event)) emission) legal.1 here);
-      }
-      | inr there ↦
-          let found = emitted-at (step s item.event).after items emission legal.2 there in
-          record {
-            front = item ∷ found.front;
-            item = found.item;
-            rest = found.rest;
-            joined = ap (λ (others : List Item). item ∷ others) found.joined;
-            among = found.among;
-            emitting = found.emitting;
-          }
+    one-emitting : (first : Emission) → ((emission : Emission) → emission ≡ first → Emitting s act reply emission) → AllEmitting s act reply (first ∷ [])
+    unfolding AllEmitting
+    one-emitting first is emission among = elim (Contains-push_cases [] first emission among) [
+      | inl none ↦ absurd (omega (arith, none.1))
+      | inr same ↦ is emission (sym same)
     ]
+
+    both-emitting : (first second : List Emission) → AllEmitting s act reply first → AllEmitting s act reply second → AllEmitting s act reply (first ++ second)
+    unfolding AllEmitting
+    both-emitting first second one two emission among = elim (Contains-append_cases first second emission among) [
+      | inl here ↦ one emission here
+      | inr there ↦ two emission there
+    ]
+
+    packed-emitting : (p : Packing) → s.phase ≡ phase.Connected → packing w s.sending s.last ≡ p → AllEmitting s act reply (emitted_by_packing w s p)
+    packed-emitting (Waits until) connected is = none-emitting
+    packed-emitting (Retransmits offset block) connected is = one-emitting _ (λ emission same. LostBlock offset block connected is same)
+    packed-emitting (Sends block) connected is = one-emitting _ (λ emission same. NewBlock block connected is same)
+    packed-emitting Idles connected is = none-emitting
+
+    pack-emitting : (phase : Phase) → s.phase ≡ phase → AllEmitting s act reply (pack_in w s phase).emissions
+    pack-emitting phase.Connected is = packed-emitting (packing w s.sending s.last) is refl
+    pack-emitting (phase.Broken why) is = none-emitting
+    pack-emitting phase.Closing is = none-emitting
+    pack-emitting phase.Closed is = none-emitting
+
+    exp-emitting : (what : ExpOutcome) → s.phase ≡ phase.Connected → AllEmitting s act reply (emitted_by_exp s what)
+    exp-emitting exp.NotDue connected = none-emitting
+    exp-emitting exp.Breaks connected = none-emitting
+    exp-emitting exp.LosesAll connected = none-emitting
+    exp-emitting exp.KeepsAlive connected = one-emitting _ (λ emission same. SendsKeepAlive connected same)
+
+    ack-emitting : (t : AckOutcome) → s.phase ≡ phase.Connected → ack_outcome s.receiving s.last s.rtt ≡ t → AllEmitting s act reply (emitted_by_ack s t)
+    ack-emitting IsEarly connected is = none-emitting
+    ack-emitting IsKnown connected is = none-emitting
+    ack-emitting (EmitsAck ack) connected is = one-emitting _ (λ emission same. FullAck ack connected is same)
+
+    nak-emitting : (ranges : List LostRange) → s.phase ≡ phase.Connected → nak_report s.receiving s.last s.rtt ≡ ranges
+        → AllEmitting s act reply (nak_of s ranges)
+    nak-emitting [] connected is = none-emitting
+    nak-emitting (range ∷ ranges) connected is = one-emitting _ (λ emission same. Reports range ranges connected is same)
+
+    tick-emitting : (phase : Phase) → s.phase ≡ phase → AllEmitting s act reply (tick_in w s phase).emissions
+    tick-emitting phase.Connected is =
+        both-emitting (emitted_by_reports s) (emitted_by_exp s (exp_outcome s))
+        (both-emitting (emitted_by_ack s (ack_outcome s.receiving s.last s.rtt)) (nak_of s (nak_report s.receiving s.last s.rtt))
+        (ack-emitting (ack_outcome s.receiving s.last s.rtt) is refl) (nak-emitting (nak_report s.receiving s.last s.rtt) is refl))
+        (exp-emitting (exp_outcome s) is)
+    tick-emitting (phase.Broken why) is = none-emitting
+    tick-emitting phase.Closing is = one-emitting _ (λ emission same. TheEnd is same)
+    tick-emitting phase.Closed is = none-emitting
+
+    send-emitting : (bytes : List ℕ) (phase : Phase) → AllEmitting s act reply (send_in s bytes phase).emissions
+    send-emitting bytes phase.Connected = none-emitting
+    send-emitting bytes (phase.Broken why) = none-emitting
+    send-emitting bytes phase.Closing = none-emitting
+    send-emitting bytes phase.Closed = none-emitting
+
+    recv-emitting : (room : ℕ) (phase : Phase) → AllEmitting s act reply (recv_in s room phase).emissions
+    recv-emitting room phase.Connected = none-emitting
+    recv-emitting room (phase.Broken why) = none-emitting
+    recv-emitting room phase.Closing = none-emitting
+    recv-emitting room phase.Closed = none-emitting
+
+    ack2-emitting : (number : ℕ) (body : AckBody) → s.phase ≡ phase.Connected → AllEmitting s act reply (emitted_by_ack2 (heard_now s) number body)
+    ack2-emitting number (Light ack) connected = none-emitting
+    ack2-emitting number (Buffer ack rtt var buffer) connected = one-emitting _ (λ emission same. AnswersAck number connected same)
+    ack2-emitting number (Full ack rtt var buffer rate capacity) connected =
+        one-emitting _ (λ emission same. AnswersAck number connected same)
+
+  module _ (s : State C) (from : Addr) (raw : List ℕ) where
+    gap-emitting : (number : ℕ) (flags : Flags) (stamp : ℕ) (bytes : List ℕ) (reply : Reply) (gap : Option (ℕ × ℕ)) → s.phase ≡ phase.Connected
+        → read raw ≡ Ok (Block number flags stamp s.own bytes) → from ≡ s.peer.addr → (block_answer s.receiving number).gap ≡ gap
+        → AllEmitting s (Arrive from raw) reply
+        (emitted_by_gap (record (heard_now s) { receiving = after_block s.receiving s.last number flags bytes }) gap)
+    gap-emitting number flags stamp bytes reply None connected carries sender is = none-emitting s (Arrive from raw) reply
+    gap-emitting number flags stamp bytes reply (Some ends) connected carries sender is =
+        one-emitting s (Arrive from raw) reply _ (λ emission same.
+        ReportsGap from raw number flags stamp bytes ends connected refl carries sender is same)
+
+    light-emitting : (number : ℕ) (flags : Flags) (stamp : ℕ) (bytes : List ℕ) (reply : Reply) (light : Bool) → s.phase ≡ phase.Connected
+        → read raw ≡ Ok (Block number flags stamp s.own bytes) → from ≡ s.peer.addr
+        → reply ≡ DidHear (heard_of (block_answer s.receiving number).placed)
+        → AllEmitting s (Arrive from raw) reply
+        (emitted_by_light (record (heard_now s) { receiving = after_block s.receiving s.last number flags bytes }) light)
+    light-emitting number flags stamp bytes reply false connected carries sender is = none-emitting s (Arrive from raw) reply
+    light-emitting number flags stamp bytes reply true connected carries sender is =
+        one-emitting s (Arrive from raw) reply _ (λ emission same. LightAck from raw number flags stamp bytes connected refl carries sender is same)
+
+    read-emitting : AllEmitting s (Arrive from raw) (on_read w s from (read raw)).reply (on_read w s from (read raw)).emissions
+    read-emitting = arrival-shows w s from (λ outcome. AllEmitting s (Arrive from raw) outcome.reply outcome.emissions) (read raw) (record {
+      passed = λ counters answer differs. none-emitting s (Arrive from raw) _;
+      noticed = λ counters answer differs connected. none-emitting s (Arrive from raw) _;
+      brought = λ number flags stamp bytes connected sender is.
+          both-emitting s (Arrive from raw) _ _ _
+          (gap-emitting number flags stamp bytes _ (block_answer s.receiving number).gap connected is sender refl)
+          (light-emitting number flags stamp bytes _ (block_answer s.receiving number).light connected is sender refl);
+      acknowledged = λ number stamp body offset connected sender is acks. ack2-emitting s (Arrive from raw) _ number body connected;
+      reported = λ stamp ranges connected sender is. none-emitting s (Arrive from raw) _;
+      confirmed = λ number ack connected found. none-emitting s (Arrive from raw) _;
+      ended = λ connected. none-emitting s (Arrive from raw) _;
+    })
+
+  act-emitting : (s : State C) (act : Act) → AllEmitting s act (on_act w s act).reply (on_act w s act).emissions
+  act-emitting s (Send bytes) = send-emitting s (Send bytes) _ bytes s.phase
+  act-emitting s (Recv room) = recv-emitting s (Recv room) _ room s.phase
+  act-emitting s Pack = pack-emitting s Pack _ s.phase refl
+  act-emitting s Tick = tick-emitting s Tick _ s.phase refl
+  act-emitting s Close = none-emitting s Close _
+  act-emitting s Measure = none-emitting s Measure _
+  act-emitting s (Arrive from bytes) = read-emitting s from bytes
+
+  -- what an event emits, the socket emits in the state at its moment
+  pub step-emitting : (s : State C) (event : Event) (emission : Emission) → Contains (step w s event).emissions emission
+      → Emitting (at_moment s event.now) event.act (step w s event).reply emission
+  unfolding step AllEmitting
+  step-emitting s event emission among = act-emitting (at_moment s event.now) event.act emission among
+
+  -- ---- histories
+
+  -- the item of these with which this was emitted, and those before and after it
+  pub record IsEmittedAt (s : State C) (items : List Item) (emission : Emission) : Type 0 where
+    pub front : List Item
+    pub item : Item
+    pub rest : List Item
+    pub joined : items ≡ front ++ item ∷ rest
+    pub among : Contains (step w (after_items w s front) item.event).emissions emission
+    pub emitting : Emitting (at_moment (after_items w s front) item.event.now) item.event.act
+        (step w (after_items w s front) item.event).reply emission
+
+  -- each emission of items was emitted with one of them
+  pub emitted-at : (s : State C) (items : List Item) (emission : Emission) → Contains (emitted_by w s items) emission
+      → IsEmittedAt s items emission
+  unfolding after_items emitted_by
+  emitted-at s [] emission among = absurd (omega (arith, among.1))
+  emitted-at s (item ∷ items) emission among =
+      elim (Contains-append_cases (step w s item.event).emissions _ emission among) [
+        | inl here ↦ record {
+          front = [];
+          item = item;
+          rest = items;
+          joined = refl;
+          among = here;
+          emitting = step-emitting s item.event emission here;
+        }
+        | inr there ↦
+            let found = emitted-at (step w s item.event).after items emission there in
+            record {
+              front = item ∷ found.front;
+              item = found.item;
+              rest = found.rest;
+              joined = ap (λ (others : List Item). item ∷ others) found.joined;
+              among = found.among;
+              emitting = found.emitting;
+            }
+      ]

@@ -1,8 +1,8 @@
 -- Rising offsets between two bounds, and what lists of lost packets make of them.
-use Rattle.std.proofs.Common.{◌≡◌, ℕ, zero, suc, ◌+◌, ◌-◌, ◌<◌, ◌≤◌, true, false, List, [], ◌∷◌, drop, refl, sym, subst, arith}
+use Rattle.std.proofs.Common.{◌≡◌, ℕ, zero, suc, ◌+◌, ◌-◌, ◌<◌, ◌≤◌, Bool, true, false, List, [], ◌∷◌, ◌++◌, drop, refl, sym, subst, arith}
 use Rattle.std.specs.Prelude.{nat_lt, nat_le, if◌then◌else◌}
 use Rattle.std.specs.List.{filter, range_with_len}
-use Rattle.std.proofs.lemmas.Bool.{leb-true, leb-false}
+use Rattle.std.proofs.lemmas.Bool.{leb-true, leb-false, ltb-true, ltb-false}
 use Rattle.std.proofs.lemmas.Bool.Decides.{nat_tests}
 use Rattle.std.proofs.lemmas.List.{append-nil}
 use Rattle.udt_model.specs.Losses.{offsets_between, with_range, from_offset}
@@ -81,3 +81,50 @@ pub with_range-within : (from last : ℕ) (offsets : List ℕ) → from ≤ last
 with_range-within from last offsets some within =
     subst (AreWithin from (last + 1)) (sym (with_range-covers from last offsets within))
     (AreWithin-range from (last + 1 - from) (last + 1) (omega arith))
+
+-- ---- a range among others
+
+-- those that follow on lie within both bounds together
+pub AreWithin-append : (from middle to : ℕ) (offsets more : List ℕ) → from ≤ middle → middle ≤ to → AreWithin from middle offsets
+    → AreWithin middle to more → AreWithin from to (offsets ++ more)
+AreWithin-append from middle to [] more low high front rest = AreWithin-wider middle to from to more low (omega arith) rest
+AreWithin-append from middle to (offset ∷ others) more low high front rest =
+    (front.0, omega (arith, front.1), AreWithin-append (offset + 1) middle to others more (omega (arith, front.1)) high front.2 rest)
+
+-- those that meet a test lie where all do
+filter-within : (test : ℕ → Bool) (from to : ℕ) (offsets : List ℕ) → AreWithin from to offsets → AreWithin from to (filter test offsets)
+filter-within test from to [] within = tt
+filter-within test from to (offset ∷ others) within =
+    let rest = filter-within test (offset + 1) to others within.2 in
+    elim (test offset) as (λ meets. AreWithin from to (if meets then offset ∷ filter test others else filter test others)) [
+      | true ↦ (within.0, within.1, rest)
+      | false ↦ AreWithin-wider (offset + 1) to from to _ (omega (arith, within.0)) (omega arith) rest
+    ]
+
+below-within : (bound from to : ℕ) (offsets : List ℕ) → AreWithin from to offsets → AreWithin from bound (filter (λ n. nat_lt n bound) offsets)
+below-within bound from to [] within = tt
+below-within bound from to (offset ∷ others) within =
+    let rest = below-within bound (offset + 1) to others within.2 in
+    elim (nat_lt offset bound) as (λ below. nat_lt offset bound ≡ below
+    → AreWithin from bound (if below then offset ∷ filter (λ n. nat_lt n bound) others else filter (λ n. nat_lt n bound) others)) [
+      | true ↦ λ is. (within.0, ltb-true offset bound is, rest)
+      | false ↦ λ is. AreWithin-wider (offset + 1) bound from bound _ (omega (arith, within.0)) (omega arith) rest
+    ] refl
+
+above-within : (bound from to : ℕ) (offsets : List ℕ) → AreWithin from to offsets → AreWithin (bound + 1) to (filter (λ n. nat_lt bound n) offsets)
+above-within bound from to [] within = tt
+above-within bound from to (offset ∷ others) within =
+    elim (nat_lt bound offset) as (λ above. nat_lt bound offset ≡ above
+    → AreWithin (bound + 1) to (if above then offset ∷ filter (λ n. nat_lt bound n) others else filter (λ n. nat_lt bound n) others)) [
+      | true ↦ λ is. (omega (arith, ltb-true bound offset is), within.1, filter-within (λ n. nat_lt bound n) (offset + 1) to others within.2)
+      | false ↦ λ is. above-within bound (offset + 1) to others within.2
+    ] refl
+
+-- the list with a range that lies within lies within
+pub with_range-among : (from to first last : ℕ) (offsets : List ℕ) → from ≤ first → first ≤ last → last < to → AreWithin from to offsets
+    → AreWithin from to (with_range first last offsets)
+unfolding with_range
+with_range-among from to first last offsets low some high within =
+    let range = AreWithin-range first (last + 1 - first) (last + 1) (omega arith) in
+    let front = AreWithin-append from first (last + 1) _ _ low (omega arith) (below-within first from to offsets within) range in
+    AreWithin-append from (last + 1) to _ _ (omega arith) (omega arith) front (above-within last from to offsets within)

@@ -2,24 +2,10 @@
 use Rattle.std.proofs.Common.{◌≡◌, ℕ, ◌<◌, ◌≤◌, Bool, true, false, refl}
 use Rattle.std.specs.Prelude.{nat_lt, if◌then◌else◌}
 use Rattle.std.proofs.lemmas.Bool.{ltb-true, ltb-false}
-use Rattle.udt_model.specs.State.{Receiving, State}
 use Rattle.udt_model.specs.declared.sockets.SentAck.{SentAck}
-use Rattle.udt_model.specs.Receiving.{ack_offset, number_after, IsEarly, IsKnown, EmitsAck, ack_outcome}
-use Rattle.udt_model.specs.declared.sockets.ExpOutcome.TheVariants as exp
-use Rattle.udt_model.specs.Ticks.{exp_outcome}
-
--- something is retransmitted only where it is in flight
-resends-in_flight : (s : State) (short given_up in_flight : Bool) → nat_lt s.sending.acked s.sending.next ≡ in_flight
-    → (if short then exp.NotDue else (if given_up then exp.Breaks else (if in_flight then exp.LosesAll else exp.KeepsAlive))) ≡ exp.LosesAll
-    → s.sending.acked < s.sending.next
-resends-in_flight s true given_up in_flight test is = absurd (cc)
-resends-in_flight s false true in_flight test is = absurd (cc)
-resends-in_flight s false false true test is = ltb-true s.sending.acked s.sending.next test
-resends-in_flight s false false false test is = absurd (cc)
-
-pub exp-resends : (s : State) → exp_outcome s ≡ exp.LosesAll → s.sending.acked < s.sending.next
-unfolding exp_outcome
-exp-resends s is = resends-in_flight s _ _ _ refl is
+use Rattle.udt_model.specs.ReceiveHalf.{Receiving}
+use Rattle.udt_model.specs.ReceiveReports.{ack_offset, number_after, IsEarly, IsKnown, EmitsAck, ack_outcome}
+use Rattle.udt_model.specs.Timing.{RoundTrip}
 
 -- what is emitted names the offset before which all has arrived, at that moment, with the next number
 pub record IsTold (r : Receiving) (now : ℕ) (ack : SentAck) : Type 0 where
@@ -40,6 +26,6 @@ tells-due r now false false ack test is = record {
   moment = cc;
 }
 
-pub ack_outcome-tells : (r : Receiving) (now rtt : ℕ) (ack : SentAck) → ack_outcome r now rtt ≡ EmitsAck ack → IsTold r now ack
+pub ack_outcome-tells : (r : Receiving) (now : ℕ) (known : RoundTrip) (ack : SentAck) → ack_outcome r now known ≡ EmitsAck ack → IsTold r now ack
 unfolding ack_outcome
-ack_outcome-tells r now rtt ack is = tells-due r now _ _ ack refl is
+ack_outcome-tells r now known ack is = tells-due r now _ _ ack refl is

@@ -331,3 +331,12 @@ target-read seq flags stamp dest bytes payload reads = target-of-read bytes (Blo
 -- a packet's spelling is for its destination
 pub target-spelling : (packet : Packet) → IsInRange packet → target (spelling packet) ≡ Some (destination packet)
 target-spelling packet fits = target-of-read (spelling packet) packet (read-spelling packet fits)
+
+-- a word has 32 bits
+pub word-mod : (n : ℕ) → word (n % 2 ^ 32) ≡ word n
+word-mod n =
+    let first : n % 2 ^ 32 / 2 ^ 24 % 2 ^ 8 ≡ n / 2 ^ 24 % 2 ^ 8 = omega arith in
+    let second : n % 2 ^ 32 / 2 ^ 16 % 2 ^ 8 ≡ n / 2 ^ 16 % 2 ^ 8 = omega arith in
+    let third : n % 2 ^ 32 / 2 ^ 8 % 2 ^ 8 ≡ n / 2 ^ 8 % 2 ^ 8 = omega arith in
+    let fourth : n % 2 ^ 32 % 2 ^ 8 ≡ n % 2 ^ 8 = omega arith in
+    grind (arith, first, second, third, fourth)

@@ -1,48 +1,41 @@
--- What the calls of a socket answer, leave and emit: send, receive, close and pack.
-use Rattle.std.specs.Prelude.{ℕ, ◌-◌, ◌%◌, ◌^◌, List, [], ◌∷◌, length, Result, Ok, Err}
+-- What the calls of a socket answer, leave and emit: send, receive, close, pack and perf.
+use Rattle.std.specs.Prelude.{ℕ, ◌-◌, ◌==◌, ◌%◌, ◌^◌, List, [], ◌∷◌, length, take, Result, Ok, Err, if◌then◌else◌}
 use Rattle.udt_model.specs.declared.answers.Cause.{Cause}
+use Rattle.udt_model.specs.declared.answers.Perf.{Perf}
 use Rattle.udt_model.specs.declared.answers.Phase.{Phase}
 use Rattle.udt_model.specs.declared.answers.Refusal.{Refusal}
+use Rattle.udt_model.specs.declared.answers.SendNo.{SendNo}
 use Rattle.udt_model.specs.declared.answers.Packed.TheVariants as packed
 use Rattle.udt_model.specs.declared.answers.Phase.TheVariants as phase
 use Rattle.udt_model.specs.declared.answers.Refusal.TheVariants as refusal
-use Rattle.udt_model.specs.Numbers.{sequence_number}
-use Rattle.udt_model.specs.Wire.{Packet, Block, spelling}
-use Rattle.udt_model.specs.State.{KeptBlock, State, Datagram}
+use Rattle.udt_model.specs.declared.answers.SendNo.TheVariants as no
 use Rattle.udt_model.specs.declared.sockets.Counters.{Counters}
-use Rattle.udt_model.specs.Sending.{send_answer, after_send, Packing, Waits, Retransmits, Sends, Idles, packing, after_pack, sending_closed}
-use Rattle.udt_model.specs.Receiving.{receive_answer, after_receive, receiving_closed}
-use Rattle.udt_model.specs.Events.{Sent, Received, DidPack, DidClose, Outcome, answered, risen}
+use Rattle.udt_model.specs.Rate.{Ways}
+use Rattle.udt_model.specs.ReceiveBlocks.{waiting_of}
+use Rattle.udt_model.specs.ReceiveHalf.{Receiving, after_receive}
+use Rattle.udt_model.specs.SendBlocks.{KeptBlock}
+use Rattle.udt_model.specs.SendHalf.{acked_of, send_answer, after_send, window_in, period_in, Packing, Waits, Retransmits, Sends, Idles, packing, packed_as, block_packet, after_packing}
+use Rattle.udt_model.specs.State.{State, Datagram, Emission}
+use Rattle.udt_model.specs.Events.{Sent, Received, DidPack, DidClose, DidMeasure, Outcome, answered, risen}
+use Rattle.udt_model.specs.Wire.{Packet, spelling}
 
--- ---- calls
+-- why a socket takes no bytes
+abbrev pub refusal_of : SendNo → Refusal
+refusal_of no.Again = refusal.AgainSend
+refusal_of no.Spent = refusal.Spent
+refusal_of no.TooLarge = refusal.TooLarge
 
--- a socket takes bytes while it is connected
-abbrev pub send_in : State → List ℕ → Phase → Outcome
-send_in s bytes phase.Connected =
-    answered (record s { sending = after_send s.sending bytes }) (Sent (send_answer s.sending (length bytes)))
-send_in s bytes (phase.Broken why) = answered s (Sent (Err (refusal.ConnLost why)))
-send_in s bytes phase.Closing = answered s (Sent (Err refusal.NotConnected))
-send_in s bytes phase.Closed = answered s (Sent (Err refusal.NotConnected))
+abbrev pub taken_as : Result ℕ SendNo → Result ℕ Refusal
+taken_as (Ok count) = Ok count
+taken_as (Err why) = Err (refusal_of why)
 
-abbrev pub on_send : State → List ℕ → Outcome
-on_send s bytes = send_in s bytes s.phase
+-- what a receive with room for this many bytes gives
+abbrev pub received_by : Receiving → ℕ → List ℕ
+received_by r room = take room (waiting_of r.blocks)
 
--- where there are no bytes of a connection that was lost, no others will come
-abbrev pub lost_for : Cause → Result (List ℕ) Refusal → Result (List ℕ) Refusal
-lost_for why (Ok bytes) = Ok bytes
-lost_for why (Err other) = Err (refusal.ConnLost why)
-
--- what waits is given while the socket is connected, and also once the connection was lost
-abbrev pub recv_in : State → ℕ → Phase → Outcome
-recv_in s room phase.Connected =
-    answered (record s { receiving = after_receive s.receiving room }) (Received (receive_answer s.receiving room))
-recv_in s room (phase.Broken why) =
-    answered (record s { receiving = after_receive s.receiving room }) (Received (lost_for why (receive_answer s.receiving room)))
-recv_in s room phase.Closing = answered s (Received (Err refusal.NotConnected))
-recv_in s room phase.Closed = answered s (Received (Err refusal.NotConnected))
-
-abbrev pub on_recv : State → ℕ → Outcome
-on_recv s room = recv_in s room s.phase
+-- what it answers: with room there is a byte, or a refusal
+abbrev pub answer_with : Refusal → ℕ → List ℕ → Result (List ℕ) Refusal
+answer_with why room bytes = if room == 0 then Ok [] else (if length bytes == 0 then Err why else Ok bytes)
 
 -- a connected socket has yet to send its peer a shutdown
 abbrev pub closed_from : Phase → Phase
@@ -51,54 +44,116 @@ closed_from (phase.Broken why) = phase.Closed
 closed_from phase.Closing = phase.Closing
 closed_from phase.Closed = phase.Closed
 
--- what was not sent and what was not read is dropped
-abbrev pub on_close : State → Outcome
-on_close s =
-    answered
-    (record s { phase = closed_from s.phase; sending = sending_closed s.sending; receiving = receiving_closed s.receiving })
-    DidClose
+-- a block is sent for the first time, or retransmitted
+abbrev pub count_packing : Packing → Counters → Counters
+count_packing (Waits until) counters = counters
+count_packing (Retransmits offset block) counters = record counters { resent = risen counters.resent }
+count_packing (Sends block) counters = record counters { sent = risen counters.sent }
+count_packing Idles counters = counters
 
--- ---- packing
+module _ {C : Type 0} where
+  -- ---- datagrams
 
--- microseconds since the socket was opened, modulo 2^32
-abbrev pub stamp_of : State → ℕ
-stamp_of s = (s.last - s.opened) % 2 ^ 32
+  -- microseconds since the socket was opened, modulo 2^32
+  abbrev pub stamp_of : State C → ℕ
+  stamp_of s = (s.last - s.opened) % 2 ^ 32
 
--- the datagram that takes a packet to the peer
-abbrev pub to_peer : State → Packet → Datagram
-to_peer s packet = record { addr = s.peer.addr; bytes = spelling packet }
+  -- a packet that is emitted to the peer, and names these offsets
+  abbrev pub emission : State C → Packet → List ℕ → Emission
+  emission s packet offsets = record {
+    datagram = record { addr = s.peer.addr; bytes = spelling packet };
+    offsets = offsets;
+  }
 
--- the datagram that carries the block of an offset
-abbrev pub block_datagram : State → ℕ → KeptBlock → Datagram
-block_datagram s offset block =
-    to_peer s (Block (sequence_number s.sending.isn offset) block.flags (stamp_of s) s.peer.id block.bytes)
+  -- the data packet of an offset, which it names
+  abbrev pub block_emission : State C → ℕ → KeptBlock → Emission
+  block_emission s offset block = emission s (block_packet s.sending (stamp_of s) s.peer.id offset block) (offset ∷ [])
 
-abbrev pub count_sent : Counters → Counters
-count_sent counters = record counters { sent = risen counters.sent }
+  -- ---- sending and receiving
 
-abbrev pub count_resent : Counters → Counters
-count_resent counters = record counters { resent = risen counters.resent }
+  -- a socket takes bytes while it is connected
+  abbrev pub send_in : State C → List ℕ → Phase → Outcome C
+  send_in s bytes phase.Connected =
+      answered (record s { sending = after_send s.sending bytes }) (Sent (taken_as (send_answer s.sending (length bytes))))
+  send_in s bytes (phase.Broken why) = answered s (Sent (Err (refusal.ConnLost why)))
+  send_in s bytes phase.Closing = answered s (Sent (Err refusal.NotConnected))
+  send_in s bytes phase.Closed = answered s (Sent (Err refusal.NotConnected))
 
--- the block of this offset is sent, and so counted
-abbrev pub block_packed : State → Counters → ℕ → KeptBlock → Outcome
-block_packed s counters offset block = record {
-  after = record s { sending = after_pack s.sending s.last; counters = counters };
-  reply = DidPack (packed.Block (length (block_datagram s offset block).bytes));
-  outs = block_datagram s offset block ∷ [];
-}
+  abbrev pub on_send : State C → List ℕ → Outcome C
+  on_send s bytes = send_in s bytes s.phase
 
-abbrev pub packed_as : State → Packing → Outcome
-packed_as s (Waits until) = answered s (DidPack (packed.NotYet until))
-packed_as s (Retransmits offset block) = block_packed s (count_resent s.counters) offset block
-packed_as s (Sends block) = block_packed s (count_sent s.counters) s.sending.next block
-packed_as s Idles = answered s (DidPack packed.Nothing)
+  -- what waits is given, as far as there is room, and where nothing waits this is answered
+  abbrev pub gives : State C → ℕ → Refusal → Outcome C
+  gives s room why =
+      let bytes = received_by s.receiving room in
+      answered (record s { receiving = after_receive s.receiving (length bytes) }) (Received (answer_with why room bytes))
 
--- a socket that isn't connected packs nothing
-abbrev pub pack_in : State → Phase → Outcome
-pack_in s phase.Connected = packed_as s (packing s.sending s.last)
-pack_in s (phase.Broken why) = answered s (DidPack packed.Nothing)
-pack_in s phase.Closing = answered s (DidPack packed.Nothing)
-pack_in s phase.Closed = answered s (DidPack packed.Nothing)
+  -- bytes are also given once the connection was lost: where none waits, none will come
+  abbrev pub recv_in : State C → ℕ → Phase → Outcome C
+  recv_in s room phase.Connected = gives s room refusal.AgainRecv
+  recv_in s room (phase.Broken why) = gives s room (refusal.ConnLost why)
+  recv_in s room phase.Closing = answered s (Received (Err refusal.NotConnected))
+  recv_in s room phase.Closed = answered s (Received (Err refusal.NotConnected))
 
-abbrev pub on_pack : State → Outcome
-on_pack s = pack_in s s.phase
+  abbrev pub on_recv : State C → ℕ → Outcome C
+  on_recv s room = recv_in s room s.phase
+
+  -- ---- closing
+
+  -- what was not sent is never sent, and what was not received is given to no call
+  abbrev pub on_close : State C → Outcome C
+  on_close s = answered (record s { phase = closed_from s.phase }) DidClose
+
+module _ {C : Type 0} (w : Ways C) where
+  -- ---- packing
+
+  abbrev pub emitted_by_packing : State C → Packing → List Emission
+  emitted_by_packing s (Waits until) = []
+  emitted_by_packing s (Retransmits offset block) = block_emission s offset block ∷ []
+  emitted_by_packing s (Sends block) = block_emission s s.sending.next block ∷ []
+  emitted_by_packing s Idles = []
+
+  abbrev pub packed_so : State C → Packing → Outcome C
+  packed_so s packing = record {
+    after = record s {
+      sending = after_packing w s.sending s.last packing;
+      counters = count_packing packing s.counters;
+    };
+    reply = DidPack (packed_as packing);
+    emissions = emitted_by_packing s packing;
+  }
+
+  -- a socket that isn't connected packs nothing
+  abbrev pub pack_in : State C → Phase → Outcome C
+  pack_in s phase.Connected = packed_so s (packing w s.sending s.last)
+  pack_in s (phase.Broken why) = answered s (DidPack packed.Nothing)
+  pack_in s phase.Closing = answered s (DidPack packed.Nothing)
+  pack_in s phase.Closed = answered s (DidPack packed.Nothing)
+
+  abbrev pub on_pack : State C → Outcome C
+  on_pack s = pack_in s s.phase
+
+  -- ---- measuring
+
+  -- what was measured and counted so far
+  abbrev pub perf_of : State C → Perf
+  perf_of s = record {
+    rtt = s.rtt.rtt;
+    var = s.rtt.var;
+    window = window_in w s.sending.control;
+    period = period_in w s.sending.control;
+    sent = s.counters.sent;
+    resent = s.counters.resent;
+    placed = s.counters.placed;
+    double = s.counters.double;
+    below = s.counters.below;
+    above = s.counters.above;
+    control = s.counters.control;
+    stale = s.counters.stale;
+    foreign = s.counters.foreign;
+    malformed = s.counters.malformed;
+    acked = acked_of s.sending;
+  }
+
+  abbrev pub on_measure : State C → Outcome C
+  on_measure s = answered s (DidMeasure (perf_of s))

@@ -17,6 +17,11 @@ IsFixed w period =
     → (w.window_of (after_calls w (w.started packet flow) calls) ≡ GREATEST_WINDOW)
     × (w.period_of (after_calls w (w.started packet flow) calls) ≡ fixed_period period)
 
+-- the fixed control
+abbrev pub fixed : ℕ → Ways (Unit {0})
+fixed period =
+    ways (λ packet flow. tt) (λ c. GREATEST_WINDOW) (λ c. fixed_period period) (λ c seen. c) (λ c first sent seen. c) (λ c seen. c)
+
 -- ---- the additive control
 
 -- what the additive control knows

@@ -1,11 +1,12 @@
 -- Events of a socket: what may happen, what is answered, and what an event leaves.
-use Rattle.std.specs.Prelude.{ℕ, ◌+◌, ◌-◌, ◌^◌, min, max, List, [], Result}
+use Rattle.std.specs.Prelude.{ℕ, ◌+◌, ◌-◌, ◌^◌, min, max, List, [], map, Result}
 use Rattle.udt_model.specs.declared.limits.TheConstants.{LAST_MOMENT}
 use Rattle.udt_model.specs.declared.addresses.Addr.{Addr}
 use Rattle.udt_model.specs.declared.answers.Heard.{Heard}
 use Rattle.udt_model.specs.declared.answers.Packed.{Packed}
+use Rattle.udt_model.specs.declared.answers.Perf.{Perf}
 use Rattle.udt_model.specs.declared.answers.Refusal.{Refusal}
-use Rattle.udt_model.specs.State.{State, Datagram}
+use Rattle.udt_model.specs.State.{State, Datagram, Emission}
 
 -- ---- events and replies
 
@@ -16,6 +17,7 @@ pub data Act : Type 0 where
   Pack : Act
   Tick : Act
   Close : Act
+  Measure : Act
   Arrive : (from : Addr) → (bytes : List ℕ) → Act
 
 -- an act and its moment, in microseconds
@@ -27,29 +29,36 @@ pub record Event : Type 0 where
 abbrev pub event : ℕ → Act → Event
 event now act = record { now = now; act = act }
 
--- what an event answers: how many bytes were taken, the bytes that were received, what was packed, what was heard. A tick
--- and a close say no more than that they were done
+-- what an event answers: how many bytes were taken, the bytes that were received, what was packed, what was measured, what
+-- was heard. A tick and a close say no more than that they were done
 pub data Reply : Type 0 where
   Sent : (answer : Result ℕ Refusal) → Reply
   Received : (answer : Result (List ℕ) Refusal) → Reply
   DidPack : (answer : Packed) → Reply
   DidTick : Reply
   DidClose : Reply
+  DidMeasure : (answer : Perf) → Reply
   DidHear : (answer : Heard) → Reply
 
--- what an event leaves, answers and emits
-pub record Outcome : Type 0 where
-  pub after : State
+-- what an event leaves, answers and emits, in this order
+pub record Outcome (C : Type 0) : Type 0 where
+  pub after : State C
   pub reply : Reply
-  pub outs : List Datagram
-
-abbrev pub answered : State → Reply → Outcome
-answered s reply = record { after = s; reply = reply; outs = [] }
+  pub emissions : List Emission
 
 -- one more, and 2^64 - 1 stays
 abbrev pub risen : ℕ → ℕ
 risen count = min (count + 1) (2 ^ 64 - 1)
 
--- the socket once an event has come at this moment, which isn't before the last one
-abbrev pub at_moment : State → ℕ → State
-at_moment s now = record s { last = max (min now LAST_MOMENT) s.last; count = risen s.count }
+module _ {C : Type 0} where
+  -- the datagrams that an event emits
+  abbrev pub outs_of : Outcome C → List Datagram
+  outs_of outcome = map (λ emission. emission.datagram) outcome.emissions
+
+  -- an event that emits nothing
+  abbrev pub answered : State C → Reply → Outcome C
+  answered s reply = record { after = s; reply = reply; emissions = [] }
+
+  -- the socket once an event has come at this moment, which isn't before the last one
+  abbrev pub at_moment : State C → ℕ → State C
+  at_moment s now = record s { last = max (min now LAST_MOMENT) s.last; count = risen s.count }

@@ -1,5 +1,5 @@
 -- Handshakes: cookies, how a listener judges a request, and what a client and a meeting socket make of what arrives.
-use Rattle.std.specs.Prelude.{ℕ, ◌+◌, ◌-◌, ◌/◌, ◌==◌, ℤ, pos, negsuc, min, Bool, not, ◌&&◌, ◌||◌, List, [], ◌∷◌, ◌++◌, take, replicate, Option, Some, None, nat_lt, nat_le, if◌then◌else◌}
+use Rattle.std.specs.Prelude.{ℕ, ◌+◌, ◌-◌, ◌/◌, ◌==◌, ℤ, pos, negsuc, min, Bool, ◌&&◌, ◌||◌, List, ◌++◌, take, replicate, Option, Some, None, nat_lt, if◌then◌else◌}
 use Rattle.std.specs.Int.{w16, w32, w64, w128, to_be_bytes, from_be_bytes}
 use Rattle.md5.specs.Md5.{md5}
 use Rattle.udt_model.specs.declared.addresses.Addr.{Addr}
@@ -21,7 +21,7 @@ use Rattle.udt_model.specs.declared.packets.Kind.{Kind}
 use Rattle.udt_model.specs.declared.packets.Kind.TheVariants.{Stream, Message}
 use Rattle.udt_model.specs.declared.packets.Shake.{Shake}
 use Rattle.udt_model.specs.Addresses.{same_addr}
-use Rattle.udt_model.specs.Sending.{clamped}
+use Rattle.udt_model.specs.SendHalf.{clamped}
 
 -- ---- what a handshake carries
 

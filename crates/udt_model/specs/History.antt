@@ -5,9 +5,11 @@ use Rattle.udt_model.specs.declared.answers.Heard.TheVariants as heard
 use Rattle.udt_model.specs.declared.packets.Malformed.{Malformed}
 use Rattle.udt_model.specs.Wire.{Packet, Block, read}
 use Rattle.udt_model.specs.Numbers.{near}
+use Rattle.udt_model.specs.Rate.{Ways}
+use Rattle.udt_model.specs.SendHalf.{acked_of}
 use Rattle.udt_model.specs.State.{State, Datagram}
 use Rattle.udt_model.specs.Step.{step}
-use Rattle.udt_model.specs.Events.{Act, Send, Arrive, Event, Reply, Sent, Received, DidHear}
+use Rattle.udt_model.specs.Events.{Act, Send, Arrive, Event, Reply, Sent, Received, DidHear, outs_of}
 
 -- an event with its answer and what it emitted, made by the holder of the pass with this number
 pub record Item : Type 0 where
@@ -17,42 +19,11 @@ pub record Item : Type 0 where
   pub outs : List Datagram
 
 -- where a socket began, and all that happened to it since
-pub record History : Type 0 where
-  pub opening : State
+pub record History (C : Type 0) : Type 0 where
+  pub opening : State C
   pub items : List Item
 
--- the state after these items
-unfoldable pub after_items : State → List Item → State
-after_items s [] = s
-after_items s (item ∷ items) = after_items (step s item.event).after items
-
--- the state that a history leads to
-abbrev pub state_of : History → State
-state_of h = after_items h.opening h.items
-
--- each item's reply and datagrams are what the machine gives after the items before it
-unfoldable pub AreLegal : State → List Item → Type 0
-AreLegal s [] = Unit {0}
-AreLegal s (item ∷ items) =
-    (item.reply ≡ (step s item.event).reply) × (item.outs ≡ (step s item.event).outs) × AreLegal (step s item.event).after items
-
-abbrev pub IsLegal : History → Type 0
-IsLegal h = AreLegal h.opening h.items
-
--- the history with one more event, made under this pass
-abbrev pub happened : History → ℕ → Event → History
-happened h pass event = record h {
-  items = h.items ++ record {
-    pass = pass;
-    event = event;
-    reply = (step (state_of h) event).reply;
-    outs = (step (state_of h) event).outs;
-  } ∷ [];
-}
-
--- the offset at which the directions of the socket begin
-abbrev pub start_of : History → ℕ
-start_of h = h.opening.sending.acked
+-- ---- what items tell
 
 -- the bytes that an event took
 abbrev pub taken_by : Act → Reply → List ℕ
@@ -72,47 +43,85 @@ unfoldable pub delivered_by : List Item → List ℕ
 delivered_by [] = []
 delivered_by (item ∷ items) = given_by item.reply ++ delivered_by items
 
--- the bytes that sends took, joined in order
-abbrev pub accepted : History → List ℕ
-accepted h = accepted_by h.items
-
--- the bytes that receives gave, joined in order
-abbrev pub delivered : History → List ℕ
-delivered h = delivered_by h.items
-
--- how many blocks were acknowledged
-abbrev pub acked : History → ℕ
-acked h = (state_of h).sending.acked - start_of h
-
 -- the offset that a data packet's sequence number stands for, where there is one
 abbrev pub offset_found : Option ℕ → List ℕ
 offset_found None = []
 offset_found (Some offset) = offset ∷ []
-
--- the offset of a data packet: the one near the highest that arrived. Which blocks are placed isn't asked
-abbrev pub offset_of_packet : State → Result Packet Malformed → List ℕ
-offset_of_packet s (Ok (Block number flags stamp dest bytes)) = offset_found (near s.receiving.isn s.receiving.top number)
-offset_of_packet s other = []
-
--- the offset at which an event placed a block, which it answers
-abbrev pub placed_by : State → Act → Reply → List ℕ
-placed_by s (Arrive from bytes) (DidHear heard.Placed) = offset_of_packet s (read bytes)
-placed_by s act reply = []
-
--- the offsets at which these items placed blocks, from this state on
-unfoldable pub placed_from : State → List Item → List ℕ
-placed_from s [] = []
-placed_from s (item ∷ items) = placed_by s item.event.act item.reply ++ placed_from (step s item.event).after items
-
--- the offsets of all blocks that were placed
-abbrev pub placed_offsets : History → List ℕ
-placed_offsets h = placed_from h.opening h.items
 
 -- how many offsets from this one on, of this many at most, are among these, without a gap
 unfoldable pub gapless : ℕ → ℕ → List ℕ → ℕ
 gapless zero offset offsets = 0
 gapless (suc most) offset offsets = if list_any (λ n. n == offset) offsets then gapless most (offset + 1) offsets + 1 else 0
 
--- how many blocks have arrived, from the first one on and without a gap
-abbrev pub arrived : History → ℕ
-arrived h = gapless (length (placed_offsets h)) (start_of h) (placed_offsets h)
+module _ {C : Type 0} where
+  -- the offset at which the directions of the socket begin
+  abbrev pub start_of : History C → ℕ
+  start_of h = acked_of h.opening.sending
+
+  -- the bytes that sends took, joined in order
+  abbrev pub accepted : History C → List ℕ
+  accepted h = accepted_by h.items
+
+  -- the bytes that receives gave, joined in order
+  abbrev pub delivered : History C → List ℕ
+  delivered h = delivered_by h.items
+
+  -- the offset of a data packet: the one near the highest that arrived. Which blocks are placed isn't asked
+  abbrev pub offset_of_packet : State C → Result Packet Malformed → List ℕ
+  offset_of_packet s (Ok (Block number flags stamp dest bytes)) = offset_found (near s.receiving.isn s.receiving.top number)
+  offset_of_packet s other = []
+
+  -- the offset at which an event placed a block, which it answers
+  abbrev pub placed_by : State C → Act → Reply → List ℕ
+  placed_by s (Arrive from bytes) (DidHear heard.Placed) = offset_of_packet s (read bytes)
+  placed_by s act reply = []
+
+module _ {C : Type 0} (w : Ways C) where
+  -- ---- legal histories
+
+  -- the state after these items
+  unfoldable pub after_items : State C → List Item → State C
+  after_items s [] = s
+  after_items s (item ∷ items) = after_items (step w s item.event).after items
+
+  -- the state that a history leads to
+  abbrev pub state_of : History C → State C
+  state_of h = after_items h.opening h.items
+
+  -- each item's reply and datagrams are what the machine gives after the items before it
+  unfoldable pub AreLegal : State C → List Item → Type 0
+  AreLegal s [] = Unit {0}
+  AreLegal s (item ∷ items) =
+      (item.reply ≡ (step w s item.event).reply) × (item.outs ≡ outs_of (step w s item.event))
+      × AreLegal (step w s item.event).after items
+
+  abbrev pub IsLegal : History C → Type 0
+  IsLegal h = AreLegal h.opening h.items
+
+  -- what the machine makes of an event, under this pass
+  abbrev pub item_of : State C → ℕ → Event → Item
+  item_of s pass event =
+      record { pass = pass; event = event; reply = (step w s event).reply; outs = outs_of (step w s event) }
+
+  -- the history with one more event
+  abbrev pub happened : History C → ℕ → Event → History C
+  happened h pass event = record h { items = h.items ++ item_of (state_of h) pass event ∷ [] }
+
+  -- ---- what a history tells
+
+  -- how many blocks were acknowledged
+  abbrev pub acked : History C → ℕ
+  acked h = acked_of (state_of h).sending - start_of h
+
+  -- the offsets at which these items placed blocks, from this state on
+  unfoldable pub placed_from : State C → List Item → List ℕ
+  placed_from s [] = []
+  placed_from s (item ∷ items) = placed_by s item.event.act item.reply ++ placed_from (step w s item.event).after items
+
+  -- the offsets of all blocks that were placed
+  abbrev pub placed_offsets : History C → List ℕ
+  placed_offsets h = placed_from h.opening h.items
+
+  -- how many blocks have arrived, from the first one on and without a gap
+  abbrev pub arrived : History C → ℕ
+  arrived h = gapless (length (placed_offsets h)) (start_of h) (placed_offsets h)

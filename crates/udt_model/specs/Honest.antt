@@ -3,11 +3,13 @@ use Rattle.std.specs.Prelude.{◌≡◌, ℕ, ◌+◌, ◌^◌, ◌<◌, List, [
 use Rattle.std.specs.List.{Contains}
 use Rattle.udt_model.specs.declared.addresses.Addr.{Addr}
 use Rattle.udt_model.specs.Wire.{Packet, Block, Handshake, KeepAlive, Ack, Nak, Shutdown, Ack2, DropAsk, read}
-use Rattle.udt_model.specs.State.{State}
+use Rattle.udt_model.specs.Rate.{Ways}
+use Rattle.udt_model.specs.SendHalf.{acked_of}
+use Rattle.udt_model.specs.State.{State, Emission}
 use Rattle.udt_model.specs.Step.{step}
-use Rattle.udt_model.specs.Events.{Act, Send, Recv, Pack, Tick, Close, Arrive}
+use Rattle.udt_model.specs.Events.{Act, Arrive}
 use Rattle.udt_model.specs.History.{Item}
-use Rattle.udt_model.specs.Emissions.{Emission, emitted}
+use Rattle.udt_model.specs.Emissions.{emitted}
 use Rattle.udt_model.specs.Records.{Enrolled, EndpointRecord, StandsAt}
 
 -- ---- honest
@@ -16,45 +18,39 @@ use Rattle.udt_model.specs.Records.{Enrolled, EndpointRecord, StandsAt}
 abbrev pub IsClose : ℕ → ℕ → Type 0
 IsClose offset other = (offset < other + 2 ^ 30) × (other < offset + 2 ^ 30)
 
--- the offset by which a packet's numbers are read: those of data packets and message drop requests by the highest that
--- arrived plus one, those of ACKs and NAKs by the first that isn't acknowledged. Others have no numbers
-abbrev pub read_by : State → Packet → ℕ
-read_by s (Block seq flags stamp dest bytes) = s.receiving.top
-read_by s (Handshake stamp dest shake) = s.receiving.top
-read_by s (KeepAlive stamp dest) = s.receiving.top
-read_by s (Ack number stamp dest body) = s.sending.acked
-read_by s (Nak stamp dest ranges) = s.sending.acked
-read_by s (Shutdown stamp dest) = s.receiving.top
-read_by s (Ack2 number stamp dest) = s.receiving.top
-read_by s (DropAsk message stamp dest first last) = s.receiving.top
+module _ {C : Type 0} where
+  -- the offset by which a packet's numbers are read: those of ACKs and NAKs by the first that isn't acknowledged, those of
+  -- data packets and message drop requests by the highest that arrived plus one. Others have no numbers
+  abbrev pub read_by : State C → Packet → ℕ
+  read_by s (Ack number stamp dest body) = acked_of s.sending
+  read_by s (Nak stamp dest ranges) = acked_of s.sending
+  read_by s other = s.receiving.top
 
--- these bytes from this address were emitted there, to the other address, and all that they name lies near where a
--- socket in this state reads them
-pub record WasEmitted (net : List EndpointRecord) (s : State) (from to : Addr) (bytes : List ℕ) : Type 0 where
-  pub socket : Enrolled
-  pub emission : Emission
-  pub stands : StandsAt net from socket
-  pub emits : Contains (emitted socket.history) emission
-  pub datagram : emission.datagram ≡ record { addr = to; bytes = bytes }
-  pub close : (packet : Packet) (offset : ℕ) → read bytes ≡ Ok packet → Contains emission.offsets offset
-      → IsClose offset (read_by s packet)
+module _ {C : Type 0} (w : Ways C) where
+  -- these bytes from this address were emitted there, to the other address, and all that they name lies near where a
+  -- socket in this state reads them
+  pub record WasEmitted (net : List (EndpointRecord C)) (s : State C) (from to : Addr) (bytes : List ℕ) : Type 0 where
+    pub socket : Enrolled C
+    pub emission : Emission
+    pub stands : StandsAt net from socket
+    pub emits : Contains (emitted w socket.history) emission
+    pub datagram : emission.datagram ≡ record { addr = to; bytes = bytes }
+    pub close : (packet : Packet) (offset : ℕ) → read bytes ≡ Ok packet → Contains emission.offsets offset
+        → IsClose offset (read_by s packet)
 
--- an arrival at a socket of this address in this state was so emitted. Calls are free
-abbrev pub IsHonestAct : List EndpointRecord → Addr → State → Act → Type 0
-IsHonestAct net addr s (Send bytes) = Unit {0}
-IsHonestAct net addr s (Recv room) = Unit {0}
-IsHonestAct net addr s Pack = Unit {0}
-IsHonestAct net addr s Tick = Unit {0}
-IsHonestAct net addr s Close = Unit {0}
-IsHonestAct net addr s (Arrive from bytes) = WasEmitted net s from addr bytes
+  -- an arrival at a socket of this address in this state was so emitted. Calls are free
+  abbrev pub IsHonestAct : List (EndpointRecord C) → Addr → State C → Act → Type 0
+  IsHonestAct net addr s (Arrive from bytes) = WasEmitted net s from addr bytes
+  IsHonestAct net addr s act = Unit {0}
 
--- and so was each arrival of these items. No order in time is asked
-unfoldable pub AreHonest : List EndpointRecord → Addr → State → List Item → Type 0
-AreHonest net addr s [] = Unit {0}
-AreHonest net addr s (item ∷ items) = IsHonestAct net addr s item.event.act × AreHonest net addr (step s item.event).after items
+  -- and so was each arrival of these items. No order in time is asked
+  unfoldable pub AreHonest : List (EndpointRecord C) → Addr → State C → List Item → Type 0
+  AreHonest net addr s [] = Unit {0}
+  AreHonest net addr s (item ∷ items) =
+      IsHonestAct net addr s item.event.act × AreHonest net addr (step w s item.event).after items
 
--- nothing that arrived was forged, and nothing outlived the passing of 2^30 packets
-abbrev pub IsHonest : List EndpointRecord → Type 0
-IsHonest net =
-    (addr : Addr) (socket : Enrolled) → StandsAt net addr socket
-    → AreHonest net addr socket.history.opening socket.history.items
+  -- nothing that arrived was forged, and nothing outlived the passing of 2^30 packets
+  abbrev pub IsHonest : List (EndpointRecord C) → Type 0
+  IsHonest net =
+      (addr : Addr) (socket : Enrolled C) → StandsAt net addr socket
+      → AreHonest net addr socket.history.opening socket.history.items

@@ -2,7 +2,7 @@
 use Rattle.std.specs.Prelude.{◌≡◌, ℕ, ◌-◌, ◌^◌, ◌==◌, ◌&&◌, ◌||◌, Bool, List, [], ◌∷◌, All, Option, Some, None, codes, if◌then◌else◌}
 use Rattle.udt_model.specs.declared.limits.TheConstants.{MOST_PAYLOAD, FEWEST_BLOCKS, MOST_BLOCKS, LAST_START, LAST_MOMENT}
 use Rattle.udt_model.specs.Addresses.{addr_of}
-use Rattle.udt_model.specs.Events.{Act, Send, Recv, Pack, Tick, Close, Arrive, Event}
+use Rattle.udt_model.specs.Events.{Act, Send, Recv, Pack, Tick, Close, Measure, Arrive, Event}
 use Rattle.udt_model.specs.Network.{ScriptDatagram}
 use Rattle.udt_model.specs.Words.{◌>>=◌, words_of, is_word, name_of, number_within, bytes_of}
 
@@ -18,12 +18,8 @@ pub record Pairing : Type 0 where
 
 -- bytes come from outside
 abbrev pub is_arrival : Act → Bool
-is_arrival (Send bytes) = Bool.false
-is_arrival (Recv room) = Bool.false
-is_arrival Pack = Bool.false
-is_arrival Tick = Bool.false
-is_arrival Close = Bool.false
 is_arrival (Arrive from bytes) = Bool.true
+is_arrival act = Bool.false
 
 -- a line: a pair of sockets, a call of a named socket at a moment, the arrival of a datagram that was printed under a
 -- number, or that of any bytes, from any address to any
@@ -85,9 +81,11 @@ call_of call words =
     then alone Pack words
     else (if is_word call (codes "tick")
     then alone Tick words
-    else (if is_word call (codes "close") then alone Close words else None))))
+    else (if is_word call (codes "close")
+    then alone Close words
+    else (if is_word call (codes "perf") then alone Measure words else None)))))
 
--- A send T HEX, A recv T CAP, A pack T, A tick T, A close T
+-- A send T HEX, A recv T CAP, A pack T, A tick T, A close T, A perf T
 unfoldable pub call_line : List ℕ → List ℕ → List (List ℕ) → Option Line
 call_line name call [] = None
 call_line name call (now ∷ words) = do
@@ -118,7 +116,7 @@ raw_line now words = None
 abbrev pub is_call : List ℕ → Bool
 is_call word =
     is_word word (codes "send") || is_word word (codes "recv") || is_word word (codes "pack") || is_word word (codes "tick")
-    || is_word word (codes "close")
+    || is_word word (codes "close") || is_word word (codes "perf")
 
 -- The second word tells the calls of a socket, since a name may be any word; the first one the other lines
 unfoldable pub line_by_words : List (List ℕ) → Option Line

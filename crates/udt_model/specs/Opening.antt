@@ -5,8 +5,12 @@ use Rattle.udt_model.specs.declared.answers.Peer.{Peer}
 use Rattle.udt_model.specs.declared.packets.Config.{Config}
 use Rattle.udt_model.specs.declared.answers.Phase.TheVariants as phase
 use Rattle.udt_model.specs.declared.packets.Kind.TheVariants.{Stream}
+use Rattle.udt_model.specs.declared.sockets.Counters.{Counters}
+use Rattle.udt_model.specs.Rate.{Ways}
+use Rattle.udt_model.specs.ReceiveHalf.{idle_receiving, linked_receiving}
+use Rattle.udt_model.specs.SendHalf.{idle_sending, linked_sending}
 use Rattle.udt_model.specs.State.{State}
-use Rattle.udt_model.specs.Sending.{clamped}
+use Rattle.udt_model.specs.Timing.{unmeasured}
 
 -- the values with which a socket can be opened: the payload and the blocks lie in their ranges, the agreed payload
 -- isn't 0, and the start isn't too late
@@ -28,53 +32,40 @@ pub record IsOpening (own : ℕ) (config : Config) (peer : Peer) (start : ℕ) :
   pub id_fits : peer.id < 2 ^ 32
   pub isn_fits : peer.isn < 2 ^ 31
 
--- a socket that is connected from its opening on, whose directions both begin at this offset
-unfoldable pub opening : ℕ → Config → Peer → ℕ → ℕ → State
-opening own config peer now start = record {
-  own = own;
-  kind = config.kind;
-  peer = peer;
-  opened = min now LAST_MOMENT;
-  last = min now LAST_MOMENT;
-  count = 0;
-  phase = phase.Connected;
-  heard = min now LAST_MOMENT;
-  exp_from = min now LAST_MOMENT;
-  exp_count = 1;
-  sending = record {
-    isn = peer.isn;
-    payload = min config.payload peer.payload;
-    blocks = config.snd_blocks;
-    acked = start;
-    kept = [];
-    next = start;
-    lost = [];
-    message = 1;
-    flow = clamped peer.flow;
-    due = 0;
-  };
-  receiving = record {
-    isn = peer.isn;
-    payload = min config.payload peer.payload;
-    blocks = config.rcv_blocks;
-    base = start;
-    top = start;
-    given = 0;
-    placed = [];
-    confirmed = start;
-    last_ack = None;
-    ack_due = min now LAST_MOMENT + SYN;
-  };
-  counters = record {
-    sent = 0;
-    resent = 0;
-    placed = 0;
-    double = 0;
-    below = 0;
-    above = 0;
-    control = 0;
-    stale = 0;
-    foreign = 0;
-    malformed = 0;
-  };
+-- nothing was counted yet
+abbrev pub no_counters : Counters
+no_counters = record {
+  sent = 0;
+  resent = 0;
+  placed = 0;
+  double = 0;
+  below = 0;
+  above = 0;
+  control = 0;
+  stale = 0;
+  foreign = 0;
+  malformed = 0;
 }
+
+module _ {C : Type 0} (w : Ways C) where
+  -- a socket that is connected from its opening on, whose directions both begin at this offset
+  unfoldable pub opening : ℕ → Config → Peer → ℕ → ℕ → State C
+  opening own config peer now start =
+      let moment = min now LAST_MOMENT in
+      let payload = min config.payload peer.payload in
+      record {
+        own = own;
+        kind = config.kind;
+        peer = peer;
+        opened = moment;
+        last = moment;
+        count = 0;
+        phase = phase.Connected;
+        heard = moment;
+        exp_from = moment;
+        exp_count = 1;
+        rtt = unmeasured;
+        sending = linked_sending w (idle_sending w config start) peer.isn payload peer.flow;
+        receiving = linked_receiving (idle_receiving config start) moment peer.isn payload unmeasured;
+        counters = no_counters;
+      }

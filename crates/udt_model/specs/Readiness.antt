@@ -4,8 +4,8 @@ use Rattle.udt_model.specs.declared.answers.Phase.{Phase}
 use Rattle.udt_model.specs.declared.answers.Phase.TheVariants as phase
 use Rattle.udt_model.specs.Wire.{bit}
 use Rattle.udt_model.specs.State.{State}
-use Rattle.udt_model.specs.Sending.{free_of}
-use Rattle.udt_model.specs.Receiving.{waiting}
+use Rattle.udt_model.specs.ReceiveBlocks.{waiting_of}
+use Rattle.udt_model.specs.SendBlocks.{free_of}
 
 -- ---- readiness
 
@@ -30,17 +30,18 @@ is_closed (phase.Broken why) = false
 is_closed phase.Closing = false
 is_closed phase.Closed = true
 
--- a byte can be received
-abbrev pub can_read : State → Bool
-can_read s = (is_connected s.phase || is_broken s.phase) && not (length (waiting s.receiving) == 0)
+module _ {C : Type 0} where
+  -- a byte can be received
+  abbrev pub can_read : State C → Bool
+  can_read s = (is_connected s.phase || is_broken s.phase) && not (length (waiting_of s.receiving.blocks) == 0)
 
--- a block is free
-abbrev pub can_write : State → Bool
-can_write s = is_connected s.phase && not (free_of s.sending == 0)
+  -- a block is free
+  abbrev pub can_write : State C → Bool
+  can_write s = is_connected s.phase && not (free_of s.sending.blocks == 0)
 
--- what a socket is ready for, as bits: 1 that bytes can be read, 2 that some can be written, 4 that it is cut off or
--- closed, 16 that it is connected, 32 that it is closed
-unfoldable pub ready_bits : State → ℕ
-ready_bits s =
-    bit (can_read s) + 2 * bit (can_write s) + 4 * bit (is_broken s.phase || is_closed s.phase) + 16 * bit (is_connected s.phase)
-    + 32 * bit (is_closed s.phase)
+  -- what a socket is ready for, as bits: 1 that bytes can be read, 2 that some can be written, 4 that it is cut off or
+  -- closed, 16 that it is connected, 32 that it is closed
+  unfoldable pub ready_bits : State C → ℕ
+  ready_bits s =
+      bit (can_read s) + 2 * bit (can_write s) + 4 * bit (is_broken s.phase || is_closed s.phase)
+      + 16 * bit (is_connected s.phase) + 32 * bit (is_closed s.phase)

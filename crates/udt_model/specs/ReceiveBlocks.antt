@@ -2,6 +2,8 @@
 use Rattle.std.specs.Prelude.{ℕ, zero, suc, ◌+◌, ◌-◌, ◌==◌, max, Bool, true, false, not, ◌&&◌, ◌||◌, List, [], ◌∷◌, ◌++◌, length, drop, Option, Some, None, option_map, nat_lt, nat_le, if◌then◌else◌}
 use Rattle.std.specs.List.{list_any}
 use Rattle.std.specs.Option.{option_or}
+use Rattle.udt_model.specs.declared.answers.Placed.{Placed}
+use Rattle.udt_model.specs.declared.answers.Placed.TheVariants as placing
 use Rattle.udt_model.specs.declared.packets.Flags.{Flags}
 
 -- a block that arrived, at its offset. One that is consumed has no bytes any more
@@ -25,23 +27,16 @@ pub record ReceiveBlocks : Type 0 where
 
 -- ---- placing
 
--- what becomes of a block: it is new, or below the base, above what there is room for, or there is one already
-pub data Placing : Type 0 where
-  IsNew : Placing
-  IsBelow : Placing
-  IsAbove : Placing
-  IsDouble : Placing
-
 -- a block was placed at this offset, or the offset was consumed
 abbrev pub is_taken : ℕ → List PlacedBlock → Bool
 is_taken offset placed = list_any (λ block. block.offset == offset) placed
 
 -- what becomes of a block of this offset
-unfoldable pub placing_of : ReceiveBlocks → ℕ → Placing
+unfoldable pub placing_of : ReceiveBlocks → ℕ → Placed
 placing_of r offset =
     if nat_lt offset r.base
-    then IsBelow
-    else (if nat_le (r.base + r.capacity) offset then IsAbove else (if is_taken offset r.placed then IsDouble else IsNew))
+    then placing.Below
+    else (if nat_le (r.base + r.capacity) offset then placing.Above else (if is_taken offset r.placed then placing.Double else placing.New))
 
 -- the blocks with this one at its offset
 unfoldable pub put_block : PlacedBlock → List PlacedBlock → List PlacedBlock
@@ -55,11 +50,11 @@ put_block block (first ∷ others) =
 abbrev pub arrived_at : ℕ → Flags → List ℕ → PlacedBlock
 arrived_at offset flags bytes = record { offset = offset; flags = flags; bytes = bytes; consumed = false }
 
-abbrev pub after_placing_of : ReceiveBlocks → PlacedBlock → Placing → ReceiveBlocks
-after_placing_of r block IsNew = record r { placed = put_block block r.placed }
-after_placing_of r block IsBelow = r
-after_placing_of r block IsAbove = r
-after_placing_of r block IsDouble = r
+abbrev pub after_placing_of : ReceiveBlocks → PlacedBlock → Placed → ReceiveBlocks
+after_placing_of r block placing.New = record r { placed = put_block block r.placed }
+after_placing_of r block placing.Below = r
+after_placing_of r block placing.Above = r
+after_placing_of r block placing.Double = r
 
 -- what was received with a block of this offset, where it is new
 unfoldable pub after_place : ReceiveBlocks → ℕ → Flags → List ℕ → ReceiveBlocks

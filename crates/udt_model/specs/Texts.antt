@@ -3,6 +3,7 @@ use Rattle.std.specs.Prelude.{ℕ, ◌+◌, List, [], ◌∷◌, ◌++◌, Resul
 use Rattle.udt_model.specs.declared.answers.Cause.{Cause}
 use Rattle.udt_model.specs.declared.answers.Heard.{Heard}
 use Rattle.udt_model.specs.declared.answers.Packed.{Packed}
+use Rattle.udt_model.specs.declared.answers.Perf.{Perf}
 use Rattle.udt_model.specs.declared.answers.Refusal.{Refusal}
 use Rattle.udt_model.specs.declared.packets.Malformed.{Malformed}
 use Rattle.udt_model.specs.declared.answers.Cause.TheVariants as cause
@@ -11,7 +12,7 @@ use Rattle.udt_model.specs.declared.answers.Packed.TheVariants as packed
 use Rattle.udt_model.specs.declared.answers.Refusal.TheVariants as refusal
 use Rattle.udt_model.specs.declared.packets.Malformed.TheVariants as malformed
 use Rattle.udt_model.specs.Addresses.{address_text}
-use Rattle.udt_model.specs.Events.{Reply, Sent, Received, DidPack, DidTick, DidClose, DidHear}
+use Rattle.udt_model.specs.Events.{Reply, Sent, Received, DidPack, DidTick, DidClose, DidMeasure, DidHear}
 use Rattle.udt_model.specs.Words.{hex_word}
 use Rattle.udt_model.specs.Lines.{Pairing}
 use Rattle.udt_model.specs.Network.{ScriptDatagram}
@@ -91,6 +92,39 @@ abbrev pub received_text : Result (List ℕ) Refusal → List ℕ
 received_text (Ok bytes) = hex_word bytes
 received_text (Err why) = no_text why
 
+-- a word and a space after it, a last word and the line feed after it
+abbrev pub spaced : List ℕ → List ℕ
+spaced word = word ++ 32 ∷ []
+
+abbrev pub ended : List ℕ → List ℕ
+ended word = word ++ 10 ∷ []
+
+-- a word, and a number after it
+abbrev pub counted : List ℕ → ℕ → List ℕ
+counted word number = 32 ∷ spaced word ++ decimal number
+
+-- what a socket has measured of its path
+unfoldable pub path_text : Perf → List ℕ
+path_text p =
+    counted (codes "rtt") p.rtt ++ counted (codes "var") p.var ++ counted (codes "window") p.window
+    ++ counted (codes "period") p.period
+
+-- how many blocks it sent, and what became of those that arrived
+unfoldable pub blocks_text : Perf → List ℕ
+blocks_text p =
+    counted (codes "sent") p.sent ++ counted (codes "resent") p.resent ++ counted (codes "placed") p.placed
+    ++ counted (codes "double") p.double ++ counted (codes "below") p.below ++ counted (codes "above") p.above
+
+-- what it counted of other packets, and what is acknowledged
+unfoldable pub others_text : Perf → List ℕ
+others_text p =
+    counted (codes "control") p.control ++ counted (codes "stale") p.stale ++ counted (codes "foreign") p.foreign
+    ++ counted (codes "malformed") p.malformed ++ counted (codes "acked") p.acked
+
+-- all that it has measured and counted
+unfoldable pub perf_text : Perf → List ℕ
+perf_text p = codes "perf" ++ path_text p ++ blocks_text p ++ others_text p
+
 -- what an event is called, and what it answered
 abbrev pub reply_text : Reply → List ℕ
 reply_text (Sent answer) = codes "send " ++ sent_text answer
@@ -98,14 +132,8 @@ reply_text (Received answer) = codes "recv " ++ received_text answer
 reply_text (DidPack answer) = codes "pack " ++ packed_text answer
 reply_text DidTick = codes "tick"
 reply_text DidClose = codes "close"
+reply_text (DidMeasure answer) = perf_text answer
 reply_text (DidHear answer) = codes "arrive " ++ heard_text answer
-
--- a word and a space after it, a last word and the line feed after it
-abbrev pub spaced : List ℕ → List ℕ
-spaced word = word ++ 32 ∷ []
-
-abbrev pub ended : List ℕ → List ℕ
-ended word = word ++ 10 ∷ []
 
 -- a datagram and its number
 unfoldable pub datagram_text : ℕ → ScriptDatagram → List ℕ

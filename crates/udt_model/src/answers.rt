@@ -50,6 +50,34 @@ pub enum Refusal {
     EventsSpent,
 }
 
+/// Why a sending half took no bytes: no block is free now, the direction may carry no further ones, or
+/// the message has more blocks than a socket keeps.
+#[derive(Clone, Copy, Debug, PartialEq, Eq)]
+pub enum SendNo {
+    Again,
+    Spent,
+    TooLarge,
+}
+
+/// What became of a block. `Below` and `Above` are outside of what there is room for, and at the
+/// offset of a `Double` a block was placed before, or the offset was consumed.
+#[derive(Clone, Copy, Debug, PartialEq, Eq)]
+pub enum Placed {
+    New,
+    Below,
+    Above,
+    Double,
+}
+
+/// What a data packet did at a receiving half: what became of its block, the first and the last offset
+/// of the gap that it showed and that is to be reported now, and whether a light ACK is due.
+#[derive(Clone, Copy, Debug, PartialEq, Eq)]
+pub struct Arrived {
+    pub placed: Placed,
+    pub gap: Option<(u64, u64)>,
+    pub light: bool,
+}
+
 /// What packing did. A block and a drop request come with the bytes of their datagram, and a moment
 /// before which nothing may be sent is in microseconds.
 #[derive(Clone, Copy, Debug, PartialEq, Eq)]
@@ -58,6 +86,28 @@ pub enum Packed {
     DropAsk(usize),
     NotYet(u64),
     Nothing,
+}
+
+/// What a socket has measured and counted: the round-trip time and its variance in microseconds, the
+/// congestion window in packets, the packet sending period in nanoseconds, its counters, and the first
+/// offset that isn't acknowledged.
+#[derive(Clone, Copy, Debug, PartialEq, Eq)]
+pub struct Perf {
+    pub rtt: u64,
+    pub var: u64,
+    pub window: u64,
+    pub period: u64,
+    pub sent: u64,
+    pub resent: u64,
+    pub placed: u64,
+    pub double: u64,
+    pub below: u64,
+    pub above: u64,
+    pub control: u64,
+    pub stale: u64,
+    pub foreign: u64,
+    pub malformed: u64,
+    pub acked: u64,
 }
 
 /// What became of a datagram that arrived.

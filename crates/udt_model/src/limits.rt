@@ -57,7 +57,7 @@ pub const GREATEST_RTT: u64 = 60_000_000;
 
 // ---- acknowledging and measuring, in packets
 
-/// How many blocks arrive between two light ACKs. No socket emits a light ACK yet.
+/// How many blocks arrive between two light ACKs.
 pub const LIGHT_ACK_COUNT: u32 = 64;
 
 /// The data packet after each whose sequence number is a multiple of this one follows at once: the
@@ -83,6 +83,10 @@ pub const GREATEST_WINDOW: u32 = 65_536;
 
 /// The greatest packet sending period, in nanoseconds: a second.
 pub const GREATEST_PERIOD: u64 = 1_000_000_000;
+
+/// The packet sending period of the fixed control that commands name, in nanoseconds: a tenth of a
+/// millisecond.
+pub const FIXED_PERIOD: u64 = 100_000;
 
 // ---- scripts
 

@@ -7,3 +7,13 @@ pub enum ControlName {
     Fixed,
     Aimd,
 }
+
+/// What is told of a generated run: the bytes that one socket accepted and the other delivered, the
+/// acknowledged blocks of the one, and the datagrams that both emitted.
+#[derive(Clone, Copy, Debug, PartialEq, Eq)]
+pub struct Summary {
+    pub accepted: u64,
+    pub delivered: u64,
+    pub acked: u64,
+    pub datagrams: u64,
+}

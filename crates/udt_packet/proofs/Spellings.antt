@@ -86,20 +86,20 @@ control-no_block Ack2Type info stamp dest field packet is reads = let same : Ack
 control-no_block NoType info stamp dest field packet is reads = cc
 
 -- a block that was read is that of the bytes. There are enough of them, and the first bit isn't set
-record IsBlockOf (bytes : List ℕ) (packet : Packet) : Type 0 where
-  long : 16 ≤ length bytes
-  low : word_at 0 bytes < 2 ^ 31
-  is : block_of bytes ≡ packet
+pub record IsBlockOf (bytes : List ℕ) (packet : Packet) : Type 0 where
+  pub long : 16 ≤ length bytes
+  pub low : word_at 0 bytes < 2 ^ 31
+  pub is : block_of bytes ≡ packet
 
-read_block : (bytes : List ℕ) (packet : Packet) → IsBlock packet → read bytes ≡ Ok packet → IsBlockOf bytes packet
-read_block bytes packet is_block reads =
+pub read_as_block : (bytes : List ℕ) (packet : Packet) → IsBlock packet → read bytes ≡ Ok packet → IsBlockOf bytes packet
+read_as_block bytes packet is_block reads =
     by_way (IsBlockOf bytes packet) bytes (λ short is. cc) (λ long low is. record { long = long; low = low; is = cc })
     (λ long high is. absurd (control-no_block _ _ _ _ _ packet is_block (sym is ∙ reads)))
 
 -- so the bytes are its spelling
 block_spelled : (bytes : List ℕ) (packet : Packet) → AreBytes bytes → IsBlock packet → read bytes ≡ Ok packet → bytes ≡ spelling packet
 block_spelled bytes packet are is_block reads =
-    let is = read_block bytes packet is_block reads in
+    let is = read_as_block bytes packet is_block reads in
     sym (spells bytes are is.long) ∙ ap spelling is.is
 
 pub one_spelling : (packet : Packet) → IsBlock packet → HasOneSpelling packet

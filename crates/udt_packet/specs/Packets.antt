@@ -6,6 +6,7 @@ use Rattle.udt_model.specs.declared.packets.Malformed.{Malformed}
 use Rattle.udt_model.specs.declared.packets.Malformed.TheVariants.{TooShort, UnknownType, BadHandshakeLength, BadNakRange, BadDropLength, BadAckLength}
 use Rattle.udt_model.specs.Wire as wire
 use Rattle.udt_packet.specs.declared.packet.Packet.{Packet}
+use Rattle.udt_packet.specs.declared.reading.BlockPacket.{BlockPacket}
 use Rattle.udt_packet.specs.declared.packet.Packet.TheVariants as code
 
 -- a packet without where its bytes lie in memory
@@ -18,6 +19,10 @@ packet_of (code.Nak stamp dest ranges) = wire.Nak stamp dest ranges
 packet_of (code.Shutdown stamp dest) = wire.Shutdown stamp dest
 packet_of (code.Ack2 number stamp dest) = wire.Ack2 number stamp dest
 packet_of (code.DropAsk message stamp dest first last) = wire.DropAsk message stamp dest first last
+
+-- a block's packet likewise
+abbrev pub block_packet_of : BlockPacket → wire.Packet
+block_packet_of block = wire.Block block.seq block.flags block.stamp block.dest block.bytes.now
 
 -- the bytes that are written of it
 abbrev pub spelled : Packet → List ℕ
@@ -76,6 +81,12 @@ AreBytes bytes = All (λ byte. byte < 2 ^ 8) bytes
 abbrev pub IsBlock : wire.Packet → Type 0
 IsBlock (wire.Block seq flags stamp dest bytes) = Unit {0}
 IsBlock packet = ⊥
+
+-- the bytes are read as a block of data
+pub record SpellsBlock (bytes : List ℕ) : Type 0 where
+  pub packet : wire.Packet
+  pub is_block : IsBlock packet
+  pub read : wire.read bytes ≡ Ok packet
 
 -- a packet that bytes are read as has numbers that fit their places
 abbrev pub IsReadInRange : wire.Packet → Type 0

@@ -14,10 +14,10 @@ mod writing;
 pub use laws::{block_has_one_spelling, read_is_in_range, written_is_read};
 pub use numbers::{near, seq_of};
 pub use packet::Packet;
-pub use ranges::{NakRanges, append_range};
-pub use reading::{read, target};
+pub use ranges::{NakRanges, put_range};
+pub use reading::{BlockPacket, read, read_block, target};
 pub use udt_model::{AckBody, Config, Flags, Kind, Malformed, Shake};
-pub use writing::{append, size, write};
+pub use writing::{put_nak_header, size, write, write_block};
 
 #[cfg(test)]
 mod tests;

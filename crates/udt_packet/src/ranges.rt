@@ -2,12 +2,11 @@
 
 ghost use Rattle.std.specs.Prelude.{◌≡◌, ◌+◌, ◌%◌, ◌^◌, ◌<◌, ◌≤◌, ◌++◌, [], ◌∷◌, length, take, drop, All, IfSome, IfNone};
 ghost use Rattle.std.specs.Option.{is_some};
-ghost use Rattle.std.specs.Vec.{vec_capacity};
 ghost use Rattle.udt_model.specs.Wire as wire;
 ghost use Rattle.udt_model.specs.Wire.{IsRange, ranges_bytes};
 ghost use Rattle.udt_packet.specs.Ranges.{range_from, range_spelling, with_between, GoesOn, IsBroken};
 
-use crate::words::{extend, following, put, two, word_at};
+use crate::words::{following, put, two, word_at};
 use std::marker::Model;
 
 /// The first bit of a word that begins a range.
@@ -110,15 +109,15 @@ fn size_of_range(first: u32, last: u32) -> usize
     if first == last { 4 } else { 8 }
 }
 
-/// Adds the words of a range after what is in `into`, which has room for them. It takes no memory.
-pub fn append_range(first: u32, last: u32, into: &mut Vec<u8>)
-    requires room { length (into.old.items ++ range_spelling first last) ≤ vec_capacity into.old }
+/// Writes the words of a range at this place, and answers the place after them.
+pub fn put_range(first: u32, last: u32, into: &mut [u8], place: usize) -> usize
+    requires room { place + length (range_spelling first last) ≤ length into.old }
     requires in_range { first < 2 ^ 31 }
-    ensures items { into.new.items ≡ into.old.items ++ range_spelling first last }
-    ensures capacity { vec_capacity into.old ≤ vec_capacity into.new }
+    ensures value { result ≡ place + length (range_spelling first last) }
+    ensures after { into.new ≡ with_between place result (range_spelling first last) into.old }
 {
     let size = size_of_range(first, last);
-    extend(into, &range_words(first, last)[..size]);
+    put(into, place, &range_words(first, last)[..size])
 }
 
 impl<'a> NakRanges<'a> {
@@ -193,22 +192,8 @@ impl<'a> NakRanges<'a> {
         let mut left = self.again();
         let mut end = place;
         while let Some((first, last)) = left.next() {
-            let size = size_of_range(first, last);
-            end = put(into, end, &range_words(first, last)[..size]);
+            end = put_range(first, last, into, end);
         }
         end
-    }
-
-    /// Adds the words of the ranges that are left after what is in `into`, which has room for
-    /// them.
-    pub(crate) fn append(&self, into: &mut Vec<u8>)
-        requires { length (into.old.items ++ ranges_bytes self.now) ≤ vec_capacity into.old }
-        ensures items { into.new.items ≡ into.old.items ++ ranges_bytes self.now }
-        ensures capacity { vec_capacity into.old ≤ vec_capacity into.new }
-    {
-        let mut left = self.again();
-        while let Some((first, last)) = left.next() {
-            append_range(first, last, into);
-        }
     }
 }

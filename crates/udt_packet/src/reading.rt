@@ -1,16 +1,16 @@
 // From bytes to packets.
 
-ghost use Rattle.std.specs.Prelude.{◌≡◌, ◌+◌, ◌<◌, ◌≤◌, ◌↔◌, length, take, drop, IfOk, Err, IsTrue, is_some};
+ghost use Rattle.std.specs.Prelude.{◌≡◌, ◌+◌, ◌<◌, ◌≤◌, ◌↔◌, length, take, drop, IfOk, IfSome, IfNone, Ok, Err, IsTrue, is_some};
 ghost use Rattle.udt_model.specs.declared.packets.Malformed.{Malformed};
 ghost use Rattle.udt_model.specs.Wire as wire;
 ghost use Rattle.udt_model.specs.Wire.{IsInRange, control_type, read_control};
-ghost use Rattle.udt_packet.specs.Packets.{packet_of, reading_of, IsRefusedFor};
+ghost use Rattle.udt_packet.specs.Packets.{block_packet_of, packet_of, reading_of, IsRefusedFor, SpellsBlock};
 
 use crate::flags::flags_of;
 use crate::packet::Packet;
 use crate::ranges::NakRanges;
 use crate::words::{HEADER, following, number_at, word_at};
-use udt_model::{AckBody, Malformed, Shake};
+use udt_model::{AckBody, Flags, Malformed, Shake};
 
 /// The first bit of a control packet, which a block's sequence number doesn't have.
 const CONTROL: u32 = 1 << 31;
@@ -40,18 +40,58 @@ pub fn target(bytes: &[u8]) -> Option<u32>
     Some(word_at(bytes, 12))
 }
 
+/// A block as a packet carries it, with the packet's time stamp in microseconds and the socket ID of
+/// its destination.
+#[derive(Clone, Copy, Debug, PartialEq, Eq)]
+pub struct BlockPacket<'a> {
+    pub seq: u32,
+    pub flags: Flags,
+    pub stamp: u32,
+    pub dest: u32,
+    pub bytes: &'a [u8],
+}
+
 /// The block that the bytes spell, which aren't too short.
-fn block<'a>(bytes: &'a [u8]) -> Packet<'a>
+#[inline(always)]
+fn block<'a>(bytes: &'a [u8]) -> BlockPacket<'a>
     requires { 16 ≤ length bytes.now }
-    ensures { packet_of result ≡ wire.block_of bytes.now }
+    ensures { block_packet_of result ≡ wire.block_of bytes.now }
 {
     let (header, rest) = bytes.split_at(HEADER);
-    Packet::Block {
+    BlockPacket {
         seq: word_at(header, 0),
         flags: flags_of(word_at(header, 4)),
         stamp: word_at(header, 8),
         dest: word_at(header, 12),
         bytes: rest,
+    }
+}
+
+/// The block that the bytes spell, where they spell one: what `read` gives of it, without a look at
+/// what else they may be.
+#[inline(always)]
+#[tactic(auto, unfolding(udt_model::specs::Wire::read))]
+pub fn read_block<'a>(bytes: &'a [u8]) -> Option<BlockPacket<'a>>
+    ensures some { IfSome result (λ block. wire.read bytes.now ≡ Ok (block_packet_of block)) }
+    ensures none { IfNone result (¬ SpellsBlock bytes.now) }
+{
+    if bytes.len() < HEADER || word_at(bytes, 0) >= CONTROL {
+        return None;
+    }
+    Some(block(bytes))
+}
+
+impl<'a> From<BlockPacket<'a>> for Packet<'a> {
+    fn from(block: BlockPacket<'a>) -> Packet<'a>
+        ensures { packet_of result ≡ block_packet_of block.entry }
+    {
+        Packet::Block {
+            seq: block.seq,
+            flags: block.flags,
+            stamp: block.stamp,
+            dest: block.dest,
+            bytes: block.bytes,
+        }
     }
 }
 
@@ -176,7 +216,7 @@ fn packet<'a>(bytes: &'a [u8]) -> Result<Packet<'a>, Malformed>
     }
     let first = word_at(bytes, 0);
     if first < CONTROL {
-        return Ok(block(bytes));
+        return Ok(Packet::from(block(bytes)));
     }
     control(
         first / RESERVED % TYPES,

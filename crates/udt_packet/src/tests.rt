@@ -194,13 +194,9 @@ fn bytes_of(alloc: Global, text: &[u8]) -> Result<Vec<u8>, AllocError> {
     Ok(bytes)
 }
 
-// The bytes are read, and the packet is written at the front of other bytes and after others.
-fn is_written_as(
-    rt: &impl Abort,
-    alloc: Global,
-    bytes: &[u8],
-    spelling: &[u8],
-) -> Result<(), Fail> {
+// The bytes are read, and the packet is written at the front of other bytes. A block is also read and
+// written as one.
+fn is_written_as(rt: &impl Abort, bytes: &[u8], spelling: &[u8]) -> Result<(), Fail> {
     assert_eq!(rt; target(bytes), target(spelling));
     let packet = read(bytes).ok().ok_or("no packet")?;
     assert_eq!(rt; size(&packet), spelling.len());
@@ -209,12 +205,20 @@ fn is_written_as(
     let end = write(&packet, &mut into);
     assert_eq!(rt; &into[..end], spelling);
     assert_eq!(rt; into[end], 0xaa);
-    let mut list = Vec::with_capacity(alloc, 96)?;
-    list.push(0xbb)?;
-    assert!(rt; list.len() + size(&packet) <= list.capacity());
-    append(&packet, &mut list);
-    assert_eq!(rt; list[0], 0xbb);
-    assert_eq!(rt; &list[1..], spelling);
+    if let Some(block) = read_block(bytes) {
+        let mut again = [0xaa; 96];
+        assert!(rt; block.seq < 1 << 31 && block.flags.message < 1 << 29);
+        assert!(rt; 16 + block.bytes.len() <= again.len());
+        let BlockPacket {
+            seq,
+            flags,
+            stamp,
+            dest,
+            bytes,
+        } = block;
+        let end = write_block(seq, flags, stamp, dest, bytes, &mut again);
+        assert_eq!(rt; &again[..end], spelling);
+    }
     Ok(())
 }
 
@@ -222,12 +226,12 @@ fn is_written_as(
 fn packets_are_read_and_written(rt: HostRuntime) -> Result<(), Fail> {
     for text in WRITTEN {
         let bytes = bytes_of(rt.alloc(), text)?;
-        is_written_as(&rt, rt.alloc(), &bytes, &bytes)?;
+        is_written_as(&rt, &bytes, &bytes)?;
     }
     for (text, written) in LENIENT {
         let bytes = bytes_of(rt.alloc(), text)?;
         let spelling = bytes_of(rt.alloc(), written)?;
-        is_written_as(&rt, rt.alloc(), &bytes, &spelling)?;
+        is_written_as(&rt, &bytes, &spelling)?;
     }
     for (text, why) in REFUSED {
         let bytes = bytes_of(rt.alloc(), text)?;
@@ -238,17 +242,30 @@ fn packets_are_read_and_written(rt: HostRuntime) -> Result<(), Fail> {
 
 #[test]
 fn lost_numbers_are_taken_in_their_order(rt: HostRuntime) -> Result<(), Fail> {
-    let mut field = Vec::with_capacity(rt.alloc(), 24)?;
-    for (first, last) in [(2, 2), (6, 11), (14, 14)] {
-        assert!(rt; first < 2_147_483_648 && field.len() + 8 <= field.capacity());
-        append_range(first, last, &mut field);
-    }
-    assert_eq!(rt; field.len(), 16);
+    let mut field = [0; 16];
+    let place = put_range(2, 2, &mut field, 0);
+    let place = put_range(6, 11, &mut field, place);
+    let place = put_range(14, 14, &mut field, place);
+    assert_eq!(rt; place, 16);
     let mut ranges = NakRanges::over(&field).ok_or("no ranges")?;
     assert_eq!(rt; ranges.next(), Some((2, 2)));
     assert_eq!(rt; ranges.next(), Some((6, 11)));
     assert_eq!(rt; ranges.next(), Some((14, 14)));
     assert_eq!(rt; ranges.next(), None);
     assert!(rt; NakRanges::over(&field[..8]).is_none());
+    Ok(())
+}
+
+#[test]
+fn a_nak_is_written_range_by_range(rt: HostRuntime) -> Result<(), Fail> {
+    let mut into = [b'.'; 30];
+    let place = put_nak_header(9, 7, &mut into);
+    let place = put_range(5, 5, &mut into, place);
+    let end = put_range(0x7fff_ffff, 1, &mut into, place);
+    assert_eq!(rt; end, 28);
+    assert_eq!(rt;
+        into,
+        *b"\x80\x03\x00\x00\x00\x00\x00\x00\x00\x00\x00\x09\x00\x00\x00\x07\x00\x00\x00\x05\xff\xff\xff\xff\x00\x00\x00\x01.."
+    );
     Ok(())
 }

@@ -1,7 +1,6 @@
 // The words of a packet's header, and the bytes of a packet put after one another.
 
 ghost use Rattle.std.specs.Prelude.{◌≡◌, ◌+◌, ◌≤◌, ◌++◌, length, take, drop};
-ghost use Rattle.std.specs.Vec.{vec_len, vec_capacity};
 ghost use Rattle.udt_model.specs.Wire as wire;
 ghost use Rattle.udt_model.specs.Wire.{word};
 
@@ -75,11 +74,15 @@ pub fn put(into: &mut [u8], place: usize, bytes: &[u8]) -> usize
     end
 }
 
-/// Adds the bytes, within the room that there is.
-pub fn extend(into: &mut Vec<u8>, bytes: &[u8])
-    requires { vec_len into.old + length bytes.now ≤ vec_capacity into.old }
-    ensures items { into.new.items ≡ into.old.items ++ bytes.now }
-    ensures capacity { vec_capacity into.old ≤ vec_capacity into.new }
+/// Writes the four words of a header at the front, each at once, and answers the place after them.
+#[inline(always)]
+pub fn put_header(into: &mut [u8], first: u32, second: u32, third: u32, fourth: u32) -> usize
+    requires { 16 ≤ length into.old }
+    ensures value { result ≡ 16 }
+    ensures after { into.new ≡ wire.header first second third fourth ++ drop result into.old }
 {
-    let _ = into.extend_from_slice(bytes);
+    let place = put(into, 0, &first.to_be_bytes());
+    let place = put(into, place, &second.to_be_bytes());
+    let place = put(into, place, &third.to_be_bytes());
+    put(into, place, &fourth.to_be_bytes())
 }

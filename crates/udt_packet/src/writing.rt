@@ -1,15 +1,14 @@
 // From packets to bytes.
 
-ghost use Rattle.std.specs.Prelude.{◌≡◌, ◌≤◌, ◌++◌, length, drop};
-ghost use Rattle.std.specs.Vec.{vec_capacity};
+ghost use Rattle.std.specs.Prelude.{◌≡◌, ◌+◌, ◌^◌, ◌<◌, ◌≤◌, ◌++◌, length, drop};
 ghost use Rattle.udt_model.specs.Wire as wire;
 ghost use Rattle.udt_packet.specs.Packets.{packet_of, spelled, IsWritable};
 
 use crate::flags::flags_word;
 use crate::packet::Packet;
 use crate::short::short_field;
-use crate::words::{HEADER, extend, four, put};
-use udt_model::{AckBody, Shake};
+use crate::words::{HEADER, four, put, put_header};
+use udt_model::{AckBody, Flags, Shake};
 
 /// The first bit of a control packet.
 const CONTROL: u32 = 1 << 31;
@@ -105,19 +104,35 @@ pub fn write(packet: &Packet, into: &mut [u8]) -> usize
     }
 }
 
-/// Adds the one spelling of the packet after what is in `into`, which has room for it. It takes no
-/// memory.
+/// Writes the packet of a block at the front of `into`, and answers its size: as `write` does of a
+/// block, without looking at what kind of packet it is.
+#[inline]
 #[tactic(auto, unfolding(udt_model::specs::Wire::spelling))]
-pub fn append(packet: &Packet, into: &mut Vec<u8>)
-    requires room { length (into.old.items ++ spelled packet.now) ≤ vec_capacity into.old }
-    requires in_range { IsWritable packet.now }
-    ensures items { into.new.items ≡ into.old.items ++ spelled packet.now }
-    ensures capacity { vec_capacity into.old ≤ vec_capacity into.new }
+pub fn write_block(
+    seq: u32,
+    flags: Flags,
+    stamp: u32,
+    dest: u32,
+    bytes: &[u8],
+    into: &mut [u8],
+) -> usize
+    requires number { seq < 2 ^ 31 }
+    requires message { flags.message < 2 ^ 29 }
+    requires fits { 16 + length bytes.now ≤ length into.old }
+    ensures value { result ≡ 16 + length bytes.now }
+    ensures after { into.new
+        ≡ wire.spelling (wire.Block seq flags stamp dest bytes.now) ++ drop result into.old }
 {
-    extend(into, &header_of(packet));
-    match packet {
-        Packet::Block { bytes, .. } => extend(into, bytes),
-        Packet::Nak { ranges, .. } => ranges.append(into),
-        _ => extend(into, short_field(packet).as_slice()),
-    }
+    let place = put_header(into, seq, flags_word(flags), stamp, dest);
+    put(into, place, bytes)
+}
+
+/// Writes the four words that a NAK begins with at the front of `into`, and answers the place after
+/// them, from which on its ranges stand.
+pub fn put_nak_header(stamp: u32, dest: u32, into: &mut [u8]) -> usize
+    requires { 16 ≤ length into.old }
+    ensures value { result ≡ 16 }
+    ensures after { into.new ≡ wire.header (wire.type_word 3) 0 stamp dest ++ drop result into.old }
+{
+    put_header(into, CONTROL + 3 * TYPE, 0, stamp, dest)
 }

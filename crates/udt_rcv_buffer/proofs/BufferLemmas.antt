@@ -1,8 +1,9 @@
 -- What was received, by the parts that hold it.
-use Rattle.std.proofs.Common.{◌≡◌, ℕ, zero, suc, ◌+◌, ◌-◌, ◌<◌, ◌≤◌, Bool, true, false, cond, ◌&&◌, eqb, ltb, leb, List, [], ◌∷◌, ◌++◌, length, take, drop, set, Some, refl, ap, ◌∙◌, sym, arith, inl, inr}
+use Rattle.std.proofs.Common.{◌≡◌, ℕ, zero, suc, ◌+◌, ◌-◌, ◌<◌, ◌≤◌, max, Bool, true, false, cond, ◌&&◌, eqb, ltb, leb, List, [], ◌∷◌, ◌++◌, length, take, drop, set, Some, refl, ap, ◌∙◌, sym, arith, inl, inr}
 use Rattle.std.specs.Prelude.{All, slice_get}
 use Rattle.std.proofs.lemmas.Bool.{cases_lt, false≢true, lt-ltb, le-ltb, le-leb, lt-leb, ne_eqb}
-use Rattle.std.proofs.lemmas.List.{length-set, length-drop, take-set-le, take-append-drop, drop-append-le, take-append-le, take_at}
+use Rattle.std.proofs.lemmas.Option.{slice_get_within}
+use Rattle.std.proofs.lemmas.List.{length-set, length-drop, take-set-le, drop-set-lt, take-append-drop, drop-append-le, take-append-le, take_at}
 use Rattle.std.proofs.lemmas.List.Elements.{All-nil, All-head}
 use Rattle.udt_model.specs.ReceiveBlocks.{ReceiveBlocks, waiting_of, beginning, begins_at, given_after, with_consumed, after_consuming}
 use Rattle.udt_rcv_buffer.specs.declared.marks.Marks.{Marks}
@@ -13,7 +14,7 @@ use Rattle.udt_rcv_buffer.specs.PlacedParts.{placed_from, consumed_part, consume
 use Rattle.udt_rcv_buffer.specs.Marked.{IsMarked, EndsRun}
 use Rattle.udt_rcv_buffer.specs.Buffers.{received_of, IsReceived}
 use Rattle.udt_ring.proofs.JoinedLemmas.{joined-append, joined-take_le}
-use Rattle.udt_rcv_buffer.proofs.MarkLemmas.{used_at, given_within}
+use Rattle.udt_rcv_buffer.proofs.MarkLemmas.{used_at, given_within, higher}
 use Rattle.udt_rcv_buffer.proofs.PlacedLemmas.{bytes_from-run, beginning-settled, placed_from-consumed}
 
 -- ---- nothing was received
@@ -23,11 +24,13 @@ none_settled [] unused = refl
 none_settled (part ∷ parts) unused =
     record { block = λ used. absurd (false≢true (sym (All-head IsUnused part parts unused) ∙ used)); none = λ _. refl }
 
-pub none_marked : (marks : Marks) (parts : List (Part Head)) → marks.run ≡ 0 → marks.bytes ≡ 0 → IsMarked marks parts
-none_marked marks parts run bytes = record {
+pub none_marked : (marks : Marks) (parts : List (Part Head)) → All IsUnused parts → marks.run ≡ 0 → marks.bytes ≡ 0 → marks.top ≡ 0 → IsMarked marks parts
+none_marked marks parts unused run bytes top = record {
   within = omega (arith, run);
   used = rw run (All-nil IsUsed);
   bytes = rw (run, bytes) refl;
+  top = omega (arith, top);
+  unused = rw top unused;
 }
 
 -- the first part isn't used either
@@ -40,7 +43,7 @@ none_first (first ∷ parts) unused part found = let same : first ≡ part = cc 
 module _ (b : Inside) (ok : IsReceived b) where
   -- they are those of the run that weren't given
   pub waiting_is : waiting_of (received_of b) ≡ drop b.marks.given (joined (take b.marks.run b.ring.list))
-  waiting_is = rw (bytes_from-run b.ring.list b.base b.marks.run ok.marked.within ok.marked.used ok.run) refl
+  waiting_is = rw (bytes_from-run b.ring.list b.base b.marks.run (omega (arith, ok.marked.within, ok.marked.top)) ok.marked.used ok.run) refl
 
   pub given_le : b.marks.given ≤ b.marks.bytes
   given_le = given_within b.marks b.ring.list ok.marked ok.run ok.settled
@@ -72,13 +75,16 @@ past_run marks parts place part m found unused = elim (cases_lt place marks.run)
 ]
 
 pub placed_marked : (marks new : Marks) (parts : List (Part Head)) (place : ℕ) (part with : Part Head) → IsMarked marks parts → slice_get parts place ≡ Some part → part.head.used ≡ false
-    → new.run ≡ marks.run → new.bytes ≡ marks.bytes → IsMarked new (set parts place with)
-placed_marked marks new parts place part with m found unused run bytes =
+    → new.run ≡ marks.run → new.bytes ≡ marks.bytes → new.top ≡ max marks.top (place + 1) → IsMarked new (set parts place with)
+placed_marked marks new parts place part with m found unused run bytes top =
     let same = take-set-le marks.run parts place with (past_run marks parts place part m found unused) in
+    let above = higher marks new parts m run bytes (omega (arith, top)) (omega (arith, top, m.top, slice_get_within parts place part found)) in
     record {
-      within = omega (arith, run, length-set parts place with, m.within);
+      within = omega (arith, run, top, m.within);
       used = rw (run, same) m.used;
       bytes = rw (run, bytes, same) m.bytes;
+      top = omega (arith, length-set parts place with, above.top);
+      unused = rw (drop-set-lt new.top parts place with (omega (arith, top))) above.unused;
     }
 
 -- what was given stays so

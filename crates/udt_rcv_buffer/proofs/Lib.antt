@@ -1,9 +1,7 @@
 pub mod PlacedLemmas
 pub mod MarkLemmas
-pub mod TakenLemmas
 pub mod CopyLemmas
 pub mod SearchLemmas
-pub mod AheadLemmas
 pub mod WalkLemmas
 pub mod ReceivedLemmas
 pub mod BufferLemmas

@@ -2,16 +2,16 @@
 use Rattle.std.proofs.Common.{◌≡◌, ℕ, zero, suc, ◌+◌, ◌-◌, ◌<◌, ◌≤◌, Bool, not, true, false, cond, List, [], ◌∷◌, ◌++◌, length, take, drop, set, get_or, ltb, Some, refl, ap, ◌∙◌, sym, arith, inl, inr}
 use Rattle.std.specs.Prelude.{All, slice_get}
 use Rattle.std.proofs.lemmas.Bool.{cases_lt, lt-ltb, le-ltb, false≢true}
-use Rattle.std.proofs.lemmas.List.{length-set, length-append, take-set-le, take-append-le}
-use Rattle.std.proofs.lemmas.List.Elements.{All-tail, All-get_or, All-more, All-set}
+use Rattle.std.proofs.lemmas.List.{length-set, length-append, take-set-le, drop-set-lt, drop-drop, drop-append-le, take-append-le}
+use Rattle.std.proofs.lemmas.List.Elements.{All-tail, All-get_or, All-more, All-set, All-drop, All-push}
 use Rattle.std.proofs.lemmas.Option.{slice_get_within, get_or_from_slice_get}
 use Rattle.udt_rcv_buffer.specs.declared.marks.Marks.{Marks}
 use Rattle.udt_rcv_buffer.specs.declared.head.Head.{Head}
-use Rattle.udt_ring.specs.Parts.{Part, turned, joined}
+use Rattle.udt_ring.specs.Parts.{Part, joined}
 use Rattle.udt_rcv_buffer.specs.PlacedParts.{consumed_part, IsUsed, IsUnused, IsSettled}
 use Rattle.udt_rcv_buffer.specs.Marked.{IsMarked, EndsRun}
 use Rattle.udt_ring.proofs.JoinedLemmas.{joined_more, joined-set}
-use Rattle.udt_ring.proofs.TurnLemmas.{slice_get-take}
+use Rattle.udt_ring.proofs.TurnLemmas.{slice_get-drop, slice_get-take}
 
 -- a part of the run is used
 pub used_at : (parts : List (Part Head)) (run i : ℕ) (part : Part Head) → All IsUsed (take run parts) → i < run → slice_get parts i ≡ Some part → part.head.used ≡ true
@@ -19,6 +19,33 @@ used_at parts run i part used lt found =
     let there : slice_get (take run parts) i ≡ Some part = slice_get-take run i parts lt ∙ found in
     let within = slice_get_within (take run parts) i part there in
     rw (get_or_from_slice_get (take run parts) i part part there) at (All-get_or IsUsed (take run parts) i part within used)
+
+-- a part from the top on isn't
+pub unused_at : (parts : List (Part Head)) (top i : ℕ) (part : Part Head) → All IsUnused (drop top parts) → top ≤ i → slice_get parts i ≡ Some part → part.head.used ≡ false
+unused_at parts top i part unused le found =
+    let place : top + (i - top) ≡ i = omega (arith, le) in
+    let there : slice_get (drop top parts) (i - top) ≡ Some part = slice_get-drop top (i - top) parts ∙ ap (slice_get parts) place ∙ found in
+    let within = slice_get_within (drop top parts) (i - top) part there in
+    rw (get_or_from_slice_get (drop top parts) (i - top) part part there) at (All-get_or IsUnused (drop top parts) (i - top) part within unused)
+
+-- so a part that is used stands below the top
+pub below_top : (marks : Marks) (parts : List (Part Head)) (i : ℕ) (part : Part Head) → IsMarked marks parts → slice_get parts i ≡ Some part → part.head.used ≡ true → i < marks.top
+below_top marks parts i part m found used = elim (cases_lt i marks.top) [
+  | inl lt ↦ lt
+  | inr past ↦ absurd (false≢true (sym (unused_at parts marks.top i part m.unused past found) ∙ used))
+]
+
+-- the top may be higher
+pub higher : (marks new : Marks) (parts : List (Part Head)) → IsMarked marks parts → new.run ≡ marks.run → new.bytes ≡ marks.bytes → marks.top ≤ new.top → new.top ≤ length parts → IsMarked new parts
+higher marks new parts m run bytes le within =
+    let more : marks.top + (new.top - marks.top) ≡ new.top = omega (arith, le) in
+    record {
+      within = omega (arith, run, le, m.within);
+      used = rw run m.used;
+      bytes = rw (run, bytes) m.bytes;
+      top = within;
+      unused = rw (drop-drop (new.top - marks.top) marks.top parts, more) at (All-drop IsUnused (new.top - marks.top) (drop marks.top parts) m.unused);
+    }
 
 -- ---- the run
 
@@ -31,17 +58,19 @@ take-set-lt (suc n) (suc i) (y ∷ xs) x lt = rw (take-set-lt n i xs x (omega (a
 -- ---- the run grows
 
 pub grown : (marks new : Marks) (parts : List (Part Head)) (part : Part Head) → IsMarked marks parts → slice_get parts marks.run ≡ Some part → part.head.used ≡ true
-    → new.run ≡ marks.run + 1 → new.bytes ≡ marks.bytes + length part.bytes → IsMarked new parts
-grown marks new parts part m found used run bytes =
+    → new.run ≡ marks.run + 1 → new.bytes ≡ marks.bytes + length part.bytes → new.top ≡ marks.top → IsMarked new parts
+grown marks new parts part m found used run bytes top =
     let within = slice_get_within parts marks.run part found in
     let here : IsUsed (get_or parts marks.run part) = rw (get_or_from_slice_get parts marks.run part part found) used in
     let all : All IsUsed (take (marks.run + 1) parts) = All-more IsUsed parts marks.run part within m.used here in
     let len : length (joined (take (marks.run + 1) parts)) ≡ length (joined (take marks.run parts)) + length part.bytes =
     rw (joined_more parts marks.run part found) (length-append (joined (take marks.run parts)) part.bytes) in
     record {
-      within = omega (arith, run, within);
+      within = omega (arith, run, top, below_top marks parts marks.run part m found used);
       used = rw run all;
       bytes = rw (run, bytes) (omega (arith, len, m.bytes));
+      top = omega (arith, top, m.top);
+      unused = rw top m.unused;
     }
 
 -- ---- a part is consumed
@@ -52,9 +81,9 @@ bytes_within marks parts i part m lt found =
     let there : slice_get (take marks.run parts) i ≡ Some part = slice_get-take marks.run i parts lt ∙ found in
     omega (arith, joined-set (take marks.run parts) i part consumed_part there, m.bytes)
 
-pub consumed : (marks new : Marks) (parts : List (Part Head)) (i : ℕ) (part : Part Head) → IsMarked marks parts → slice_get parts i ≡ Some part
-    → new.run ≡ marks.run → new.bytes ≡ cond (ltb i marks.run) (marks.bytes - length part.bytes) marks.bytes → IsMarked new (set parts i consumed_part)
-consumed marks new parts i part m found run bytes =
+pub consumed : (marks new : Marks) (parts : List (Part Head)) (i : ℕ) (part : Part Head) → IsMarked marks parts → slice_get parts i ≡ Some part → i < marks.top
+    → new.run ≡ marks.run → new.bytes ≡ cond (ltb i marks.run) (marks.bytes - length part.bytes) marks.bytes → new.top ≡ marks.top → IsMarked new (set parts i consumed_part)
+consumed marks new parts i part m found below run bytes top =
     let len = length-set parts i consumed_part in
     let front = elim (cases_lt i marks.run) as (λ _. All IsUsed (take marks.run (set parts i consumed_part)) × (new.bytes ≡ length (joined (take marks.run (set parts i consumed_part))))) [
       | inl lt ↦
@@ -69,27 +98,33 @@ consumed marks new parts i part m found run bytes =
           (rw same m.used, rw same (is ∙ m.bytes))
     ] in
     record {
-      within = omega (arith, len, run, m.within);
+      within = omega (arith, run, top, m.within);
       used = rw run front.0;
       bytes = rw run front.1;
+      top = omega (arith, top, len, m.top);
+      unused = rw (top, drop-set-lt marks.top parts i consumed_part below) m.unused;
     }
 
 -- ---- the first part is freed
 
-pub freed : (marks new : Marks) (part empty : Part Head) (parts : List (Part Head)) → IsMarked marks (part ∷ parts) → 0 < marks.run
-    → new.run ≡ marks.run - 1 → new.bytes ≡ marks.bytes - length part.bytes → IsMarked new (parts ++ empty ∷ [])
-freed marks new part empty parts m some run bytes = freed_at new.run (omega (arith, run, some)) refl
+pub freed : (marks new : Marks) (part empty : Part Head) (parts : List (Part Head)) → IsMarked marks (part ∷ parts) → 0 < marks.run → empty.head.used ≡ false
+    → new.run ≡ marks.run - 1 → new.bytes ≡ marks.bytes - length part.bytes → new.top ≡ marks.top - 1 → IsMarked new (parts ++ empty ∷ [])
+freed marks new part empty parts m some unused run bytes top = freed_at new.run new.top (omega (arith, run, some)) (omega (arith, top, some, m.within)) (refl, refl)
   where
-    freed_at : (r : ℕ) → marks.run ≡ suc r → new.run ≡ r → IsMarked new (parts ++ empty ∷ [])
-    freed_at r is_run same =
+    freed_at : (r t : ℕ) → marks.run ≡ suc r → marks.top ≡ suc t → (new.run ≡ r) × (new.top ≡ t) → IsMarked new (parts ++ empty ∷ [])
+    freed_at r t is_run is_top same =
         let len : length (parts ++ empty ∷ []) ≡ length parts + 1 = length-append parts (empty ∷ []) in
-        let within : r ≤ length parts = omega (arith, m.within, is_run) in
+        let top_within : t ≤ length parts = omega (arith, m.top, is_top) in
+        let within : r ≤ length parts = omega (arith, m.within, is_run, is_top, top_within) in
         let all : All IsUsed (part ∷ take r parts) = rw is_run at m.used in
         let sum : marks.bytes ≡ length (joined (part ∷ take r parts)) = rw is_run at m.bytes in
+        let back : All IsUnused (drop t parts) = rw is_top at m.unused in
         record {
-          within = omega (arith, same, within, len);
-          used = rw (same, take-append-le r parts (empty ∷ []) within) (All-tail IsUsed part (take r parts) all);
-          bytes = rw (same, take-append-le r parts (empty ∷ []) within) (omega (arith, bytes, sum, length-append part.bytes (joined (take r parts))));
+          within = omega (arith, same.0, same.1, is_run, is_top, m.within);
+          used = rw (same.0, take-append-le r parts (empty ∷ []) within) (All-tail IsUsed part (take r parts) all);
+          bytes = rw (same.0, take-append-le r parts (empty ∷ []) within) (omega (arith, bytes, sum, length-append part.bytes (joined (take r parts))));
+          top = omega (arith, same.1, top_within, len);
+          unused = rw (same.1, drop-append-le t parts (empty ∷ []) top_within) (All-push IsUnused (drop t parts) empty back unused);
         }
 
 -- what ends the run still ends it
@@ -125,7 +160,7 @@ given_within marks (part ∷ parts) m ends settled = elim (cases_lt 0 marks.run)
 pub settled_at : (marks : Marks) (parts : List (Part Head)) → IsMarked marks parts → EndsRun marks.run parts → marks.given ≤ marks.bytes
     → (0 < marks.run → (part : Part Head) → slice_get parts 0 ≡ Some part → marks.given < length part.bytes) → IsSettled marks.given parts
 settled_at marks [] m ends le left =
-    let none : marks.run ≡ 0 = omega (arith, m.within) in
+    let none : marks.run ≡ 0 = omega (arith, m.within, m.top) in
     let bytes : marks.bytes ≡ length (joined {H = Head} (take 0 [])) = rw none at m.bytes in
     omega (arith, le, bytes)
 settled_at marks (part ∷ parts) m ends le left = elim (cases_lt 0 marks.run) [
@@ -143,14 +178,7 @@ pub is_true : (b : Bool) → not b ≡ false → b ≡ true
 is_true true h = refl
 is_true false h = absurd (false≢true (sym h))
 
--- ---- turning
-
 -- the first of some parts
 pub first_of : (parts : List (Part Head)) (part : Part Head) → slice_get parts 0 ≡ Some part → parts ≡ part ∷ drop 1 parts
 first_of [] part found = absurd cc
 first_of (first ∷ parts) part found = let same : first ≡ part = cc in ap (λ (p : Part Head). p ∷ parts) same
-
--- the first part is emptied, and then the last one
-pub turned_first : (parts : List (Part Head)) (part empty : Part Head) → slice_get parts 0 ≡ Some part → turned 1 (set parts 0 empty) ≡ drop 1 parts ++ empty ∷ []
-turned_first [] part empty found = absurd cc
-turned_first (first ∷ parts) part empty found = refl

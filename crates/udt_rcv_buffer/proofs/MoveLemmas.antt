@@ -1,15 +1,25 @@
 -- What the base passes.
-use Rattle.std.proofs.Common.{◌≡◌, ℕ, zero, suc, ◌+◌, ◌-◌, ◌<◌, ◌≤◌, Bool, true, false, cond, eqb, leb, ◌&&◌, ◌||◌, ltb, List, [], ◌∷◌, ◌++◌, length, max, Some, None, Option, refl, sym, ap, subst, ◌∙◌, arith, inl, inr}
-use Rattle.std.proofs.lemmas.Bool.{cases_lt, cases_Bool, cases_eq, eqb-true, eq-eqb, ne_eqb, and_parts, le-leb, or_left, or_right}
+use Rattle.std.proofs.Common.{◌≡◌, ℕ, zero, suc, ◌+◌, ◌-◌, ◌<◌, ◌≤◌, Bool, true, false, eqb, leb, ◌&&◌, ◌||◌, ltb, List, [], ◌∷◌, ◌++◌, length, max, Some, None, Option, refl, ap, ◌∙◌, arith, inl, inr}
+use Rattle.std.proofs.lemmas.Bool.{cases_lt, cases_Bool, eqb-true, ne_eqb, and_parts, le-leb, or_left, or_right}
 use Rattle.std.proofs.lemmas.List.Folds.{list_any-append}
 use Rattle.udt_model.specs.declared.packets.Flags.{Flags}
-use Rattle.udt_model.specs.ReceiveBlocks.{PlacedBlock, ReceiveBlocks, WholeMessage, Placing, IsNew, IsBelow, IsAbove, IsDouble, is_taken, placing_of, arrived_at, after_place, after_placing_of, beginning, after_bytes, put_block, consumed_at, with_consumed, given_after, after_consuming, after_skip, after_found, after_read_message, next_message}
+use Rattle.udt_model.specs.declared.answers.Placed.{Placed}
+use Rattle.udt_model.specs.declared.answers.Placed.TheVariants as placing
+use Rattle.udt_model.specs.ReceiveBlocks.{PlacedBlock, ReceiveBlocks, WholeMessage, is_taken, placing_of, arrived_at, after_place, after_placing_of, beginning, after_bytes, put_block, consumed_at, with_consumed, given_after, after_consuming, after_skip, after_found, after_read_message, next_message}
 use Rattle.udt_rcv_buffer.specs.Whole.{IsRun, Ends, Goes}
 use Rattle.udt_rcv_buffer.specs.Moves.{BaseMoves, none, range_of}
-use Rattle.udt_rcv_buffer.proofs.TakenLemmas.{beginning_later}
 use Rattle.udt_rcv_buffer.proofs.WholeLemmas.{shown_is_whole, taken_here, taken_later}
 
--- where the base moves on, there was a block at each offset
+-- the base moves on
+beginning_later : (blocks : List PlacedBlock) (base given : ℕ) → base ≤ (beginning base given blocks).base
+unfolding beginning
+beginning_later [] base given = omega arith
+beginning_later (block ∷ others) base given = elim (cases_Bool (eqb block.offset base && leb (length block.bytes) given)) [
+  | inl passed ↦ rw passed (omega (arith, beginning_later others (base + 1) (given - length block.bytes)))
+  | inr stays ↦ rw stays (omega arith)
+]
+
+-- where it does, there was a block at each offset
 beginning_taken : (n : ℕ) (blocks : List PlacedBlock) (base given : ℕ) → base ≤ n → n < (beginning base given blocks).base → is_taken n blocks ≡ true
 unfolding beginning
 beginning_taken n [] base given from to = absurd (omega arith)
@@ -73,11 +83,11 @@ stays : (passes : ℕ → Bool) (old new : ReceiveBlocks) → new.base ≡ old.b
 stays passes old new same = record { later = omega (arith, same); passed = λ n from to. absurd (omega (arith, from, to, same)) }
 
 -- a block that is placed
-place_stays : (r : ReceiveBlocks) (block : PlacedBlock) (p : Placing) → (after_placing_of r block p).base ≡ r.base
-place_stays r block IsNew = refl
-place_stays r block IsBelow = refl
-place_stays r block IsAbove = refl
-place_stays r block IsDouble = refl
+place_stays : (r : ReceiveBlocks) (block : PlacedBlock) (p : Placed) → (after_placing_of r block p).base ≡ r.base
+place_stays r block placing.New = refl
+place_stays r block placing.Below = refl
+place_stays r block placing.Above = refl
+place_stays r block placing.Double = refl
 
 pub place_moves : (r : ReceiveBlocks) (offset : ℕ) (flags : Flags) (bytes : List ℕ) → BaseMoves none r (after_place r offset flags bytes)
 unfolding after_place

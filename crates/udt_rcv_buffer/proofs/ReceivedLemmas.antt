@@ -3,23 +3,25 @@ use Rattle.std.proofs.Common.{◌≡◌, ℕ, ◌+◌, ◌-◌, ◌<◌, ◌≤�
 use Rattle.std.proofs.lemmas.Bool.{lt-ltb, le-ltb, le-leb, lt-leb, leb-true, and_parts, cases_Bool}
 use Rattle.std.proofs.lemmas.List.{drop-drop, drop_at}
 use Rattle.udt_model.specs.declared.packets.Flags.{Flags}
-use Rattle.udt_model.specs.ReceiveBlocks.{PlacedBlock, ReceiveBlocks, Placing, IsNew, IsBelow, IsAbove, IsDouble, is_taken, placing_of, arrived_at, after_place, after_placing_of, bytes_from, beginning}
+use Rattle.udt_model.specs.declared.answers.Placed.{Placed}
+use Rattle.udt_model.specs.declared.answers.Placed.TheVariants as placing
+use Rattle.udt_model.specs.ReceiveBlocks.{PlacedBlock, ReceiveBlocks, is_taken, placing_of, arrived_at, after_place, after_placing_of, bytes_from, beginning}
 
 -- ---- where a block is placed
 
-pub placing-below : (r : ReceiveBlocks) (offset : ℕ) → offset < r.base → placing_of r offset ≡ IsBelow
+pub placing-below : (r : ReceiveBlocks) (offset : ℕ) → offset < r.base → placing_of r offset ≡ placing.Below
 unfolding placing_of
 placing-below r offset lt = rw (lt-ltb offset r.base lt) refl
 
-pub placing-above : (r : ReceiveBlocks) (offset : ℕ) → r.base ≤ offset → r.base + r.capacity ≤ offset → placing_of r offset ≡ IsAbove
+pub placing-above : (r : ReceiveBlocks) (offset : ℕ) → r.base ≤ offset → r.base + r.capacity ≤ offset → placing_of r offset ≡ placing.Above
 unfolding placing_of
 placing-above r offset from above = rw (le-ltb offset r.base from, le-leb (r.base + r.capacity) offset above) refl
 
-pub placing-within : (r : ReceiveBlocks) (offset : ℕ) (taken : Bool) → r.base ≤ offset → offset < r.base + r.capacity → is_taken offset r.placed ≡ taken → placing_of r offset ≡ cond taken IsDouble IsNew
+pub placing-within : (r : ReceiveBlocks) (offset : ℕ) (taken : Bool) → r.base ≤ offset → offset < r.base + r.capacity → is_taken offset r.placed ≡ taken → placing_of r offset ≡ cond taken placing.Double placing.New
 unfolding placing_of
 placing-within r offset taken from to is = rw (le-ltb offset r.base from, lt-leb (r.base + r.capacity) offset to, is) refl
 
-pub after_place-is : (r : ReceiveBlocks) (offset : ℕ) (flags : Flags) (bytes : List ℕ) (p : Placing) → placing_of r offset ≡ p
+pub after_place-is : (r : ReceiveBlocks) (offset : ℕ) (flags : Flags) (bytes : List ℕ) (p : Placed) → placing_of r offset ≡ p
     → after_place r offset flags bytes ≡ after_placing_of r (arrived_at offset flags bytes) p
 unfolding after_place
 after_place-is r offset flags bytes p is = rw is refl

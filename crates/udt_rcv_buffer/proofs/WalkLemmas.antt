@@ -1,14 +1,14 @@
 -- One step of the walk over the parts, in which the next message is found.
-use Rattle.std.proofs.Common.{◌≡◌, ℕ, zero, suc, ◌+◌, ◌-◌, ◌^◌, ◌<◌, ◌≤◌, ◌==◌, Bool, true, false, not, cond, ◌&&◌, ◌||◌, List, ◌∷◌, length, take, drop, eqb, Some, None, Option, refl, ap, ◌∙◌, sym, arith, inl, inr, ◌⊎◌}
+use Rattle.std.proofs.Common.{◌≡◌, ℕ, ◌+◌, ◌-◌, ◌^◌, ◌<◌, ◌≤◌, ◌==◌, Bool, true, false, not, cond, ◌&&◌, ◌||◌, List, ◌∷◌, length, take, drop, eqb, Some, None, Option, refl, ap, ◌∙◌, sym, arith, inl, inr, ◌⊎◌}
 use Rattle.std.specs.Prelude.{slice_get, All, option_map, IfSome}
 use Rattle.std.proofs.lemmas.Bool.{eq-eqb, eqb-true, cases_Bool}
 use Rattle.std.proofs.lemmas.List.{length-append, append-nil, take-append-drop}
-use Rattle.std.proofs.lemmas.Option.{slice_get-get_or, some_pair_parts, cond_some, same_Some}
+use Rattle.std.proofs.lemmas.Option.{some_pair_parts, cond_some, same_Some}
 use Rattle.udt_model.specs.ReceiveBlocks.{PlacedBlock, WholeMessage, goes_on, up_to_last, may_begin, message_from}
 use Rattle.udt_rcv_buffer.specs.declared.head.Head.{Head}
 use Rattle.udt_rcv_buffer.specs.declared.messages.Begun.{Begun}
 use Rattle.udt_ring.specs.Parts.{Part, joined}
-use Rattle.udt_rcv_buffer.specs.PlacedParts.{block_in, placed_from, consumed_part, IsUnused}
+use Rattle.udt_rcv_buffer.specs.PlacedParts.{block_in, placed_from, IsUnused}
 use Rattle.udt_rcv_buffer.specs.Messages.{begins, begun_then, message_in, sought, IsBegun}
 use Rattle.udt_ring.proofs.TurnLemmas.{slice_get-drop}
 use Rattle.udt_ring.proofs.JoinedLemmas.{joined_more, joined-append, joined-take_le}
@@ -226,16 +226,6 @@ module _ (base place : ℕ) (gapless : Bool) (parts : List (Part Head)) (part : 
     | inr unused ↦ rw (not_begun begun len (rw unused refl)) (passes_missing begun unused)
   ]
 
--- a part that is used leaves no gap
-pub passes_used : (base place : ℕ) (gapless : Bool) (parts : List (Part Head)) (part : Part Head) → slice_get parts place ≡ Some part → part.head.used ≡ true
-    → (begun : Option Begun) (len : ℕ) → ((b : Begun) → begun ≡ Some b → b.first ≤ place) → Passes base place gapless begun (begun_then begun part.head place len gapless) parts part
-passes_used base place gapless parts part found used begun len within =
-    rw (still_is base place gapless parts part found used) at (passes base place gapless parts part found begun len within)
-
-pub sought-used : (base place : ℕ) (gapless : Bool) (parts : List (Part Head)) (part : Part Head) → slice_get parts place ≡ Some part → part.head.used ≡ true
-    → (after : Option Begun) → sought base (place + 1) (gapless && part.head.used) after parts ≡ sought base (place + 1) gapless after parts
-sought-used base place gapless parts part found used after = ap (λ (still : Bool). sought base (place + 1) still after parts) (still_is base place gapless parts part found used)
-
 -- ---- what the walk counts
 
 -- the bytes of a message that was begun, with those of one part more
@@ -295,39 +285,7 @@ pub ended_none : (last : Bool) (begun : Option Begun) → cond last begun None �
 ended_none true begun is = inr is
 ended_none false begun is = inl refl
 
--- ---- gaps
-
--- a part that isn't used ends what was begun, and whatever must come in order waits for it
-missing_one : (base place : ℕ) (gapless : Bool) (begun : Option Begun) (parts : List (Part Head)) (part : Part Head) → slice_get parts place ≡ Some part → part.head.used ≡ false
-    → sought base place gapless begun parts ≡ sought base (place + 1) false None parts
-missing_one base place gapless begun parts part found unused =
-    (passes_missing base place gapless parts part found begun unused).none refl ∙ ap (λ (b : Bool). sought base (place + 1) b None parts) (rw unused (and_false gapless))
-  where
-    and_false : (b : Bool) → (b && false) ≡ false
-    and_false true = refl
-    and_false false = refl
-
--- and so do any number of them
-missing_some : (more base place : ℕ) (gapless : Bool) (begun : Option Begun) (parts : List (Part Head)) → place + suc more ≤ length parts
-    → ((at : ℕ) (part : Part Head) → place ≤ at → at < place + suc more → slice_get parts at ≡ Some part → IsUnused part)
-    → sought base place gapless begun parts ≡ sought base (place + suc more) false None parts
-missing_some zero base place gapless begun parts within unused =
-    let found = slice_get-get_or parts place consumed_part (omega (arith, within)) in
-    missing_one base place gapless begun parts _ found (unused place _ (omega arith) (omega arith) found)
-missing_some (suc more) base place gapless begun parts within unused =
-    let found = slice_get-get_or parts place consumed_part (omega (arith, within)) in
-    let one = missing_one base place gapless begun parts _ found (unused place _ (omega arith) (omega arith) found) in
-    let moved : place + 1 + suc more ≡ place + suc (suc more) = omega arith in
-    let others = missing_some more base (place + 1) false None parts (omega (arith, within)) (λ at part from to there. unused at part (omega (arith, from)) (omega (arith, to)) there) in
-    one ∙ others ∙ ap (λ (n : ℕ). sought base n false None parts) moved
-
--- a gap is passed in one step
-pub sought-gap : (base from to : ℕ) (gapless : Bool) (begun : Option Begun) (parts : List (Part Head)) → from < to → to ≤ length parts
-    → ((at : ℕ) (part : Part Head) → from ≤ at → at < to → slice_get parts at ≡ Some part → IsUnused part)
-    → sought base from gapless begun parts ≡ sought base to false None parts
-sought-gap base from to gapless begun parts lt within unused =
-    let all : from + suc (to - from - 1) ≡ to = omega (arith, lt) in
-    rw all at (missing_some (to - from - 1) base from gapless begun parts (omega (arith, all, within)) (λ at part low high there. unused at part low (omega (arith, all, high)) there))
+-- ---- the end
 
 -- after the last part that is used nothing is found
 pub sought-past : (base place : ℕ) (gapless : Bool) (begun : Option Begun) (parts : List (Part Head)) → All IsUnused (drop place parts) → sought base place gapless begun parts ≡ None

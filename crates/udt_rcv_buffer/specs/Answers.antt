@@ -1,17 +1,8 @@
 -- The answers of the code, by the definitions of the protocol.
 use Rattle.std.specs.Prelude.{ℕ, List, ◌++◌, drop, length, nat_le, Option, Some, None, if◌then◌else◌}
-use Rattle.udt_model.specs.ReceiveBlocks.{Placing, IsNew, IsBelow, IsAbove, IsDouble, WholeMessage}
-use Rattle.udt_rcv_buffer.specs.declared.answers.Placed.{Placed}
-use Rattle.udt_rcv_buffer.specs.declared.answers.Placed.TheVariants as placed
+use Rattle.udt_model.specs.ReceiveBlocks.{WholeMessage}
 use Rattle.udt_rcv_buffer.specs.declared.answers.Got.{Got}
 use Rattle.udt_rcv_buffer.specs.declared.answers.Got.TheVariants as got
-
--- what became of a block
-abbrev pub placed_as : Placing → Placed
-placed_as IsNew = placed.New
-placed_as IsBelow = placed.Below
-placed_as IsAbove = placed.Above
-placed_as IsDouble = placed.Double
 
 -- what reading a message into so much room gives, where this one is the next
 abbrev pub got_of : ℕ → Option WholeMessage → Got

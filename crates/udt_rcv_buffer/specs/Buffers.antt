@@ -1,10 +1,9 @@
 -- What was received, as it lies in memory.
-use Rattle.std.specs.Prelude.{◌^◌, ◌≤◌, length}
+use Rattle.std.specs.Prelude.{◌+◌, ◌^◌, ◌≤◌, length}
 use Rattle.udt_model.specs.ReceiveBlocks.{ReceiveBlocks}
 use Rattle.udt_rcv_buffer.specs.declared.buffer.RcvBuffer.TheInside.{Inside}
 use Rattle.udt_rcv_buffer.specs.PlacedParts.{placed_from, IsSettled}
 use Rattle.udt_rcv_buffer.specs.Marked.{IsMarked, EndsRun}
-use Rattle.udt_rcv_buffer.specs.Taken.{HoldsTaken}
 
 -- the first part is that of the base
 abbrev pub received_of : Inside → ReceiveBlocks
@@ -16,11 +15,10 @@ received_of b = record {
   placed = placed_from b.base b.ring.list;
 }
 
--- what is kept in mind is so, the run is as long as may be, the ranges hold what is taken, and offsets don't wrap
+-- what is kept in mind is so, the run is as long as may be, and offsets don't wrap
 pub record IsReceived (b : Inside) : Type 0 where
   pub few : length b.ring.list ≤ 2 ^ 32
   pub marked : IsMarked b.marks b.ring.list
   pub run : EndsRun b.marks.run b.ring.list
   pub settled : IsSettled b.marks.given b.ring.list
-  pub taken : HoldsTaken b.taken b.base b.ring.list
-  pub limit : b.base ≤ 2 ^ 62
+  pub limit : b.base + b.marks.top ≤ 2 ^ 62

@@ -1,6 +1,5 @@
 pub mod PlacedParts
 pub mod Marked
-pub mod Taken
 pub mod Messages
 pub mod Buffers
 pub mod Answers

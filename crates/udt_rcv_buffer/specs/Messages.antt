@@ -46,27 +46,9 @@ pub record IsBegun (place : ℕ) (parts : List (Part Head)) (b : Begun) : Type 0
   pub first : b.first < place
   pub len : b.len ≡ length (joined (take (place - b.first) (drop b.first parts)))
 
--- where a message was begun, it has such bytes
-abbrev pub MayHaveBegun : Option Begun → ℕ → List (Part Head) → Type 0
-MayHaveBegun begun place parts = (b : Begun) → begun ≡ Some b → IsBegun place parts b
-
--- this many parts, all before this place, with this many bytes
-pub record IsFound (found : Found) (to : ℕ) (parts : List (Part Head)) : Type 0 where
+-- the message is the next one, at whatever offset the parts begin, and its blocks stand below the top
+pub record IsFound (found : Found) (top : ℕ) (parts : List (Part Head)) : Type 0 where
   pub some : 0 < found.count
-  pub within : found.first + found.count ≤ to
+  pub within : found.first + found.count ≤ top
   pub len : found.len ≡ length (joined (take found.count (drop found.first parts)))
-
--- the message is the next one, where the parts begin at this offset
-pub record IsNext (found : Found) (base : ℕ) (parts : List (Part Head)) : Type 0 where
-  pub is : IsFound found (length parts) parts
-  pub next : message_from base true (placed_from base parts) ≡ Some (message_in base found.first found.count parts)
-
--- the search from a place on ends with this message before another one, at whatever offset the parts begin
-pub record Ends (found : Found) (from to : ℕ) (gapless : Bool) (begun : Option Begun) (parts : List (Part Head)) : Type 0 where
-  pub is : IsFound found to parts
-  pub next : (base : ℕ) → sought base from gapless begun parts ≡ Some (message_in base found.first found.count parts)
-
--- or else it goes on there, with what was begun then
-pub record GoesOn (from to : ℕ) (gapless : Bool) (begun after : Option Begun) (parts : List (Part Head)) : Type 0 where
-  pub has : MayHaveBegun after to parts
-  pub next : (base : ℕ) → sought base from gapless begun parts ≡ sought base to gapless after parts
+  pub next : (base : ℕ) → message_from base true (placed_from base parts) ≡ Some (message_in base found.first found.count parts)

@@ -4,15 +4,14 @@ ghost use Rattle.std.specs.Prelude.{◌≡◌, ◌↔◌, ◌+◌, ◌-◌, ◌^
 ghost use Rattle.udt_model.specs.ReceiveBlocks.{is_taken, placing_of, after_place, waiting_of, after_bytes, after_skip, next_message as next_of, after_read_message};
 
 use crate::OutOfMemory;
-use crate::answers::{Got, Placed};
+use crate::answers::Got;
 use crate::copies::copy_out;
 use crate::head::{Head, MISSING};
 use crate::marks::Marks;
 use crate::messages::next_message;
 use std::alloc::Global;
 use std::marker::Model;
-use udt_model::Flags;
-use udt_ranges::{LinkedRanges, Range};
+use udt_model::{Flags, Placed};
 use udt_ring::Ring;
 
 /// The blocks of a receiver, from their arrival until their bytes are read. It takes all its memory
@@ -25,8 +24,6 @@ pub struct RcvBuffer {
     ring: Ring<Head>,
     base: u64,
     marks: Marks,
-    // the offsets of all parts that are used
-    taken: LinkedRanges<()>,
 }
 
 impl Model for RcvBuffer {
@@ -42,7 +39,8 @@ impl Model for RcvBuffer {
 }
 
 impl RcvBuffer {
-    ghost use Rattle.udt_rcv_buffer.specs.Answers.{placed_as, got_of, shown_in};
+    ghost use Rattle.udt_rcv_buffer.specs.Answers.{got_of, shown_in};
+    ghost use Rattle.udt_rcv_buffer.specs.Moves.{BaseMoves, none, range_of};
     ghost use Rattle.udt_rcv_buffer.specs.Room.{KeepsRoom};
 
     /// Takes the memory of this many blocks with this many bytes each. `start` is the first offset.
@@ -66,23 +64,24 @@ impl RcvBuffer {
             given: 0,
             run: 0,
             bytes: 0,
+            top: 0,
         };
-        let taken = LinkedRanges::new(alloc, blocks, ())?;
         Ok(RcvBuffer {
             ring,
             base: start,
             marks,
-            taken,
         })
     }
 
     /// Places a block at its offset, where there is none yet and there is room for it.
+    #[inline(always)]
     pub fn place(&mut self, offset: u64, flags: Flags, bytes: &[u8]) -> Placed
         requires some { 0 < length bytes.now }
         requires short { length bytes.now ≤ self.old.payload }
         requires limit { offset < 2 ^ 62 }
-        ensures value { result ≡ placed_as (placing_of self.old offset) }
+        ensures value { result ≡ placing_of self.old offset }
         ensures next { self.new ≡ after_place self.old offset flags bytes.now }
+        ensures base { BaseMoves none self.old self.new }
         ensures kept { KeepsRoom self.old self.new }
     {
         if offset < self.base {
@@ -102,12 +101,8 @@ impl RcvBuffer {
             flags,
         };
         self.ring.put(place, head, bytes);
+        self.marks.top = self.marks.top.max(place + 1);
         self.marks.extend(&self.ring);
-        self.taken.insert(Range {
-            first: offset,
-            last: offset,
-            tag: (),
-        });
         Placed::New
     }
 
@@ -118,13 +113,14 @@ impl RcvBuffer {
         ensures into { into.new ≡ take result (waiting_of self.old) ++ drop result into.old }
         ensures next { self.new ≡ after_bytes self.old result }
         ensures rest { waiting_of self.new ≡ drop result (waiting_of self.old) }
+        ensures nothing { result ≡ 0 → self.new ≡ self.old }
+        ensures base { BaseMoves none self.old self.new }
         ensures kept { KeepsRoom self.old self.new }
     {
         let count = into.len().min(self.marks.bytes - self.marks.given);
         copy_out(&self.ring, 0, self.marks.given, count, into);
         self.marks.given += count;
-        self.marks
-            .settle(&mut self.ring, &mut self.taken, &mut self.base);
+        self.marks.settle(&mut self.ring, &mut self.base);
         count
     }
 
@@ -133,25 +129,19 @@ impl RcvBuffer {
         ensures value { result ≡ got_of (length into.old) (next_of self.old) }
         ensures into { into.new ≡ shown_in into.old (next_of self.old) }
         ensures next { self.new ≡ after_read_message self.old (length into.old) }
+        ensures base { BaseMoves none self.old self.new }
         ensures kept { KeepsRoom self.old self.new }
     {
-        let Some(found) = next_message(&self.ring, &self.taken, self.base) else {
+        let Some(found) = next_message(&self.ring, self.marks.top) else {
             return Got::Nothing;
         };
         if found.len > into.len() {
             return Got::TooLarge(found.len);
         }
         copy_out(&self.ring, found.first, 0, found.len, into);
-        self.marks.consume(
-            &mut self.ring,
-            &mut self.taken,
-            self.base,
-            found.first,
-            found.count,
-        );
+        self.marks.consume(&mut self.ring, found.first, found.count);
         self.marks.extend(&self.ring);
-        self.marks
-            .settle(&mut self.ring, &mut self.taken, &mut self.base);
+        self.marks.settle(&mut self.ring, &mut self.base);
         Got::Whole(found.len)
     }
 
@@ -160,6 +150,7 @@ impl RcvBuffer {
         requires within { last < self.old.base + self.old.capacity }
         requires limit { last < 2 ^ 62 }
         ensures next { self.new ≡ after_skip self.old first last }
+        ensures base { BaseMoves (range_of first last) self.old self.new }
         ensures kept { KeepsRoom self.old self.new }
     {
         let from = first.max(self.base);
@@ -168,11 +159,9 @@ impl RcvBuffer {
         }
         let place = (from - self.base) as usize;
         let count = (last - from) as usize + 1;
-        self.marks
-            .consume(&mut self.ring, &mut self.taken, self.base, place, count);
+        self.marks.consume(&mut self.ring, place, count);
         self.marks.extend(&self.ring);
-        self.marks
-            .settle(&mut self.ring, &mut self.taken, &mut self.base);
+        self.marks.settle(&mut self.ring, &mut self.base);
     }
 
     /// How many bytes wait to be read.
@@ -186,7 +175,7 @@ impl RcvBuffer {
     pub fn readable(&self) -> bool
         ensures { IsTrue result ↔ IsSome (next_of self.now) }
     {
-        next_message(&self.ring, &self.taken, self.base).is_some()
+        next_message(&self.ring, self.marks.top).is_some()
     }
 
     /// The first offset that isn't consumed.

@@ -11,11 +11,11 @@ mod messages;
 #[cfg(test)]
 mod tests;
 
-pub use answers::{Got, Placed};
+pub use answers::Got;
 pub use buffer::RcvBuffer;
 pub use laws::{base_moves, shown_is_whole};
 use std::alloc::AllocError;
-pub use udt_model::Flags;
+pub use udt_model::{Flags, Placed};
 
 /// Memory ran out.
 #[derive(Clone, Copy, Debug, PartialEq, Eq)]
@@ -23,12 +23,6 @@ pub struct OutOfMemory;
 
 impl From<AllocError> for OutOfMemory {
     fn from(_error: AllocError) -> Self {
-        OutOfMemory
-    }
-}
-
-impl From<udt_ranges::OutOfMemory> for OutOfMemory {
-    fn from(_error: udt_ranges::OutOfMemory) -> Self {
         OutOfMemory
     }
 }

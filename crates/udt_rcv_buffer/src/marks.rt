@@ -4,16 +4,16 @@ ghost use Rattle.std.specs.Prelude.{◌≤◌, length, IfSome, IfNone};
 ghost use Rattle.udt_rcv_buffer.specs.PlacedParts.{IsPassed, HasLeft};
 
 use crate::head::{CONSUMED, Head, MISSING};
-use udt_ranges::{LinkedRanges, Range};
 use udt_ring::Ring;
 
-/// How many bytes of the first part's block were given; and how many parts from the first on are
-/// used, without a gap, and their bytes.
-#[derive(Drop)]
+/// How many bytes of the first part's block were given; how many parts from the first on are used,
+/// without a gap, and their bytes; and the place of the highest part that is used, plus one.
+#[derive(Clone, Copy)]
 pub struct Marks {
     pub given: usize,
     pub run: usize,
     pub bytes: usize,
+    pub top: usize,
 }
 
 // The bytes of the first part, where it is in the run and all of them were given.
@@ -33,20 +33,20 @@ fn passed(ring: &Ring<Head>, run: usize, given: usize) -> Option<usize>
 }
 
 impl Marks {
-    ghost use Rattle.std.specs.Prelude.{◌≡◌, ◌+◌, ◌^◌, ◌<◌, ◌≤◌, length, if◌then◌else◌, nat_eq};
+    ghost use Rattle.std.specs.Prelude.{◌≡◌, ◌+◌, ◌^◌, ◌<◌, ◌≤◌, max, length, if◌then◌else◌, nat_eq};
     ghost use Rattle.udt_model.specs.ReceiveBlocks.{beginning};
     ghost use Rattle.udt_rcv_buffer.specs.PlacedParts.{placed_from, consume_parts, IsSettled};
     ghost use Rattle.udt_rcv_buffer.specs.Marked.{IsMarked, EndsRun};
-    ghost use Rattle.udt_rcv_buffer.specs.Taken.{HoldsTaken};
 
     /// Goes on with the run, where it has become longer.
     pub fn extend(&mut self, ring: &Ring<Head>)
         requires { IsMarked self.old ring.now.list }
         ensures marked { IsMarked self.new ring.now.list }
         ensures run { EndsRun self.new.run ring.now.list }
-        ensures kept { self.new.given ≡ self.old.given }
+        ensures given { self.new.given ≡ self.old.given }
+        ensures top { self.new.top ≡ self.old.top }
     {
-        while self.run < ring.count() {
+        while self.run < self.top {
             let (head, bytes) = ring.part(self.run);
             if !head.used {
                 break;
@@ -56,27 +56,18 @@ impl Marks {
         }
     }
 
-    /// Consumes this many parts from a place on, where the first part has the base.
-    pub fn consume(
-        &mut self,
-        ring: &mut Ring<Head>,
-        taken: &mut LinkedRanges<()>,
-        base: u64,
-        at: usize,
-        count: usize,
-    )
+    /// Consumes this many parts from a place on.
+    pub fn consume(&mut self, ring: &mut Ring<Head>, at: usize, count: usize)
         requires marked { IsMarked self.old ring.old.list }
-        requires held { HoldsTaken taken.old base ring.old.list }
-        requires some { 0 < count }
         requires within { at + count ≤ length ring.old.list }
         requires few { length ring.old.list ≤ 2 ^ 32 }
-        requires limit { base + at + count ≤ 2 ^ 62 }
         ensures list { ring.new.list ≡ consume_parts at count ring.old.list }
         ensures room { ring.new.room ≡ ring.old.room }
         ensures marked { IsMarked self.new ring.new.list }
-        ensures held { HoldsTaken taken.new base ring.new.list }
         ensures given { self.new.given ≡ (if nat_eq at 0 then 0 else self.old.given) }
+        ensures top { self.new.top ≡ max self.old.top (at + count) }
     {
+        self.top = self.top.max(at + count);
         for i in 0..count {
             let place = at + i;
             let (_, bytes) = ring.part(place);
@@ -88,21 +79,14 @@ impl Marks {
         if at == 0 {
             self.given = 0;
         }
-        let first = base + at as u64;
-        taken.insert(Range {
-            first,
-            last: first + (count as u64 - 1),
-            tag: (),
-        });
     }
 
     /// Frees the first parts, as far as all their bytes were given, and counts the base on.
-    pub fn settle(&mut self, ring: &mut Ring<Head>, taken: &mut LinkedRanges<()>, base: &mut u64)
+    pub fn settle(&mut self, ring: &mut Ring<Head>, base: &mut u64)
         requires marked { IsMarked self.old ring.old.list }
         requires run { EndsRun self.old.run ring.old.list }
         requires given { self.old.given ≤ self.old.bytes }
-        requires held { HoldsTaken taken.old base.old ring.old.list }
-        requires limit { base.old ≤ 2 ^ 62 }
+        requires limit { base.old + self.old.top ≤ 2 ^ 62 }
         ensures front { beginning base.old self.old.given (placed_from base.old ring.old.list)
             ≡ record {
               base = base.new;
@@ -112,22 +96,22 @@ impl Marks {
         ensures marked { IsMarked self.new ring.new.list }
         ensures run { EndsRun self.new.run ring.new.list }
         ensures settled { IsSettled self.new.given ring.new.list }
-        ensures held { HoldsTaken taken.new base.new ring.new.list }
-        ensures limit { base.new ≤ 2 ^ 62 }
+        ensures limit { base.new + self.new.top ≤ 2 ^ 62 }
         ensures len { length ring.new.list ≡ length ring.old.list }
         ensures room { ring.new.room ≡ ring.old.room }
     {
-        let from = *base;
-        while let Some(len) = passed(ring, self.run, self.given) {
-            ring.put(0, MISSING, &[]);
-            ring.turn(1);
-            *base += 1;
-            self.given -= len;
-            self.run -= 1;
-            self.bytes -= len;
+        // (copies, which stay in registers from part to part)
+        let mut marks = *self;
+        let mut first = *base;
+        while let Some(len) = passed(ring, marks.run, marks.given) {
+            ring.turn(1, MISSING);
+            first += 1;
+            marks.given -= len;
+            marks.run -= 1;
+            marks.bytes -= len;
+            marks.top -= 1;
         }
-        if from < *base {
-            taken.cut(from, *base - 1);
-        }
+        *self = marks;
+        *base = first;
     }
 }

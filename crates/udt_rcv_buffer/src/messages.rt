@@ -1,13 +1,11 @@
-// Finding the message that is read next: one walk over the parts that are used, range by range.
+// Finding the message that is read next: one walk over the parts, from the first to the highest used.
 
-ghost use Rattle.std.specs.Prelude.{◌≡◌, ◌+◌, ◌^◌, ◌<◌, ◌≤◌, length, IfSome, IfNone, None, true, if◌then◌else◌};
+ghost use Rattle.std.specs.Prelude.{◌≡◌, ℕ, ◌+◌, ◌^◌, ◌<◌, ◌≤◌, length, drop, All, IfSome, IfNone, None, true, if◌then◌else◌};
 ghost use Rattle.udt_model.specs.ReceiveBlocks.{message_from};
-ghost use Rattle.udt_rcv_buffer.specs.PlacedParts.{placed_from};
-ghost use Rattle.udt_rcv_buffer.specs.Taken.{HoldsTaken, AreUsed};
-ghost use Rattle.udt_rcv_buffer.specs.Messages.{begins, begun_then, MayHaveBegun, IsNext, Ends, GoesOn};
+ghost use Rattle.udt_rcv_buffer.specs.PlacedParts.{placed_from, IsUnused};
+ghost use Rattle.udt_rcv_buffer.specs.Messages.{begins, begun_then, IsFound};
 
 use crate::head::Head;
-use udt_ranges::LinkedRanges;
 use udt_ring::Ring;
 
 /// A message of which all blocks so far stand one after another: the part of its first block, its
@@ -64,61 +62,27 @@ fn ended(begun: Option<Begun>, head: Head) -> Option<Begun>
     if head.flags.last { begun } else { None }
 }
 
-// Passes the parts of a range, and gives the message that ends among them.
-fn pass(
-    ring: &Ring<Head>,
-    from: usize,
-    to: usize,
-    gapless: bool,
-    begun: &mut Option<Begun>,
-) -> Option<Found>
-    requires order { from ≤ to }
-    requires within { to ≤ length ring.now.list }
-    requires used { AreUsed from to ring.now.list }
-    requires begun { MayHaveBegun begun.old from ring.now.list }
-    ensures some { IfSome result
-        (λ found. Ends found from to gapless begun.old ring.now.list) }
+/// The message that is read next. No part from the top on is used.
+pub fn next_message(ring: &Ring<Head>, top: usize) -> Option<Found>
+    requires top { top ≤ length ring.now.list }
+    requires unused { All IsUnused (drop top ring.now.list) }
+    ensures some { IfSome result (λ found. IsFound found top ring.now.list) }
     ensures none { IfNone result
-        (GoesOn from to gapless begun.old begun.new ring.now.list) }
+        ((base : ℕ) → message_from base true (placed_from base ring.now.list) ≡ None) }
 {
-    for i in from..to {
+    let mut begun = None;
+    let mut gapless = true;
+    for i in 0..top {
         let (head, bytes) = ring.part(i);
-        *begun = go_on(*begun, head, i, bytes.len(), gapless);
-        if let Some(b) = ended(*begun, head) {
+        gapless &= head.used;
+        begun = go_on(begun, head, i, bytes.len(), gapless);
+        if let Some(b) = ended(begun, head) {
             return Some(Found {
                 first: b.first,
                 count: i + 1 - b.first,
                 len: b.len,
             });
         }
-    }
-    None
-}
-
-/// The message that is read next. The first part has the base, and `taken` the offsets of the parts
-/// that are used. A gap between two ranges is passed in one step.
-pub fn next_message(ring: &Ring<Head>, taken: &LinkedRanges<()>, base: u64) -> Option<Found>
-    requires held { HoldsTaken taken.now base ring.now.list }
-    ensures some { IfSome result (λ found. IsNext found base ring.now.list) }
-    ensures none { IfNone result (message_from base true (placed_from base ring.now.list) ≡ None) }
-    ensures limit { IfSome result (λ found. base + found.first + found.count ≤ 2 ^ 62) }
-{
-    let mut cursor = None;
-    let mut at = 0;
-    let mut gapless = true;
-    let mut begun = None;
-    while let Some(range) = taken.next_range(cursor) {
-        let first = (range.first - base) as usize;
-        let end = (range.last - base) as usize + 1;
-        if at < first {
-            gapless = false;
-            begun = None;
-        }
-        if let Some(found) = pass(ring, first, end, gapless, &mut begun) {
-            return Some(found);
-        }
-        cursor = Some(range.first);
-        at = end;
     }
     None
 }

@@ -67,8 +67,8 @@ impl Ranges {
         (ends.first, ends.last)
     }
 
-    // takes out all ranges
-    pub(crate) fn clear(&mut self)
+    /// Takes out all ranges.
+    pub fn clear(&mut self)
         ensures { self.new ≡ record self.old { ranges = [] } }
     {
         self.ends.clear();

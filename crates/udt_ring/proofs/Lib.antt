@@ -1,4 +1,5 @@
 pub mod TurnLemmas
 pub mod JoinedLemmas
 pub mod PartLemmas
+pub mod SlotLemmas
 pub mod RingLemmas

@@ -1,108 +1,107 @@
 -- Where a part lies in memory, and what writing one changes.
-use Rattle.std.proofs.Common.{◌≡◌, ℕ, replicate, zero, suc, ◌+◌, ◌*◌, ◌<◌, ◌≤◌, List, [], ◌∷◌, ◌++◌, length, take, drop, set, Some, refl, ap, arith}
+use Rattle.std.proofs.Common.{◌≡◌, ◌≢◌, ℕ, zero, suc, ◌+◌, ◌*◌, ◌<◌, ◌≤◌, List, [], ◌∷◌, ◌++◌, map, length, take, drop, set, Some, refl, ap, ◌∙◌, sym, arith, inl, inr}
 use Rattle.std.specs.Prelude.{slice_get, All}
-use Rattle.std.proofs.lemmas.List.{length-take, length-drop, length-append, take_at, drop-drop, drop-take, take-take, take-append-le, drop-append-le}
+use Rattle.std.proofs.Math.Nat.{mul-le-mul_right}
+use Rattle.std.proofs.lemmas.Bool.{cases_lt}
+use Rattle.std.proofs.lemmas.List.{length-take, length-append, take_at, drop_at, drop-take, take-take, take-append-le, drop-append-le, map-set}
 use Rattle.std.proofs.lemmas.List.Elements.{All-nil, All-cons, All-head, All-tail}
 use Rattle.std.proofs.lemmas.Slice.{drop-append-drop}
 use Rattle.udt_ring.specs.declared.ring.Place.{Place}
-use Rattle.udt_ring.specs.Parts.{Part, empty_part}
-use Rattle.udt_ring.specs.Rings.{parts_in}
+use Rattle.udt_ring.specs.Parts.{Part}
+use Rattle.udt_ring.specs.Rings.{part_in, parts_in, AreShort}
 
--- each place lies within the memory of all
-pub place_within : (count room place : ℕ) → place < count → place * room + room ≤ count * room
-place_within zero room place lt = absurd (omega (arith, lt))
-place_within (suc count) room zero lt = omega arith
-place_within (suc count) room (suc place) lt =
-    let before = place_within count room place (omega (arith, lt)) in
-    let one : suc place * room ≡ room + place * room = omega arith in
-    let other : suc count * room ≡ room + count * room = omega arith in
-    omega (arith, before, one, other)
+-- a slot ends where the next one begins, or before
+pub slot_before : (slot other room : ℕ) → slot < other → slot * room + room ≤ other * room
+slot_before slot other room lt =
+    let one : suc slot * room ≡ room + slot * room = omega arith in
+    let le : suc slot * room ≤ other * room = mul-le-mul_right room (omega (arith, lt)) in
+    omega (arith, one, le)
 
--- the memory with other bytes at a place
+-- ---- other bytes in memory
+
+-- the memory with other bytes from here on
 over : ℕ → List ℕ → List ℕ → List ℕ
 over at bytes memory = take at memory ++ bytes ++ drop (at + length bytes) memory
 
--- in the part after the first, the write is this many bytes nearer
-drop-over : (room at : ℕ) (bytes memory : List ℕ) → room + at ≤ length memory → drop room (over (room + at) bytes memory) ≡ over at bytes (drop room memory)
+-- the first this many bytes, where they end before the others begin
+take-over : (n at : ℕ) (bytes memory : List ℕ) → n ≤ at → at ≤ length memory → take n (over at bytes memory) ≡ take n memory
 unfolding over
-drop-over room at bytes memory le =
-    let len : room ≤ length (take (room + at) memory ++ bytes) = omega (arith, le, length-append (take (room + at) memory) bytes, length-take (room + at) memory) in
-    let len' : room ≤ length (take (room + at) memory) = omega (arith, le, length-take (room + at) memory) in
-    let back : drop (room + at + length bytes) memory ≡ drop (at + length bytes) (drop room memory) =
-    let e : room + (at + length bytes) ≡ room + at + length bytes = omega arith in
-    rw (drop-drop (at + length bytes) room memory, e) refl in
-    rw (drop-append-le room (take (room + at) memory ++ bytes) (drop (room + at + length bytes) memory) len, drop-append-le room (take (room + at) memory) bytes len', drop-take room at memory, back) refl
+take-over n at bytes memory le within =
+    let short : n ≤ length (take at memory) = omega (arith, le, within, length-take at memory) in
+    let long : n ≤ length (take at memory ++ bytes) = omega (arith, short, length-append (take at memory) bytes) in
+    rw (take-append-le n (take at memory ++ bytes) (drop (at + length bytes) memory) long, take-append-le n (take at memory) bytes short) (take-take n at memory le)
 
--- and the first part keeps its bytes
-take-over : (room at len : ℕ) (bytes memory : List ℕ) → room + at ≤ length memory → len ≤ room → take len (over (room + at) bytes memory) ≡ take len memory
+-- so bytes that end there stay as they are ..
+over-before : (from len at : ℕ) (bytes memory : List ℕ) → from + len ≤ at → at ≤ length memory → take len (drop from (over at bytes memory)) ≡ take len (drop from memory)
+over-before from len at bytes memory le within =
+    sym (drop-take from len (over at bytes memory)) ∙ ap (drop from) (take-over (from + len) at bytes memory le within) ∙ drop-take from len memory
+
+-- .. and so do those that begin after them
+over-after : (from at : ℕ) (bytes memory : List ℕ) → at + length bytes ≤ from → at ≤ length memory → drop from (over at bytes memory) ≡ drop from memory
 unfolding over
-take-over room at len bytes memory le short =
-    let long : len ≤ length (take (room + at) memory) = omega (arith, le, short, length-take (room + at) memory) in
-    let long' : len ≤ length (take (room + at) memory ++ bytes) = omega (arith, long, length-append (take (room + at) memory) bytes) in
-    rw (take-append-le len (take (room + at) memory ++ bytes) (drop (room + at + length bytes) memory) long', take-append-le len (take (room + at) memory) bytes long)
-    (take-take len (room + at) memory (omega (arith, short)))
+over-after from at bytes memory le within =
+    drop-append-drop (at + length bytes) memory (take at memory ++ bytes) from le (omega (arith, length-append (take at memory) bytes, length-take at memory, within))
+
+-- the others themselves stand there
+over-at : (at : ℕ) (bytes memory : List ℕ) → at ≤ length memory → take (length bytes) (drop at (over at bytes memory)) ≡ bytes
+unfolding over
+over-at at bytes memory within =
+    let len : length (take at memory) ≡ at = omega (arith, length-take at memory, within) in
+    let long : at ≤ length (take at memory ++ bytes) = omega (arith, len, length-append (take at memory) bytes) in
+    rw (drop-append-le at (take at memory ++ bytes) (drop (at + length bytes) memory) long, drop_at (take at memory) bytes at len)
+    (take_at bytes (drop (at + length bytes) memory) (length bytes) refl)
+
+-- ---- one part is written
+
+-- where two functions agree on all elements but one, so do their results with something else for that one
+set-map_agree : {A B : Type 0} (f g : A → B) (xs : List A) (k : ℕ) (y : B) → ((j : ℕ) (x : A) → slice_get xs j ≡ Some x → j ≢ k → f x ≡ g x) → set (map f xs) k y ≡ set (map g xs) k y
+set-map_agree f g [] k y agree = refl
+set-map_agree {A = A} f g (x ∷ xs) zero y agree = ap (λ ys. y ∷ ys) (map_agree xs (λ j z found. agree (suc j) z found (λ e. absurd (omega (arith, e)))))
+  where
+    map_agree : (zs : List A) → ((j : ℕ) (z : A) → slice_get zs j ≡ Some z → f z ≡ g z) → map f zs ≡ map g zs
+    map_agree [] all = refl
+    map_agree (z ∷ zs) all = rw (all zero z refl, map_agree zs (λ j w found. all (suc j) w found)) refl
+set-map_agree f g (x ∷ xs) (suc k) y agree =
+    rw (agree zero x refl (λ e. absurd (omega (arith, e))), set-map_agree f g xs k y (λ j z found differs. agree (suc j) z found (λ e. differs (omega (arith, e))))) refl
 
 module _ {H : Type 0} where
-  -- there are as many parts as places
-  pub length-parts_in : (room : ℕ) (places : List (Place H)) (memory : List ℕ) → length (parts_in room places memory) ≡ length places
-  unfolding parts_in
-  length-parts_in room [] memory = refl
-  length-parts_in room (place ∷ places) memory = ap suc (length-parts_in room places (drop room memory))
+  -- a part keeps its bytes, where others are written into another slot
+  part_in-kept : (room slots slot : ℕ) (bytes memory : List ℕ) (place : Place H) → length memory ≡ slots * room → slot < slots → length bytes ≤ room
+      → place.len ≤ room → place.slot < slots → place.slot ≢ slot → part_in room (over (slot * room) bytes memory) place ≡ part_in room memory place
+  part_in-kept room slots slot bytes memory place len lt short here below differs =
+      let end = slot_before slot slots room lt in
+      let within : slot * room ≤ length memory = omega (arith, end, len) in
+      let kept : take place.len (drop (place.slot * room) (over (slot * room) bytes memory)) ≡ take place.len (drop (place.slot * room) memory) =
+      elim (cases_lt place.slot slot) [
+        | inl before ↦ over-before (place.slot * room) place.len (slot * room) bytes memory (omega (arith, slot_before place.slot slot room before, here)) within
+        | inr from ↦
+            let after : slot < place.slot = omega (arith, from, differs) in
+            ap (take place.len) (over-after (place.slot * room) (slot * room) bytes memory (omega (arith, slot_before slot place.slot room after, short)) within)
+      ] in
+      ap (λ (bs : List ℕ). let part : Part H = record { head = place.head; bytes = bs } in part) kept
 
-  -- a part's bytes begin after the memory of the places before it
-  pub get-parts_in : (room : ℕ) (places : List (Place H)) (memory : List ℕ) (k : ℕ) (place : Place H) → slice_get places k ≡ Some place
-      → slice_get (parts_in room places memory) k ≡ Some (record { head = place.head; bytes = take place.len (drop (k * room) memory) })
-  unfolding parts_in
-  get-parts_in room [] memory k place there = absurd cc
-  get-parts_in room (first ∷ places) memory zero place there =
-      let same : first ≡ place = cc in
-      let none : 0 * room ≡ 0 = omega arith in
-      rw (none, ← same) refl
-  get-parts_in room (first ∷ places) memory (suc k) place there =
-      let one : suc k * room ≡ room + k * room = omega arith in
-      rw (one, ← drop-drop (k * room) room memory) (get-parts_in room places (drop room memory) k place there)
-
-  -- writing one part changes that part alone
-  put-parts_in : (room : ℕ) (places : List (Place H)) (memory : List ℕ) (k : ℕ) (head : H) (bytes : List ℕ)
-      → All (λ place. place.len ≤ room) places → k < length places → length bytes ≤ room → length memory ≡ length places * room
-      → parts_in room (set places k (record { head = head; len = length bytes })) (over (k * room) bytes memory)
-      ≡ set (parts_in room places memory) k (record { head = head; bytes = bytes })
-  unfolding parts_in over
-  put-parts_in room [] memory k head bytes sound lt short len = absurd (omega (arith, lt))
-  put-parts_in room (first ∷ places) memory zero head bytes sound lt short len =
-      let none : 0 * room ≡ 0 = omega arith in
-      let none' : 0 + length bytes ≡ length bytes = omega arith in
-      rw (none, none', take_at bytes (drop (length bytes) memory) (length bytes) refl, drop-append-drop (length bytes) memory bytes room short refl) refl
-  put-parts_in room (first ∷ places) memory (suc k) head bytes sound lt short len =
-      let one : suc k * room ≡ room + k * room = omega arith in
-      let all : suc (length places) * room ≡ room + length places * room = omega arith in
-      let before = place_within (length places) room k (omega (arith, lt)) in
-      let le : room + k * room ≤ length memory = omega (arith, before, all, len) in
-      let here : first.len ≤ room = All-head (λ (place : Place H). place.len ≤ room) first places sound in
-      let rest = put-parts_in room places (drop room memory) k head bytes (All-tail (λ (place : Place H). place.len ≤ room) first places sound) (omega (arith, lt)) short (omega (arith, len, all, length-drop room memory)) in
-      let moved = drop-over room (k * room) bytes memory le in
-      let kept = take-over room (k * room) first.len bytes memory le here in
-      rw (one, moved, kept, rest) refl
-
-  -- the same, as the memory is written
-  pub written-parts_in : (room : ℕ) (places : List (Place H)) (memory : List ℕ) (k : ℕ) (head : H) (bytes : List ℕ)
-      → All (λ place. place.len ≤ room) places → k < length places → length bytes ≤ room → length memory ≡ length places * room
-      → parts_in room (set places k (record { head = head; len = length bytes })) (take (k * room) memory ++ bytes ++ drop (k * room + length bytes) memory)
-      ≡ set (parts_in room places memory) k (record { head = head; bytes = bytes })
+  -- writing the part of one place changes that part alone
+  pub written-parts_in : (room slots : ℕ) (places : List (Place H)) (memory : List ℕ) (k : ℕ) (head : H) (slot : ℕ) (bytes : List ℕ)
+      → length memory ≡ slots * room → slot < slots → length bytes ≤ room
+      → ((j : ℕ) (place : Place H) → slice_get places j ≡ Some place → j ≢ k → (place.len ≤ room) × (place.slot < slots) × (place.slot ≢ slot))
+      → parts_in room (take (slot * room) memory ++ bytes ++ drop (slot * room + length bytes) memory) (set places k (record { head = head; len = length bytes; slot = slot }))
+      ≡ set (parts_in room memory places) k (record { head = head; bytes = bytes })
   unfolding over
-  written-parts_in room places memory k head bytes sound lt short len = put-parts_in room places memory k head bytes sound lt short len
+  written-parts_in room slots places memory k head slot bytes len lt short others =
+      let with : Place H = record { head = head; len = length bytes; slot = slot } in
+      let part : Part H = record { head = head; bytes = bytes } in
+      let end = slot_before slot slots room lt in
+      let own : part_in room (over (slot * room) bytes memory) with ≡ part =
+      ap (λ (bs : List ℕ). let p : Part H = record { head = head; bytes = bs } in p) (over-at (slot * room) bytes memory (omega (arith, end, len))) in
+      map-set (part_in room (over (slot * room) bytes memory)) places k with
+      ∙ ap (set (map (part_in room (over (slot * room) bytes memory)) places) k) own
+      ∙ set-map_agree (part_in room (over (slot * room) bytes memory)) (part_in room memory) places k part
+      (λ j place found differs. let o = others j place found differs in part_in-kept room slots slot bytes memory place len lt short o.0 o.1 o.2)
 
   -- no part has more bytes than there is room for
-  pub parts_in-short : (room : ℕ) (places : List (Place H)) (memory : List ℕ) → All (λ place. place.len ≤ room) places → All (λ part. length part.bytes ≤ room) (parts_in room places memory)
-  unfolding parts_in
-  parts_in-short room [] memory short = All-nil (λ (part : Part H). length part.bytes ≤ room)
-  parts_in-short room (place ∷ places) memory short =
+  pub parts_in-short : (room : ℕ) (memory : List ℕ) (places : List (Place H)) → AreShort room places → All (λ part. length part.bytes ≤ room) (parts_in room memory places)
+  parts_in-short room memory [] short = All-nil (λ (part : Part H). length part.bytes ≤ room)
+  parts_in-short room memory (place ∷ places) short =
       let here : place.len ≤ room = All-head (λ (place : Place H). place.len ≤ room) place places short in
-      All-cons (λ (part : Part H). length part.bytes ≤ room) _ (parts_in room places (drop room memory)) (omega (arith, here, length-take place.len memory))
-      (parts_in-short room places (drop room memory) (All-tail (λ (place : Place H). place.len ≤ room) place places short))
-
-  -- parts of places with no bytes have none
-  pub parts_in-replicate : (room n : ℕ) (head : H) (memory : List ℕ) → parts_in room (replicate n (record { head = head; len = 0 })) memory ≡ replicate n (empty_part head)
-  unfolding parts_in
-  parts_in-replicate room zero head memory = refl
-  parts_in-replicate room (suc n) head memory = rw (parts_in-replicate room n head (drop room memory)) refl
+      All-cons (λ (part : Part H). length part.bytes ≤ room) _ (parts_in room memory places) (omega (arith, here, length-take place.len (drop (place.slot * room) memory)))
+      (parts_in-short room memory places (All-tail (λ (place : Place H). place.len ≤ room) place places short))

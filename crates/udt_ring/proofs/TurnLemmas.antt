@@ -1,7 +1,7 @@
 -- What is at a place of a list that begins later, and what a change there changes.
-use Rattle.std.proofs.Common.{◌≡◌, ℕ, zero, suc, ◌+◌, ◌-◌, ◌<◌, ◌≤◌, List, [], ◌∷◌, ◌++◌, length, take, drop, set, refl, ap, ◌∙◌, sym, arith, append_assoc}
+use Rattle.std.proofs.Common.{◌≡◌, ℕ, zero, suc, ◌+◌, ◌-◌, ◌<◌, ◌≤◌, List, [], ◌∷◌, ◌++◌, length, take, drop, set, replicate, refl, ap, ◌∙◌, sym, arith, append_assoc}
 use Rattle.std.specs.Prelude.{slice_get}
-use Rattle.std.proofs.lemmas.List.{length-take, length-drop, take-append-drop, drop-drop, drop-append-le, take-append-le, take-take, set-append_left, set-append_right, take-set-le, drop-set-lt, drop-set-add}
+use Rattle.std.proofs.lemmas.List.{length-take, length-drop, length-append, length-replicate, replicate-append-replicate, take-append-drop, drop-drop, drop-append-le, take-append-le, take-take, set-append_left, set-append_right, take-set-le, drop-set-lt, drop-set-add}
 use Rattle.udt_ring.specs.Parts.{turned}
 
 module _ {X : Type 0} where
@@ -96,3 +96,21 @@ module _ {X : Type 0} where
       ap (drop more) (sym (take-append-drop at xs)) ∙ drop-append-le more (take at xs) (drop at xs) (omega (arith, few, within, length-take at xs)) in
       ap (λ (ys : List X). ys ++ take more xs) rest ∙ append_assoc (drop more (take at xs)) (drop at xs) (take more xs)
       ∙ ap (λ (ys : List X). drop more (take at xs) ++ ys) (sym front) ∙ ap (λ (ys : List X). ys ++ take by (turned at xs)) (sym back)
+
+  -- ---- turning past one
+
+  -- the first of a list that isn't empty
+  pub turned_first : (xs : List X) (x : X) → 0 < length xs → turned 1 (set xs 0 x) ≡ drop 1 xs ++ x ∷ []
+  turned_first [] x some = absurd (omega (arith, some))
+  turned_first (y ∷ xs) x some = refl
+
+  -- turning past one more, each with the same in its place
+  pub passed_more : (i : ℕ) (xs : List X) (x : X) → i < length xs → drop 1 (drop i xs ++ replicate i x) ++ x ∷ [] ≡ drop (i + 1) xs ++ replicate (i + 1) x
+  passed_more i xs x lt =
+      let some : 1 ≤ length (drop i xs) = omega (arith, lt, length-drop i xs) in
+      rw (drop-append-le 1 (drop i xs) (replicate i x) some, drop-drop 1 i xs)
+      (append_assoc (drop (i + 1) xs) (replicate i x) (x ∷ []) ∙ ap (λ (ys : List X). drop (i + 1) xs ++ ys) (replicate-append-replicate i 1 x))
+
+  -- there are as many as before
+  pub length-passed : (i : ℕ) (xs : List X) (x : X) → i ≤ length xs → length (drop i xs ++ replicate i x) ≡ length xs
+  length-passed i xs x le = omega (arith, le, length-append (drop i xs) (replicate i x), length-drop i xs, length-replicate i x)

@@ -1,5 +1,5 @@
 -- The parts of a piece of memory, in order.
-use Rattle.std.specs.Prelude.{ℕ, List, [], ◌++◌, take, drop, slice_set, flat_map, refl}
+use Rattle.std.specs.Prelude.{ℕ, List, [], ◌++◌, take, drop, replicate, slice_set, flat_map, refl}
 use Rattle.std.specs.Coded.{Coded, code_by, coded×, coded_ℕ, coded_list}
 
 -- a part: what is known of its bytes, and the bytes
@@ -41,6 +41,6 @@ module _ {H : Type 0} where
   abbrev pub with_part : Parts H → ℕ → H → List ℕ → Parts H
   with_part ring i head bytes = record ring { list = slice_set ring.list i (record { head = head; bytes = bytes }) }
 
-  -- the parts from one this many later on
-  abbrev pub turned_by : ℕ → Parts H → Parts H
-  turned_by by ring = record ring { list = turned by ring.list }
+  -- the parts from one this many later on, where those before come after all others with this head and no bytes
+  abbrev pub turned_by : ℕ → H → Parts H → Parts H
+  turned_by by head ring = record ring { list = drop by ring.list ++ replicate by (empty_part head) }

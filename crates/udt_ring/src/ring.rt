@@ -1,15 +1,20 @@
-// One piece of memory in equal parts, which follow one another as a ring.
+// One piece of memory in equal slots, and places that follow one another as a ring.
 // The part that is first stands at some place, and after the last place comes the first one again.
+// The bytes of a part lie in the slot of its place. A part that gets bytes where it had none takes a
+// slot that was emptied lately, which the processor still has at hand.
 
 ghost use Rattle.std.specs.Prelude.{◌≡◌, ◌+◌, ◌*◌, ◌^◌, ◌<◌, ◌≤◌, ◌++◌, length, take, drop, slice_get, replicate, Some, IfOk};
+ghost use Rattle.udt_ring.specs.Rings.{KeepsParts};
 
 use std::alloc::{AllocError, Global};
 use std::marker::Model;
 
+// What is known of a part, how many bytes it has, and in which slot they lie.
 #[derive(Clone, Copy)]
 struct Place<H> {
     head: H,
-    len: usize,
+    len: u32,
+    slot: u32,
 }
 
 /// Parts with room for this many bytes each. Contracts see the list of the parts from the first one
@@ -20,6 +25,8 @@ pub struct Ring<H> {
     places: Vec<Place<H>>,
     room: usize,
     first: usize,
+    // a place that was emptied lately, if any was
+    hot: usize,
 }
 
 impl<H> Model for Ring<H> {
@@ -54,6 +61,26 @@ fn bytes_at(memory: &[u8], at: usize, len: usize) -> &[u8]
     &memory[at..at + len]
 }
 
+// Lets a place without bytes have the slot of the hinted place, where that has none either, and its
+// own slot goes there. The result is the next hint.
+fn take_slot<H: Copy>(places: &mut [Place<H>], at: usize, hot: usize) -> usize
+    requires at { at < length places.old }
+    requires hot { hot < length places.old }
+    ensures kept { KeepsParts places.old places.new }
+    ensures hint { result < length places.old }
+{
+    let place = places[at];
+    if place.len > 0 {
+        return hot;
+    }
+    let hinted = places[hot];
+    if hinted.len == 0 {
+        places[at].slot = hinted.slot;
+        places[hot].slot = place.slot;
+    }
+    if hot == 0 { places.len() - 1 } else { hot - 1 }
+}
+
 impl<H: Copy> Ring<H> {
     ghost use Rattle.udt_ring.specs.Parts.{empty_part, joined, with_part, turned_by};
     ghost use Rattle.udt_ring.specs.Rings.{following};
@@ -63,16 +90,17 @@ impl<H: Copy> Ring<H> {
         ensures room { IfOk result (λ ring. ring.room ≡ room) }
         ensures list { IfOk result (λ ring. ring.list ≡ replicate count (empty_part head)) }
     {
-        let count = count as usize;
-        let room = room as usize;
-        let memory = vec![in alloc; 0u8; count * room]?;
-        let mut places = Vec::new(alloc);
-        places.resize(count, Place { head, len: 0 })?;
+        let memory = vec![in alloc; 0u8; count as usize * room as usize]?;
+        let mut places = Vec::with_capacity(alloc, count as usize)?;
+        for slot in 0..count {
+            places.push(Place { head, len: 0, slot })?;
+        }
         Ok(Ring {
             memory,
             places,
-            room,
+            room: room as usize,
             first: 0,
+            hot: 0,
         })
     }
 
@@ -89,14 +117,13 @@ impl<H: Copy> Ring<H> {
         requires { i < length self.now.list }
         ensures value { slice_get self.now.list i
             ≡ Some (record { head = result.0; bytes = result.1.now }) }
+        ensures room { length result.1.now ≤ self.now.room }
         ensures fits { length (joined self.now.list) < 2 ^ 64 }
     {
         let at = Self::place_after(self.first, i, self.places.len());
         let place = self.places[at];
-        (
-            place.head,
-            bytes_at(&self.memory, at * self.room, place.len),
-        )
+        let from = place.slot as usize * self.room;
+        (place.head, bytes_at(&self.memory, from, place.len as usize))
     }
 
     /// Gives a part this head and these bytes.
@@ -106,27 +133,43 @@ impl<H: Copy> Ring<H> {
         ensures { self.new ≡ with_part self.old i head bytes.now }
     {
         let at = Self::place_after(self.first, i, self.places.len());
-        write(&mut self.memory, at * self.room, bytes);
-        let len = bytes.len();
-        self.places[at] = Place { head, len };
+        self.hot = take_slot(&mut self.places, at, self.hot);
+        let slot = self.places[at].slot;
+        write(&mut self.memory, slot as usize * self.room, bytes);
+        let len = bytes.len() as u32;
+        self.places[at] = Place { head, len, slot };
     }
 
-    /// Lets the ring begin this many parts later: those before come after all others.
-    pub fn turn(&mut self, by: usize)
+    /// Lets the ring begin this many parts later: those before come after all others, with this head
+    /// and no bytes.
+    pub fn turn(&mut self, by: usize, head: H)
         requires { by ≤ length self.old.list }
-        ensures { self.new ≡ turned_by by self.old }
+        ensures { self.new ≡ turned_by by head self.old }
     {
-        self.first = Self::place_after(self.first, by, self.places.len());
+        for passed in 0..by {
+            self.pass(head);
+        }
+    }
+
+    // Lets the ring begin one part later.
+    fn pass(&mut self, head: H)
+        requires { 0 < length self.old.list }
+        ensures { self.new ≡ turned_by 1 head self.old }
+    {
+        let at = self.first;
+        let slot = self.places[at].slot;
+        self.places[at] = Place { head, len: 0, slot };
+        self.first = Self::place_after(at, 1, self.places.len());
+        self.hot = at;
     }
 
     // The place that is this many after this one, of this many.
     fn place_after(place: usize, by: usize, places: usize) -> usize
-        requires place { place ≤ places }
+        requires place { place < places }
         requires by { by ≤ places }
         requires few { places ≤ 2 ^ 32 }
         ensures value { result ≡ following place by places }
-        ensures within { result ≤ places }
-        ensures below { by < places → result < places }
+        ensures within { result < places }
     {
         let place = place + by;
         if place < places {

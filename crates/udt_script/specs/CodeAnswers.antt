@@ -18,4 +18,5 @@ reply_of (code.Received answer) = model.Received (read_of answer)
 reply_of (code.Packed answer) = model.DidPack answer
 reply_of code.Ticked = model.DidTick
 reply_of code.Closed = model.DidClose
+reply_of (code.Measured answer) = model.DidMeasure answer
 reply_of (code.Heard answer) = model.DidHear answer

@@ -1,7 +1,7 @@
 -- The code's lines, as the definitions of the script language see them.
 use Rattle.std.specs.Prelude.{◌≤◌, ◌<◌, ◌^◌}
 use Rattle.udt_model.specs.declared.limits.TheConstants.{MOST_PAYLOAD, FEWEST_BLOCKS, MOST_BLOCKS, LAST_START, LAST_MOMENT}
-use Rattle.udt_model.specs.Events.{Act, Send, Recv, Pack, Tick, Close}
+use Rattle.udt_model.specs.Events.{Act, Send, Recv, Pack, Tick, Close, Measure, event}
 use Rattle.udt_model.specs.Network.{ScriptDatagram as ModelDatagram}
 use Rattle.udt_model.specs.Lines as model
 use Rattle.udt_script.specs.declared.lines.Call.{Call}
@@ -33,12 +33,13 @@ act_of (code_call.Recv room) = Recv room
 act_of code_call.Pack = Pack
 act_of code_call.Tick = Tick
 act_of code_call.Close = Close
+act_of code_call.Perf = Measure
 
 -- a line without where its parts lie in memory
 abbrev pub line_of : Line → model.Line
 line_of code.Silent = model.Silent
 line_of (code.Pair pairing) = model.PairLine (pairing_of pairing)
-line_of (code.Call name now call) = model.CallLine name.now (record { now = now; act = act_of call })
+line_of (code.Call name now call) = model.CallLine name.now (event now (act_of call))
 line_of (code.Deliver number now) = model.DeliverLine number now
 line_of (code.Raw now datagram) = model.RawLine now (datagram_of datagram)
 
@@ -58,6 +59,7 @@ IsRoomy (code_call.Recv room) = room ≤ 65536
 IsRoomy code_call.Pack = Unit {0}
 IsRoomy code_call.Tick = Unit {0}
 IsRoomy code_call.Close = Unit {0}
+IsRoomy code_call.Perf = Unit {0}
 
 -- each number of the line lies in its range
 abbrev pub IsInRange : Line → Type 0

@@ -4,9 +4,11 @@ ghost use Rattle.std.specs.Prelude.{◌≡◌, ◌++◌, ◌<◌, take, vec_len,
 ghost use Rattle.std.specs.List.{flat_map};
 ghost use Rattle.udt_model.specs.Words as spec;
 ghost use Rattle.udt_model.specs.Words.{hex_pairs, hex_word};
-ghost use Rattle.udt_model.specs.Texts.{spaced, ended};
+ghost use Rattle.udt_model.specs.Texts.{spaced, ended, counted, path_text, blocks_text, others_text, perf_text};
 
+use itoa::Buffer;
 use std::alloc::AllocError;
+use udt_model::Perf;
 
 /// Adds the pieces, one after the other.
 pub fn append(out: &mut Vec<u8>, pieces: &[&[u8]]) -> Result<(), AllocError>
@@ -32,6 +34,66 @@ pub fn append_event(
     ensures err { OnErr result (take (vec_len out.old) out.new.items ≡ out.old.items) }
 {
     append(out, &[name, b" ", event, answer, b"\n"])
+}
+
+// Adds a space, a word, and a number after it.
+fn append_counted(out: &mut Vec<u8>, word: &[u8], number: u64) -> Result<(), AllocError>
+    ensures ok { OnOk result (out.new.items ≡ out.old.items ++ counted word.now number) }
+    ensures err { OnErr result (take (vec_len out.old) out.new.items ≡ out.old.items) }
+{
+    let mut buffer = Buffer::new();
+    append(out, &[b" ", word, b" ", buffer.format(number).as_bytes()])
+}
+
+// Adds what a socket has measured of its path.
+#[tactic(auto, unfolding(udt_model::specs::Texts::path_text))]
+fn append_path(out: &mut Vec<u8>, perf: &Perf) -> Result<(), AllocError>
+    ensures ok { OnOk result (out.new.items ≡ out.old.items ++ path_text perf.now) }
+    ensures err { OnErr result (take (vec_len out.old) out.new.items ≡ out.old.items) }
+{
+    append_counted(out, b"rtt", perf.rtt)?;
+    append_counted(out, b"var", perf.var)?;
+    append_counted(out, b"window", perf.window)?;
+    append_counted(out, b"period", perf.period)
+}
+
+// Adds how many blocks it sent, and what became of those that arrived.
+#[tactic(auto, unfolding(udt_model::specs::Texts::blocks_text))]
+fn append_blocks(out: &mut Vec<u8>, perf: &Perf) -> Result<(), AllocError>
+    ensures ok { OnOk result (out.new.items ≡ out.old.items ++ blocks_text perf.now) }
+    ensures err { OnErr result (take (vec_len out.old) out.new.items ≡ out.old.items) }
+{
+    append_counted(out, b"sent", perf.sent)?;
+    append_counted(out, b"resent", perf.resent)?;
+    append_counted(out, b"placed", perf.placed)?;
+    append_counted(out, b"double", perf.double)?;
+    append_counted(out, b"below", perf.below)?;
+    append_counted(out, b"above", perf.above)
+}
+
+// Adds what it counted of other packets, and what is acknowledged.
+#[tactic(auto, unfolding(udt_model::specs::Texts::others_text))]
+fn append_others(out: &mut Vec<u8>, perf: &Perf) -> Result<(), AllocError>
+    ensures ok { OnOk result (out.new.items ≡ out.old.items ++ others_text perf.now) }
+    ensures err { OnErr result (take (vec_len out.old) out.new.items ≡ out.old.items) }
+{
+    append_counted(out, b"control", perf.control)?;
+    append_counted(out, b"stale", perf.stale)?;
+    append_counted(out, b"foreign", perf.foreign)?;
+    append_counted(out, b"malformed", perf.malformed)?;
+    append_counted(out, b"acked", perf.acked)
+}
+
+/// Adds all that a socket has measured and counted.
+#[tactic(auto, unfolding(udt_model::specs::Texts::perf_text))]
+pub fn append_perf(out: &mut Vec<u8>, perf: &Perf) -> Result<(), AllocError>
+    ensures ok { OnOk result (out.new.items ≡ out.old.items ++ perf_text perf.now) }
+    ensures err { OnErr result (take (vec_len out.old) out.new.items ≡ out.old.items) }
+{
+    append(out, &[b"perf"])?;
+    append_path(out, perf)?;
+    append_blocks(out, perf)?;
+    append_others(out, perf)
 }
 
 fn hex_digit(n: u8) -> u8

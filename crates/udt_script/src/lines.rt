@@ -1,6 +1,6 @@
 // The forms of a script's lines, and the answers that are printed.
 
-use udt_model::{Addr, Heard, Packed, Refusal};
+use udt_model::{Addr, Heard, Packed, Perf, Refusal};
 
 /// Two stream sockets that are to be paired: their names, the bytes of a block, the initial sequence number,
 /// how many blocks each keeps each way, and the offset at which both directions begin.
@@ -22,8 +22,8 @@ pub struct ScriptDatagram {
     pub bytes: Vec<u8>,
 }
 
-/// A call of a socket: a send of bytes, a receive with room for this many bytes, a pack, a tick or a
-/// close.
+/// A call of a socket: a send of bytes, a receive with room for this many bytes, a pack, a tick, a
+/// close, or what was measured so far.
 #[derive(Debug, PartialEq, Drop)]
 pub enum Call {
     Send(Vec<u8>),
@@ -31,6 +31,7 @@ pub enum Call {
     Pack,
     Tick,
     Close,
+    Perf,
 }
 
 /// What a line says: nothing, a pair of sockets, a call of a named socket, the arrival of a
@@ -56,7 +57,7 @@ pub enum Line<'a> {
 }
 
 /// What a socket answered: how many bytes it took, the bytes that it gave, what it packed, that it
-/// ticked or was closed, and what became of a datagram that arrived.
+/// ticked or was closed, what it has measured, and what became of a datagram that arrived.
 #[derive(Debug, PartialEq, Drop)]
 pub enum Reply {
     Sent(Result<usize, Refusal>),
@@ -64,5 +65,6 @@ pub enum Reply {
     Packed(Packed),
     Ticked,
     Closed,
+    Measured(Perf),
     Heard(Heard),
 }

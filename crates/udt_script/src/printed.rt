@@ -7,7 +7,7 @@ ghost use Rattle.udt_model.specs.Texts.{event_text, datagram_text, pair_text, en
 ghost use Rattle.udt_script.specs.CodeAnswers.{reply_of};
 ghost use Rattle.udt_script.specs.CodeLines.{pairing_of, datagram_of};
 
-use crate::append::{append, append_event, append_hex};
+use crate::append::{append, append_event, append_hex, append_perf};
 use crate::lines::{Pairing, Reply, ScriptDatagram};
 use crate::texts::{heard_text, no_text};
 use itoa::Buffer;
@@ -45,6 +45,11 @@ pub fn print_reply(out: &mut Vec<u8>, name: &[u8], reply: &Reply) -> Result<(), 
         Reply::Packed(Packed::Nothing) => append_event(out, name, b"pack ", b"nothing"),
         Reply::Ticked => append_event(out, name, b"tick", b""),
         Reply::Closed => append_event(out, name, b"close", b""),
+        Reply::Measured(perf) => {
+            append(out, &[name, b" "])?;
+            append_perf(out, perf)?;
+            append(out, &[b"\n"])
+        }
         Reply::Heard(heard) => append_event(out, name, b"arrive ", heard_text(*heard)),
     }
 }

@@ -122,6 +122,8 @@ fn call_of(alloc: Global, name: &[u8], words: &[&[u8]]) -> Result<Option<Call>, 
         alone(Call::Tick, words)
     } else if name == b"close".as_slice() {
         alone(Call::Close, words)
+    } else if name == b"perf".as_slice() {
+        alone(Call::Perf, words)
     } else {
         None
     })
@@ -204,6 +206,7 @@ fn is_call(word: &[u8]) -> bool
         || word == b"pack".as_slice()
         || word == b"tick".as_slice()
         || word == b"close".as_slice()
+        || word == b"perf".as_slice()
 }
 
 // The second word tells the calls of a socket, since a name may be any word; the first one the

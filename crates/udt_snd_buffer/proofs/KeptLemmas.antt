@@ -1,17 +1,18 @@
 -- How blocks are kept and released, by the parts that hold them.
-use Rattle.std.proofs.Common.{◌≡◌, ℕ, zero, suc, ◌+◌, ◌-◌, ◌*◌, ◌/◌, ◌<◌, ◌≤◌, List, [], ◌∷◌, ◌++◌, map, length, take, drop, set, Some, refl, ap, ◌∙◌, arith, append_assoc, inl, inr}
-use Rattle.std.specs.Prelude.{slice_get, flat_map}
+use Rattle.std.proofs.Common.{◌≡◌, ℕ, zero, suc, ◌+◌, ◌-◌, ◌*◌, ◌/◌, ◌<◌, ◌≤◌, List, [], ◌∷◌, ◌++◌, map, length, take, drop, set, replicate, Some, refl, ap, ◌∙◌, arith, append_assoc, inl, inr}
+use Rattle.std.specs.Prelude.{slice_get, flat_map, All}
 use Rattle.std.specs.Int.{div_ceil}
 use Rattle.std.proofs.Math.Nat.{div-lt_iff_lt-mul, mul-le-mul_right}
 use Rattle.std.proofs.lemmas.Grind.{div_ceil_times}
 use Rattle.std.proofs.lemmas.Bool.{le-ltb, cases_lt}
-use Rattle.std.proofs.lemmas.List.{take_more_set, map_push, drop-map, drop-take, take-append-le, length-drop, take-append-drop}
+use Rattle.std.proofs.lemmas.List.{take_more_set, map_push, drop-map, drop-take, take-append-le, length-take, length-drop, take-append-drop}
+use Rattle.std.proofs.lemmas.List.Elements.{All-nil, All-cons, All-get_or}
 use Rattle.std.proofs.lemmas.List.Concat.{flat_map-append}
-use Rattle.std.proofs.lemmas.Option.{slice_get-map}
+use Rattle.std.proofs.lemmas.Option.{slice_get-map, slice_get_within, get_or_from_slice_get}
 use Rattle.udt_model.specs.SendBlocks.{Message, KeptBlock, SendBlocks, flags_at, blocks_of, count_for, kept_at}
 use Rattle.udt_snd_buffer.specs.declared.head.Head.{Head}
-use Rattle.udt_ring.specs.Parts.{Part, turned}
-use Rattle.udt_snd_buffer.specs.KeptParts.{kept_block_of}
+use Rattle.udt_ring.specs.Parts.{Part}
+use Rattle.udt_snd_buffer.specs.KeptParts.{kept_block_of, IsCut}
 use Rattle.udt_ring.proofs.TurnLemmas.{slice_get-take}
 
 -- ---- keeping
@@ -79,6 +80,29 @@ joined_more kept m payload offset count bytes fits =
     flat_map-append (λ (block : KeptBlock). block.bytes) kept (blocks_of m payload offset count bytes)
     ∙ ap (λ (bs : List ℕ). flat_map (λ (block : KeptBlock). block.bytes) kept ++ bs) (joined_blocks m payload offset count bytes fits)
 
+-- ---- how blocks are cut
+
+-- blocks that are all full but the last one, which has some bytes
+pub blocks_of-cut : (m : Message) (payload offset count : ℕ) (bytes : List ℕ) → 0 < payload → count * payload < length bytes + payload
+    → All (IsCut payload) (blocks_of m payload offset count bytes)
+unfolding blocks_of
+blocks_of-cut m payload offset zero bytes some few = All-nil (IsCut payload)
+blocks_of-cut m payload offset (suc more) bytes some few =
+    let all : suc more * payload ≡ payload + more * payload = omega arith in
+    let first : KeptBlock = record { message = m; flags = flags_at m offset; bytes = take payload bytes } in
+    All-cons (IsCut payload) first (blocks_of m payload (offset + 1) more (drop payload bytes))
+    (record { some = omega (arith, few, all, some, length-take payload bytes); short = omega (arith, length-take payload bytes) })
+    (blocks_of-cut m payload (offset + 1) more (drop payload bytes) some (omega (arith, few, all, length-drop payload bytes)))
+
+-- a kept part is cut so
+pub kept_cut : (payload kept i : ℕ) (parts : List (Part Head)) (part : Part Head) → All (IsCut payload) (map kept_block_of (take kept parts))
+    → i < kept → slice_get parts i ≡ Some part → IsCut payload (kept_block_of part)
+kept_cut payload kept i parts part cut lt found =
+    let there : slice_get (take kept parts) i ≡ Some part = slice_get-take kept i parts lt ∙ found in
+    let block : slice_get (map kept_block_of (take kept parts)) i ≡ Some (kept_block_of part) = rw (slice_get-map kept_block_of (take kept parts) i, there) refl in
+    rw (get_or_from_slice_get (map kept_block_of (take kept parts)) i (kept_block_of part) (kept_block_of part) block)
+    at (All-get_or (IsCut payload) (map kept_block_of (take kept parts)) i (kept_block_of part) (slice_get_within (map kept_block_of (take kept parts)) i (kept_block_of part) block) cut)
+
 -- ---- looking up, releasing
 
 -- a kept part is found by its offset
@@ -89,11 +113,11 @@ kept_found s parts kept offset part is from lt found =
     rw (le-ltb offset s.first from, is, slice_get-map kept_block_of (take kept parts) (offset - s.first), there) refl
 
 -- the parts after those that are released are kept
-pub released : (parts : List (Part Head)) (kept count : ℕ) → count ≤ kept → kept ≤ length parts
-    → map kept_block_of (take (kept - count) (turned count parts)) ≡ drop count (map kept_block_of (take kept parts))
-released parts kept count few within =
+pub released : (parts : List (Part Head)) (kept count : ℕ) (empty : Part Head) → count ≤ kept → kept ≤ length parts
+    → map kept_block_of (take (kept - count) (drop count parts ++ replicate count empty)) ≡ drop count (map kept_block_of (take kept parts))
+released parts kept count empty few within =
     let long : kept - count ≤ length (drop count parts) = omega (arith, within, length-drop count parts) in
-    let front = take-append-le (kept - count) (drop count parts) (take count parts) long in
+    let front = take-append-le (kept - count) (drop count parts) (replicate count empty) long in
     let again : count + (kept - count) ≡ kept = omega (arith, few) in
     let back = rw again at (drop-take count (kept - count) parts) in
     rw (front, drop-map kept_block_of count (take kept parts), back) refl

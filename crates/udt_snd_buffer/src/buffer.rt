@@ -1,6 +1,6 @@
 // The blocks that are kept, and what is done with them.
 
-ghost use Rattle.std.specs.Prelude.{◌≡◌, ◌+◌, ◌^◌, ◌<◌, ◌≤◌, [], ◌++◌, length, take, map, option_map, IfOk, MatchOption, Some, None};
+ghost use Rattle.std.specs.Prelude.{◌≡◌, ◌+◌, ◌^◌, ◌<◌, ◌≤◌, [], ◌++◌, length, take, map, option_map, IfOk, IfSome, MatchOption, Some, None};
 ghost use Rattle.udt_model.specs.SendBlocks.{kept_bytes, end_of, free_of, accepted_of, after_accept, kept_at, message_at, after_release, blocks_of};
 ghost use Rattle.udt_snd_buffer.specs.KeptParts.{kept_block_of, message_of_head};
 
@@ -21,7 +21,8 @@ pub struct Block<'a> {
 }
 
 /// The blocks of a sender, from the call that gives their bytes until they are acknowledged. It
-/// takes all its memory at once, and a block stays where it is until it is released.
+/// takes all its memory at once, and a block stays where it is until it is released. The memory of
+/// the blocks that were released last is used first.
 #[derive(Drop)]
 pub struct SndBuffer {
     ring: Ring<Head>,
@@ -161,7 +162,9 @@ impl SndBuffer {
 
     /// The kept block of an offset.
     pub fn block(&self, offset: u64) -> Option<Block<'_>>
-        ensures { option_map shown result ≡ option_map shown_of (kept_at self.now offset) }
+        ensures value { option_map shown result ≡ option_map shown_of (kept_at self.now offset) }
+        ensures some { IfSome result (λ block. 0 < length block.bytes.now) }
+        ensures short { IfSome result (λ block. length block.bytes.now ≤ self.now.payload) }
     {
         let (head, bytes) = self.part(offset)?;
         Some(Block {
@@ -180,14 +183,14 @@ impl SndBuffer {
         Some((head.first, head.last))
     }
 
-    /// Releases all blocks below an offset, and nothing moves.
+    /// Releases all blocks below an offset. No byte moves.
     pub fn release_to(&mut self, offset: u64)
         requires from { self.old.first ≤ offset }
         requires to { offset ≤ end_of self.old }
         ensures { self.new ≡ after_release self.old offset }
     {
         let count = (offset - self.first) as usize;
-        self.ring.turn(count);
+        self.ring.turn(count, NO_HEAD);
         self.first = offset;
         self.kept -= count;
     }
@@ -209,9 +212,11 @@ impl SndBuffer {
 
     // The head and the bytes of the kept block of an offset.
     fn part(&self, offset: u64) -> Option<(Head, &[u8])>
-        ensures { MatchOption result (kept_at self.now offset ≡ None)
+        ensures value { MatchOption result (kept_at self.now offset ≡ None)
             (λ p. kept_at self.now offset
             ≡ Some (kept_block_of (record { head = p.0; bytes = p.1.now }))) }
+        ensures some { IfSome result (λ p. 0 < length p.1.now) }
+        ensures short { IfSome result (λ p. length p.1.now ≤ self.now.payload) }
     {
         if offset < self.first || offset - self.first >= self.kept as u64 {
             return None;

@@ -3,4 +3,5 @@ pub mod Progress
 pub mod Streaming
 pub mod Replaying
 pub mod ToldScripts
-pub mod ReplayWords
+pub mod Orders
+pub mod Printing

@@ -1,14 +1,21 @@
 -- What the program does for the words of its command line.
-use Rattle.std.specs.Prelude.{◌≡◌, ℕ, ◌==◌, Bool, true, false, List, [], ◌∷◌, ◌++◌, codes, Option, Some, IfSome, IsTrue, if◌then◌else◌}
+use Rattle.std.specs.Prelude.{◌≡◌, ℕ, ◌==◌, ◌≤◌, Bool, true, false, ◌||◌, List, [], ◌∷◌, ◌++◌, length, codes, Option, Some, IfSome, IsTrue, if◌then◌else◌}
 use Rattle.std.specs.List.{list_any}
-use Rattle.udt_model.specs.declared.scripts.ControlName.TheVariants.{Native}
+use Rattle.udt_model.specs.declared.limits.TheConstants.{FIXED_PERIOD}
+use Rattle.udt_model.specs.declared.scripts.ControlName.{ControlName}
+use Rattle.udt_model.specs.declared.scripts.ControlName.TheVariants.{Native, Fixed, Aimd}
+use Rattle.udt_model.specs.declared.scripts.Summary.{Summary}
+use Rattle.udt_model.specs.Controls.{fixed, additive}
+use Rattle.udt_model.specs.Generated.{generated_summary, summary_text}
+use Rattle.udt_model.specs.Rate.{native}
 use Rattle.udt_model.specs.Script.{Played, played}
 use Rattle.udt_model.specs.Texts.{ended}
 use Rattle.udt_model.specs.Words.{is_word}
 use Rattle.udt_outside.specs.Faults.{Rose}
 use Rattle.udt_tool.specs.declared.offline.TheConstants.{DONE, NO_COMMAND, REFUSED, SOURCE_FAILED, SINK_FAILED, OUT_OF_MEMORY}
 use Rattle.udt_words.specs.declared.order.Order.{Order}
-use Rattle.udt_words.specs.declared.order.Order.TheVariants.{Replay}
+use Rattle.udt_words.specs.declared.order.Order.TheVariants.{Replay, World}
+use Rattle.udt_words.specs.Table.{order_of}
 pub use Rattle.udt_words.specs.Table.{spelled}
 use Rattle.udt_tool.specs.Streamed.{Reads, ReadsMore, Wrote, WrotePart, WrotePrefix}
 
@@ -17,18 +24,26 @@ use Rattle.udt_tool.specs.Streamed.{Reads, ReadsMore, Wrote, WrotePart, WrotePre
 -- no words, or a first one that names a command which needs no network
 abbrev pub is_offline : List (List ℕ) → Bool
 is_offline [] = true
-is_offline (first ∷ others) = is_word first (codes "replay")
+is_offline (first ∷ others) = is_word first (codes "replay") || is_word first (codes "world")
+
+-- the order is to replay a script
+abbrev pub is_replaying : Option Order → Bool
+is_replaying (Some (Replay control)) = true
+is_replaying order = false
+
+-- the order is one that is done here: to replay a script, or to generate one
+abbrev pub is_done : Option Order → Bool
+is_done (Some (Replay control)) = true
+is_done (Some (World n turns control)) = true
+is_done order = false
 
 -- the words are the command to replay a script
 abbrev pub is_replay : List (List ℕ) → Bool
-is_replay [] = false
-is_replay (first ∷ []) = is_word first (codes "replay")
-is_replay (first ∷ (second ∷ others)) = false
+is_replay words = is_replaying (order_of words)
 
--- the order is to replay a script
-abbrev pub is_replaying : Order → Bool
-is_replaying (Replay control) = true
-is_replaying order = false
+-- the words are a command that is done here
+abbrev pub is_command : List (List ℕ) → Bool
+is_command words = is_done (order_of words)
 
 -- ---- answers
 
@@ -47,17 +62,37 @@ pub record Outcome : Type 0 where
 abbrev pub replayed : Played → Outcome
 replayed p = record { text = p.text; status = if p.refused then REFUSED else DONE }
 
--- what the replay of a script ends with
-abbrev pub replays : List ℕ → Outcome
-replays script = replayed (played Native script)
+-- what the replay of a script under a control ends with
+abbrev pub replays : ControlName → List ℕ → Outcome
+replays control script = replayed (played control script)
 
--- what words that are no command end with, whatever the input
-abbrev pub faulty : List ℕ → Outcome
-faulty script = record { text = usage_line; status = NO_COMMAND }
+-- the numbers of a generated run under the control that a command names
+unfoldable pub generated_by : ControlName → ℕ → ℕ → Summary
+generated_by Native n turns = generated_summary native n turns
+generated_by Fixed n turns = generated_summary (fixed FIXED_PERIOD) n turns
+generated_by Aimd n turns = generated_summary additive n turns
 
--- what a command line ends with, by its input
+-- what a generated run ends with: its line
+abbrev pub generates : ControlName → ℕ → ℕ → Outcome
+generates control n turns = record { text = summary_text n turns (generated_by control n turns); status = DONE }
+
+-- what words that are no command end with
+abbrev pub faulty : Outcome
+faulty = record { text = usage_line; status = NO_COMMAND }
+
+-- the outcome is this one, whatever the input
+abbrev pub always : Outcome → List ℕ → Outcome
+always outcome script = outcome
+
+-- what an order ends with, by the input. One that is not done here counts as no command
+abbrev pub done_of : Option Order → List ℕ → Outcome
+done_of (Some (Replay control)) = replays control
+done_of (Some (World n turns control)) = always (generates control n turns)
+done_of order = always faulty
+
+-- what a command line ends with, by the input
 abbrev pub outcome_of : List (List ℕ) → List ℕ → Outcome
-outcome_of words = if is_replay words then replays else faulty
+outcome_of words = done_of (order_of words)
 
 -- ---- runs
 
@@ -105,9 +140,14 @@ EndsEarly outcome before after taken_before taken_after status =
 abbrev pub ReadsToEnd : Option (List ℕ) → Option (List ℕ) → ℕ → Type 0
 ReadsToEnd before after status = status ≡ DONE → IfSome before (λ script. after ≡ Some [])
 
--- where it is told, memory ran out after at least a byte that was read
-abbrev pub LosesMemory : Option (List ℕ) → Option (List ℕ) → ℕ → Type 0
-LosesMemory before after status = status ≡ OUT_OF_MEMORY → IfSome before (λ script. ReadsMore script after)
+-- where it is told, at least a byte was read
+abbrev pub ReadsThere : Option (List ℕ) → Option (List ℕ) → Type 0
+ReadsThere before after = IfSome before (λ script. ReadsMore script after)
+
+-- memory runs out only where words follow the command's name, or a script was being replayed, of which at least a byte was read
+abbrev pub LosesMemory : List (List ℕ) → Option (List ℕ) → Option (List ℕ) → ℕ → Type 0
+LosesMemory words before after status =
+    status ≡ OUT_OF_MEMORY → length words ≤ 1 → (is_replay words ≡ true) × ReadsThere before after
 
 -- the statuses of runs in which neither the source nor the sink failed
 abbrev pub IsFaultless : ℕ → Type 0
@@ -131,15 +171,13 @@ pub record Runs (ends : List ℕ → Outcome) (old new : Streams) (status : ℕ)
   pub known : IsStatus status
   pub outcome : HasStatus ends old.left status
   pub text : HasText ends old.left old.taken new.taken status
-  pub to_end : ReadsToEnd old.left new.left status
   pub early : EndsEarly ends old.left new.left old.taken new.taken status
-  pub memory : LosesMemory old.left new.left status
   pub source_failed : status ≡ SOURCE_FAILED → Rose old.source_faults new.source_faults
   pub sink_failed : status ≡ SINK_FAILED → Rose old.sink_faults new.sink_faults
   pub faultless : ¬ Rose old.source_faults new.source_faults → ¬ Rose old.sink_faults new.sink_faults → IsFaultless status
 
--- what words that are no command promise: the sink took the usage line, or a prefix of it where it failed
-pub record PrintsUsage (before after : Option (List ℕ)) (status : ℕ) : Type 0 where
-  pub known : IsAmong (NO_COMMAND ∷ SINK_FAILED ∷ []) status
-  pub whole : status ≡ NO_COMMAND → Wrote before after usage_line
-  pub part : WrotePart before after usage_line
+-- an outcome is printed: the sink took its text, or a prefix of it where the sink failed or memory ran out
+pub record Prints (outcome : Outcome) (before after : Option (List ℕ)) (status : ℕ) : Type 0 where
+  pub known : IsAmong (OUT_OF_MEMORY ∷ SINK_FAILED ∷ outcome.status ∷ []) status
+  pub whole : status ≡ outcome.status → Wrote before after outcome.text
+  pub part : WrotePart before after outcome.text

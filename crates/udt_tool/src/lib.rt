@@ -1,10 +1,11 @@
 //! The commands of the program, over sources and sinks of bytes.
 #![tactic(auto)]
 
+mod controls;
 mod offline;
-mod orders;
 mod play;
 mod streams;
+mod summaries;
 #[cfg(test)]
 mod tests;
 

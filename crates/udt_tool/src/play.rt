@@ -3,13 +3,13 @@
 ghost use Rattle.std.specs.Prelude.{◌≡◌, ◌+◌, ◌≤◌, ◌<◌, ◌∷◌, length, take, sum_by, IfOk, OnErr, false};
 ghost use Rattle.std.specs.Option.{ForSome};
 ghost use Rattle.udt_model.specs.declared.limits.TheConstants.{LONGEST_SCRIPT};
-ghost use Rattle.udt_model.specs.declared.scripts.ControlName.TheVariants.{Native};
-ghost use Rattle.udt_model.specs.Script.{pieces_of, line_in, played, size_of};
+ghost use Rattle.udt_model.specs.Script.{pieces_of, line_in, played_with, size_of};
 ghost use Rattle.udt_tool.specs.Plays.{played_of, AnswersPiece};
 
 use std::alloc::Global;
 use udt_model::LONGEST_SCRIPT;
 use udt_outside::OutOfMemory;
+use udt_rate::Control;
 use udt_script::print_refused;
 use udt_world::{LineNo, World};
 
@@ -63,11 +63,17 @@ fn first_piece<'a>(text: &'a [u8]) -> (&'a [u8], &'a [u8])
 }
 
 /// Plays one piece after the lines that were accepted, of this size together.
-fn play_piece(world: &mut World, size: u64, piece: &[u8], out: &mut Vec<u8>) -> Result<(), LineNo>
+fn play_piece<C: Control + Drop>(
+    world: &mut World<C>,
+    size: u64,
+    piece: &[u8],
+    out: &mut Vec<u8>,
+) -> Result<(), LineNo>
     requires size { ForSome world.old (λ lines. size ≡ size_of lines) }
     requires bound { size ≤ LONGEST_SCRIPT + 1 }
     requires fits { length piece.now ≤ LONGEST_SCRIPT + 1 }
-    ensures { AnswersPiece world.old piece.now result world.new out.old.items out.new.items }
+    ensures { AnswersPiece C.ways
+        world.old piece.now result world.new out.old.items out.new.items }
 {
     if size + piece.len() as u64 > LONGEST_SCRIPT {
         return Err(LineNo::Refused);
@@ -75,14 +81,15 @@ fn play_piece(world: &mut World, size: u64, piece: &[u8], out: &mut Vec<u8>) -> 
     world.line(line_in(piece), out)
 }
 
-/// Plays a script: the text that it prints, up to the first line that is refused.
-pub fn play(alloc: Global, text: &[u8]) -> Result<Output, OutOfMemory>
-    ensures value { IfOk result (λ output. played_of output ≡ played Native text.now) }
+/// Plays a script under a rate control: the text that it prints, up to the first line that is
+/// refused.
+pub fn play<C: Control + Drop>(alloc: Global, text: &[u8]) -> Result<Output, OutOfMemory>
+    ensures value { IfOk result (λ output. played_of output ≡ played_with C.ways text.now) }
     ensures fits { IfOk result
         (λ output. output.refused ≡ false → length text.now ≤ LONGEST_SCRIPT) }
     ensures memory { OnErr result (0 < length text.now) }
 {
-    let mut world = World::new(alloc);
+    let mut world = World::<C>::new(alloc);
     let mut out = Vec::new(alloc);
     let mut rest = looked_at(text);
     let mut number: u64 = 1;

@@ -14,6 +14,13 @@ struct Outside<'a> {
     failing_writes: &'a [u64],
 }
 
+const WHOLE: Outside<'static> = Outside {
+    read_piece: 4096,
+    write_piece: 4096,
+    failing_reads: &[],
+    failing_writes: &[],
+};
+
 fn joined(alloc: Global, parts: &[&[u8]]) -> Result<Vec<u8>, AllocError> {
     let mut whole = Vec::new(alloc);
     for part in parts {
@@ -84,7 +91,9 @@ fn replays_scripts(rt: HostRuntime) {
             [
                 paired,
                 packed,
-                b"b arrive placed\nb recv again\nb arrive placed\nb recv 68656c6c6f\n",
+                b"b arrive placed\n\
+                    datagram 2 10.0.0.2:9000 10.0.0.1:9000 8003000000000000000007d00000000100000005\n\
+                    b recv again\nb arrive placed\nb recv 68656c6c6f\n",
             ],
             DONE,
         ),
@@ -129,19 +138,13 @@ fn replays_scripts(rt: HostRuntime) {
             DONE,
         ),
     ];
-    let whole = Outside {
-        read_piece: 4096,
-        write_piece: 4096,
-        failing_reads: &[],
-        failing_writes: &[],
-    };
     let in_pieces = Outside {
         read_piece: 3,
         write_piece: 5,
-        ..whole
+        ..WHOLE
     };
     for (script, printed, status) in &stories {
-        for outside in [whole, in_pieces] {
+        for outside in [WHOLE, in_pieces] {
             assert_runs(
                 &rt,
                 rt.alloc(),
@@ -169,6 +172,8 @@ fn replays_acknowledgement_silence_and_closing(rt: HostRuntime) {
         deliver 1 3000\n\
         b tick 10000\n\
         deliver 2 20000\n\
+        deliver 3 30000\n\
+        b perf 30000\n\
         raw 21000 10.0.0.2:9000 10.0.0.1:9000 8002000000000000000052080000000100000009\n\
         raw 21000 10.0.0.2:9000 10.0.0.1:9000 8002000000000000000052080000000100000005\n\
         b recv 21000 10\n";
@@ -177,6 +182,9 @@ fn replays_acknowledgement_silence_and_closing(rt: HostRuntime) {
         b tick\n\
         datagram 2 10.0.0.2:9000 10.0.0.1:9000 8002000000000001000027100000000100000007000186a00000c350000000020000000000000000\n\
         a arrive ack\n\
+        datagram 3 10.0.0.1:9000 10.0.0.2:9000 800600000000000100004e2000000002\n\
+        b arrive ack2\n\
+        b perf rtt 90000 var 57500 window 16 period 0 sent 0 resent 0 placed 2 double 0 below 0 above 0 control 1 stale 0 foreign 0 malformed 0 acked 0\n\
         a arrive stale\n\
         a arrive stale\n\
         b recv 68656c6c6f\n";
@@ -221,6 +229,22 @@ fn replays_acknowledgement_silence_and_closing(rt: HostRuntime) {
         b arrive above\n\
         b arrive below\n\
         b arrive placed\n";
+    let wraps: &[u8] = b"pair stream a b 1 2147483647 4\n\
+        a send 0 010203\n\
+        a pack 0\n\
+        a pack 0\n\
+        a pack 0\n\
+        deliver 2 100\n";
+    let wrapped: &[u8] = b"pair a 1 b 2\n\
+        a send 3\n\
+        a pack data\n\
+        datagram 0 10.0.0.1:9000 10.0.0.2:9000 7fffffff80000001000000000000000201\n\
+        a pack data\n\
+        datagram 1 10.0.0.1:9000 10.0.0.2:9000 0000000000000001000000000000000202\n\
+        a pack data\n\
+        datagram 2 10.0.0.1:9000 10.0.0.2:9000 0000000140000001000000000000000203\n\
+        b arrive placed\n\
+        datagram 3 10.0.0.2:9000 10.0.0.1:9000 80030000000000000000006400000001ffffffff00000000\n";
     let waits: &[u8] = b"pair stream a b 4 5 4\n\
         a tick 500000\n\
         a tick 1420000\n\
@@ -279,21 +303,109 @@ fn replays_acknowledgement_silence_and_closing(rt: HostRuntime) {
         a tick\n\
         a recv refused 2001 expired\n\
         a send refused 2001 expired\n";
-    let stories: [([&[u8]; 3], [&[u8]; 3]); 5] = [
+    let stories: [([&[u8]; 3], [&[u8]; 3]); 6] = [
         ([pair, hello, acknowledges], [paired, packed, acknowledged]),
         ([pair, hello, retransmits], [paired, packed, retransmitted]),
         ([pair, closes, b""], [paired, closed, b""]),
         ([near, b"", b""], [read_near, b"", b""]),
+        ([wraps, b"", b""], [wrapped, b"", b""]),
         ([waits, b"", b""], [waited, b"", b""]),
     ];
-    let outside = Outside {
-        read_piece: 4096,
-        write_piece: 4096,
-        failing_reads: &[],
-        failing_writes: &[],
-    };
     for (script, printed) in &stories {
-        assert_runs(&rt, rt.alloc(), outside, &["replay"], script, printed, DONE);
+        assert_runs(&rt, rt.alloc(), WHOLE, &["replay"], script, printed, DONE);
+    }
+}
+
+// Plays to where the controls part: the fixed one keeps a tenth of a millisecond between packets,
+// and after an acknowledgement the native one has a period and the other none.
+#[test]
+fn replays_under_each_control(rt: HostRuntime) {
+    let begun: &[u8] = b"pair stream a b 4 5 4\na send 1000 68656c6c6f\na pack 1000\na pack 1000\n\
+        a pack 1100\n";
+    let answered: &[u8] = b"deliver 0 2000\ndeliver 1 3000\nb tick 10000\ndeliver 2 20000\n";
+    let again: &[u8] = b"a send 21000 01\na send 21000 02\na pack 21000\na pack 21000\n";
+    let first: &[u8] = b"pair a 1 b 2\na send 5\na pack data\n\
+        datagram 0 10.0.0.1:9000 10.0.0.2:9000 0000000580000001000003e80000000268656c6c\n";
+    let both: &[u8] = b"a pack data\n\
+        datagram 1 10.0.0.1:9000 10.0.0.2:9000 0000000640000001000003e8000000026f\n\
+        a pack nothing\n";
+    let apart: &[u8] = b"a pack notyet 1100\na pack data\n\
+        datagram 1 10.0.0.1:9000 10.0.0.2:9000 00000006400000010000044c000000026f\n";
+    let heard: &[u8] = b"b arrive placed\nb arrive placed\nb tick\n\
+        datagram 2 10.0.0.2:9000 10.0.0.1:9000 8002000000000001000027100000000100000007000186a00000c350000000020000000000000000\n\
+        a arrive ack\n\
+        datagram 3 10.0.0.1:9000 10.0.0.2:9000 800600000000000100004e2000000002\n\
+        a send 1\na send 1\na pack data\n\
+        datagram 4 10.0.0.1:9000 10.0.0.2:9000 00000007c0000002000052080000000201\n";
+    let last: &[u8] = b"a pack data\n\
+        datagram 5 10.0.0.1:9000 10.0.0.2:9000 00000008c0000003000052080000000202\n";
+    let stories: [(&[&str], [&[u8]; 4]); 4] = [
+        (&["replay"], [first, both, heard, b"a pack notyet 27112\n"]),
+        (
+            &["replay", "native"],
+            [first, both, heard, b"a pack notyet 27112\n"],
+        ),
+        (
+            &["replay", "fixed"],
+            [first, apart, heard, b"a pack notyet 21100\n"],
+        ),
+        (&["replay", "aimd"], [first, both, heard, last]),
+    ];
+    for (words, printed) in stories {
+        assert_runs(
+            &rt,
+            rt.alloc(),
+            WHOLE,
+            words,
+            &[begun, answered, again],
+            &printed,
+            DONE,
+        );
+    }
+    let spaced: &[u8] = b"pair stream a b 4 5 4\na send 0 0102030405060708\n\
+        a pack 0\na pack 0\na pack 100\n";
+    let packed: &[u8] = b"pair a 1 b 2\na send 8\na pack data\n\
+        datagram 0 10.0.0.1:9000 10.0.0.2:9000 0000000580000001000000000000000201020304\n\
+        a pack notyet 100\na pack data\n\
+        datagram 1 10.0.0.1:9000 10.0.0.2:9000 0000000640000001000000640000000205060708\n";
+    let words: &[&str] = &["replay", "fixed"];
+    assert_runs(&rt, rt.alloc(), WHOLE, words, &[spaced], &[packed], DONE);
+}
+
+#[test]
+fn tells_generated_runs(rt: HostRuntime) {
+    let runs: [(&[&str], &[u8]); 5] = [
+        (
+            &["world", "7", "0"],
+            b"world 7 turns 0 accepted 0 delivered 0 acked 0 datagrams 0\n",
+        ),
+        (
+            &["world", "7", "1"],
+            b"world 7 turns 1 accepted 0 delivered 0 acked 0 datagrams 0\n",
+        ),
+        (
+            &["world", "7", "200", "native"],
+            b"world 7 turns 200 accepted 45617 delivered 12148 acked 0 datagrams 18\n",
+        ),
+        (
+            &["world", "7", "200", "fixed"],
+            b"world 7 turns 200 accepted 45617 delivered 20471 acked 0 datagrams 45\n",
+        ),
+        (
+            &["world", "7", "200", "aimd"],
+            b"world 7 turns 200 accepted 45617 delivered 12148 acked 0 datagrams 31\n",
+        ),
+    ];
+    for (words, printed) in runs {
+        assert_runs(
+            &rt,
+            rt.alloc(),
+            WHOLE,
+            words,
+            &[b"no line\n"],
+            &[printed],
+            DONE,
+        );
     }
 }
 
@@ -303,15 +415,24 @@ fn ends_early_by_faults_and_words(rt: HostRuntime) {
         | pair SIZE COUNT N | recv PORT FILE COUNT | recv6 PORT FILE COUNT \
         | send FILE ADDR PORT | record TURNS N | check\n";
     let refused: &[u8] = b"line 1 refused\n";
-    let runs: [(&[&str], &[u64], &[u64], &[u8], u8); 8] = [
+    let told: &[u8] = b"world 7 turns 0 accepted 0 delivered 0 acked 0 datagrams 0\n";
+    let runs: [(&[&str], &[u64], &[u64], &[u8], u8); 16] = [
         (&[], &[], &[], usage, NO_COMMAND),
-        (&["world", "7", "0"], &[], &[], usage, NO_COMMAND),
-        (&["replay", "aimd"], &[], &[], usage, NO_COMMAND),
+        (&["other"], &[], &[], usage, NO_COMMAND),
+        (&["check"], &[], &[], usage, NO_COMMAND),
+        (&["replay", "reno"], &[], &[], usage, NO_COMMAND),
+        (&["replay", "aimd", "aimd"], &[], &[], usage, NO_COMMAND),
+        (&["world"], &[], &[], usage, NO_COMMAND),
+        (&["world", "7"], &[], &[], usage, NO_COMMAND),
+        (&["world", "7", "400001"], &[], &[], usage, NO_COMMAND),
+        (&["world", "7", "0", "-"], &[], &[], usage, NO_COMMAND),
         (&["replay"], &[1], &[], b"", SOURCE_FAILED),
-        (&["replay"], &[2], &[], b"", SOURCE_FAILED),
+        (&["replay", "fixed"], &[2], &[], b"", SOURCE_FAILED),
         (&["replay"], &[], &[1], b"", SINK_FAILED),
         (&["world"], &[], &[2], &usage[..5], SINK_FAILED),
-        (&["replay"], &[], &[2], &refused[..5], SINK_FAILED),
+        (&["world", "7", "0"], &[1], &[2], &told[..5], SINK_FAILED),
+        (&["world", "7", "0"], &[1], &[], told, DONE),
+        (&["replay", "aimd"], &[], &[2], &refused[..5], SINK_FAILED),
     ];
     for (words, failing_reads, failing_writes, printed, status) in runs {
         let outside = Outside {

@@ -8,90 +8,118 @@ use Rattle.udt_model.specs.State.{State, Datagram}
 use Rattle.udt_model.specs.declared.answers.Phase.{Phase}
 use Rattle.udt_model.specs.declared.answers.Phase.TheVariants as phase
 use Rattle.udt_model.specs.Step.{step}
-use Rattle.udt_model.specs.Events.{Send, Recv, Tick, Close, DidTick, DidClose, Event, at_moment}
+use Rattle.udt_model.specs.Events.{Send, Recv, Tick, Close, Measure, DidTick, DidClose, Event, Reply, event, at_moment, outs_of}
 use Rattle.udt_model.specs.Calls.{send_in, recv_in}
 use Rattle.udt_model.specs.Ticks.{tick_in}
 use Rattle.udt_model.specs.History.{state_of, happened}
 use Rattle.udt_model.proofs.HistoryLemmas.{state_of-happened}
 use Rattle.udt_model.specs.Network as model
+use Rattle.udt_model.specs.Rate.{Ways}
 use Rattle.udt_model.specs.Script.{from_host, event_at}
 use Rattle.udt_model.specs.Texts.{datagram_text, datagrams_text}
-use Rattle.udt_world.specs.Views.{Sight, sight_of_history, View, Shows, HasEvent}
+use Rattle.udt_world.specs.Views.{Sight, sight_of_history, View, Shows, HasEvent, Moves, Answers}
 
 -- ---- what calls emit and answer, whatever the phase
 
-send-outs_in : (s : State) (bytes : List ℕ) (p : Phase) → (send_in s bytes p).outs ≡ []
-send-outs_in s bytes phase.Connected = refl
-send-outs_in s bytes (phase.Broken why) = refl
-send-outs_in s bytes phase.Closing = refl
-send-outs_in s bytes phase.Closed = refl
+module _ {C : Type 0} where
+  send-outs_in : (s : State C) (bytes : List ℕ) (p : Phase) → outs_of (send_in s bytes p) ≡ []
+  send-outs_in s bytes phase.Connected = refl
+  send-outs_in s bytes (phase.Broken why) = refl
+  send-outs_in s bytes phase.Closing = refl
+  send-outs_in s bytes phase.Closed = refl
 
--- a call emits nothing
-pub send_outs : (s : State) (now : ℕ) (bytes : List ℕ) → (step s (record { now = now; act = Send bytes })).outs ≡ []
-unfolding step
-send_outs s now bytes = send-outs_in (at_moment s now) bytes s.phase
+  recv-outs_in : (s : State C) (room : ℕ) (p : Phase) → outs_of (recv_in s room p) ≡ []
+  recv-outs_in s room phase.Connected = refl
+  recv-outs_in s room (phase.Broken why) = refl
+  recv-outs_in s room phase.Closing = refl
+  recv-outs_in s room phase.Closed = refl
 
-recv-outs_in : (s : State) (room : ℕ) (p : Phase) → (recv_in s room p).outs ≡ []
-recv-outs_in s room phase.Connected = refl
-recv-outs_in s room (phase.Broken why) = refl
-recv-outs_in s room phase.Closing = refl
-recv-outs_in s room phase.Closed = refl
+module _ {C : Type 0} (w : Ways C) where
+  -- a call emits nothing
+  pub send_outs : (s : State C) (now : ℕ) (bytes : List ℕ) → outs_of (step w s (event now (Send bytes))) ≡ []
+  unfolding step
+  send_outs s now bytes = send-outs_in (at_moment s now) bytes s.phase
 
-pub recv_outs : (s : State) (now room : ℕ) → (step s (record { now = now; act = Recv room })).outs ≡ []
-unfolding step
-recv_outs s now room = recv-outs_in (at_moment s now) room s.phase
+  pub recv_outs : (s : State C) (now room : ℕ) → outs_of (step w s (event now (Recv room))) ≡ []
+  unfolding step
+  recv_outs s now room = recv-outs_in (at_moment s now) room s.phase
 
-pub close_outs : (s : State) (now : ℕ) → (step s (record { now = now; act = Close })).outs ≡ []
-unfolding step
-close_outs s now = refl
+  pub close_outs : (s : State C) (now : ℕ) → outs_of (step w s (event now Close)) ≡ []
+  unfolding step
+  close_outs s now = refl
 
-pub close_reply : (s : State) (now : ℕ) → (step s (record { now = now; act = Close })).reply ≡ DidClose
-unfolding step
-close_reply s now = refl
+  pub close_reply : (s : State C) (now : ℕ) → (step w s (event now Close)).reply ≡ DidClose
+  unfolding step
+  close_reply s now = refl
 
-tick-reply_in : (s : State) (p : Phase) → (tick_in s p).reply ≡ DidTick
-tick-reply_in s phase.Connected = refl
-tick-reply_in s (phase.Broken why) = refl
-tick-reply_in s phase.Closing = refl
-tick-reply_in s phase.Closed = refl
+  pub measure_outs : (s : State C) (now : ℕ) → outs_of (step w s (event now Measure)) ≡ []
+  unfolding step
+  measure_outs s now = refl
 
--- a tick says no more than that it was done
-pub tick_reply : (s : State) (now : ℕ) → (step s (record { now = now; act = Tick })).reply ≡ DidTick
-unfolding step
-tick_reply s now = tick-reply_in (at_moment s now) s.phase
+  tick-reply_in : (s : State C) (p : Phase) → (tick_in w s p).reply ≡ DidTick
+  tick-reply_in s phase.Connected = refl
+  tick-reply_in s (phase.Broken why) = refl
+  tick-reply_in s phase.Closing = refl
+  tick-reply_in s phase.Closed = refl
 
--- ---- the network of the definitions
+  -- a tick says no more than that it was done
+  pub tick_reply : (s : State C) (now : ℕ) → (step w s (event now Tick)).reply ≡ DidTick
+  unfolding step
+  tick_reply s now = tick-reply_in (at_moment s now) s.phase
 
--- the socket at a place is in the state that its history leads to
-pub shown_at : (n : model.Network) (view : View) (place : ℕ) (sight : Sight) (known : model.ScriptSocket) → Shows n view
-    → slice_get view.sockets place ≡ Some sight → slice_get n.sockets place ≡ Some known → sight ≡ sight_of_history known
-shown_at n view place sight known shows found there =
-    let other : slice_get (map sight_of_history n.sockets) place ≡ Some (sight_of_history known) =
-    rw (slice_get-map sight_of_history n.sockets place, there) refl in
-    let both = rw shows.sockets_are at found in
-    cc
+  -- ---- the network of the definitions
 
--- an event of the code's socket is one of the network's
-pub event_shown : (n : model.Network) (place : ℕ) (known : model.ScriptSocket) (event : Event) (old new : View) (before after : List ℕ)
-    → Shows n old → slice_get n.sockets place ≡ Some known → HasEvent place event old new before after
-    → Shows (event_at n place known event).network new × (after ≡ before ++ (event_at n place known event).text)
-unfolding event_at
-event_shown n place known event old new before after shows there h =
-    let same = shown_at n old place h.sight known shows h.found there in
-    let state : h.sight.state ≡ state_of known.history = ap (λ (s : Sight). s.state) same in
-    let host : h.sight.host ≡ known.host = ap (λ (s : Sight). s.host) same in
-    let name : h.sight.name ≡ known.name = ap (λ (s : Sight). s.name) same in
-    let next : state_of (happened known.history 0 event) ≡ (step (state_of known.history) event).after = state_of-happened known.history 0 event in
-    let same_state = ap (λ (s : State). (step s event).after) state ∙ sym next in
-    let later : record h.sight { state = (step h.sight.state event).after }
-    ≡ sight_of_history (record known { history = happened known.history 0 event }) = rw (same_state, host, name) refl in
-    let count : length old.datagrams ≡ length n.datagrams = ap length shows.datagrams_are in (
+  -- the socket at a place is in the state that its history leads to
+  pub shown_at : (n : model.Network C) (view : View C) (place : ℕ) (sight : Sight C) (known : model.ScriptSocket C) → Shows w n view
+      → slice_get view.sockets place ≡ Some sight → slice_get n.sockets place ≡ Some known → sight ≡ sight_of_history w known
+  shown_at n view place sight known shows found there =
+      let other : slice_get (map (sight_of_history w) n.sockets) place ≡ Some (sight_of_history w known) =
+      rw (slice_get-map (sight_of_history w) n.sockets place, there) refl in
+      let both = rw shows.sockets_are at found in
+      cc
+
+  -- an event of the code's socket is one of the network's
+  pub moves_shown : (n : model.Network C) (place : ℕ) (known : model.ScriptSocket C) (happens : Event) (old new : View C)
+      → Shows w n old → slice_get n.sockets place ≡ Some known → Moves w place happens old new
+      → Shows w (event_at w n place known happens).network new
+  unfolding event_at
+  moves_shown n place known happens old new shows there h =
+      let same = shown_at n old place h.sight known shows h.found there in
+      let state : h.sight.state ≡ state_of w known.history = ap (λ (s : Sight C). s.state) same in
+      let host : h.sight.host ≡ known.host = ap (λ (s : Sight C). s.host) same in
+      let name : h.sight.name ≡ known.name = ap (λ (s : Sight C). s.name) same in
+      let next : state_of w (happened w known.history 0 happens) ≡ (step w (state_of w known.history) happens).after = state_of-happened w known.history 0 happens in
+      let same_state = ap (λ (s : State C). (step w s happens).after) state ∙ sym next in
+      let later : record h.sight { state = (step w h.sight.state happens).after }
+      ≡ sight_of_history w (record known { history = happened w known.history 0 happens }) = rw (same_state, host, name) refl in
       record {
-        sockets_are = rw (h.sockets, shows.sockets_are, later, map-set sight_of_history n.sockets place (record known { history = happened known.history 0 event })) refl;
+        sockets_are = rw (h.sockets, shows.sockets_are, later, map-set (sight_of_history w) n.sockets place (record known { history = happened w known.history 0 happens })) refl;
         datagrams_are = rw (h.datagrams, shows.datagrams_are, state, host) refl;
-      },
-      rw (h.text, count, state, host, name) refl,
-    )
+      }
+
+  -- and it answers what the network's socket answers
+  pub reply_shown : (n : model.Network C) (place : ℕ) (known : model.ScriptSocket C) (happens : Event) (reply : Reply) (old new : View C)
+      → Shows w n old → slice_get n.sockets place ≡ Some known → Answers w place happens reply old new
+      → reply ≡ (step w (state_of w known.history) happens).reply
+  reply_shown n place known happens reply old new shows there answers =
+      let same = shown_at n old place answers.moves.sight known shows answers.moves.found there in
+      answers.reply_is ∙ ap (λ (s : Sight C). (step w s.state happens).reply) same
+
+  -- and prints the same
+  pub event_shown : (n : model.Network C) (place : ℕ) (known : model.ScriptSocket C) (happens : Event) (old new : View C) (before after : List ℕ)
+      → Shows w n old → slice_get n.sockets place ≡ Some known → HasEvent w place happens old new before after
+      → Shows w (event_at w n place known happens).network new × (after ≡ before ++ (event_at w n place known happens).text)
+  unfolding event_at
+  event_shown n place known happens old new before after shows there h =
+      let same = shown_at n old place h.sight known shows h.found there in
+      let state : h.sight.state ≡ state_of w known.history = ap (λ (s : Sight C). s.state) same in
+      let host : h.sight.host ≡ known.host = ap (λ (s : Sight C). s.host) same in
+      let name : h.sight.name ≡ known.name = ap (λ (s : Sight C). s.name) same in
+      let count : length old.datagrams ≡ length n.datagrams = ap length shows.datagrams_are in (
+        moves_shown n place known happens old new shows there
+            (record { sight = h.sight; found = h.found; sockets = h.sockets; datagrams = h.datagrams }),
+        rw (h.text, count, state, host, name) refl,
+      )
 
 -- ---- datagrams
 

@@ -6,3 +6,5 @@ pub mod LineLemmas
 pub mod ArriveLemmas
 pub mod TranscriptLemmas
 pub mod WorldLemmas
+pub mod CountedLemmas
+pub mod RunLemmas

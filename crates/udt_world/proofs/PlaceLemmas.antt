@@ -87,30 +87,31 @@ same_word word text is = (bytes_eq-Decides word text).0 is
 pub is_same_word : (word : List ℕ) → is_word word word ≡ true
 is_same_word word = (bytes_eq-Decides word word).1 refl
 
--- the socket at the place of a name has it
-pub name_there : (name : List ℕ) (sockets : List ScriptSocket) (k : ℕ) (socket : ScriptSocket) → place_of name sockets ≡ Some k
-    → slice_get sockets k ≡ Some socket → socket.name ≡ name
-unfolding place_of
-name_there name sockets k socket found at =
-    let here = get_or_from_slice_get sockets k socket socket at in
-    let test = (position-Some (λ (s : ScriptSocket). is_word s.name name) sockets k socket found).1 in
-    same_word socket.name name (rw here at test)
-
 set_same : {A : Type 0} (xs : List A) (k : ℕ) (x : A) → slice_get xs k ≡ Some x → slice_set xs k x ≡ xs
 set_same [] k x at = refl
 set_same (y ∷ xs) zero x at = ap (λ z. z ∷ xs) (sym (same_Some y x at))
 set_same (y ∷ xs) (suc k) x at = ap (λ zs. y ∷ zs) (set_same xs k x at)
 
-abbrev pub name_of : ScriptSocket → List ℕ
-name_of socket = socket.name
+module _ {C : Type 0} where
+  -- the socket at the place of a name has it
+  pub name_there : (name : List ℕ) (sockets : List (ScriptSocket C)) (k : ℕ) (socket : ScriptSocket C) → place_of name sockets ≡ Some k
+      → slice_get sockets k ≡ Some socket → socket.name ≡ name
+  unfolding place_of
+  name_there name sockets k socket found at =
+      let here = get_or_from_slice_get sockets k socket socket at in
+      let test = (position-Some (λ (s : ScriptSocket C). is_word s.name name) sockets k socket found).1 in
+      same_word socket.name name (rw here at test)
 
--- a socket of the same name in place of another changes no place
-pub place-set : (name : List ℕ) (sockets : List ScriptSocket) (k : ℕ) (old new : ScriptSocket) → slice_get sockets k ≡ Some old → new.name ≡ old.name
-    → place_of name (slice_set sockets k new) ≡ place_of name sockets
-unfolding place_of
-place-set name sockets k old new at same =
-    let test : List ℕ → Bool = λ word. is_word word name in
-    let there : slice_get (map name_of sockets) k ≡ Some old.name = rw (slice_get-map name_of sockets k, at) refl in
-    let names : map name_of (slice_set sockets k new) ≡ map name_of sockets =
-    map-set name_of sockets k new ∙ rw same (set_same (map name_of sockets) k old.name there) in
-    sym (position-map name_of test (slice_set sockets k new)) ∙ (ap (λ words. position test words) names ∙ position-map name_of test sockets)
+  abbrev pub name_of : ScriptSocket C → List ℕ
+  name_of socket = socket.name
+
+  -- a socket of the same name in place of another changes no place
+  pub place-set : (name : List ℕ) (sockets : List (ScriptSocket C)) (k : ℕ) (old new : ScriptSocket C) → slice_get sockets k ≡ Some old → new.name ≡ old.name
+      → place_of name (slice_set sockets k new) ≡ place_of name sockets
+  unfolding place_of
+  place-set name sockets k old new at same =
+      let test : List ℕ → Bool = λ word. is_word word name in
+      let there : slice_get (map name_of sockets) k ≡ Some old.name = rw (slice_get-map name_of sockets k, at) refl in
+      let names : map name_of (slice_set sockets k new) ≡ map name_of sockets =
+      map-set name_of sockets k new ∙ rw same (set_same (map name_of sockets) k old.name there) in
+      sym (position-map name_of test (slice_set sockets k new)) ∙ (ap (λ words. position test words) names ∙ position-map name_of test sockets)

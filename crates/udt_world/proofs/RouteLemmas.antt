@@ -6,6 +6,7 @@ use Rattle.std.proofs.lemmas.Option.{slice_get-map, slice_get_past, slice_get_wi
 use Rattle.udt_model.specs.declared.answers.Phase.{Phase}
 use Rattle.udt_model.specs.declared.answers.Phase.TheVariants as phase
 use Rattle.udt_model.specs.Addresses.{same_addr}
+use Rattle.udt_model.specs.Rate.{Ways}
 use Rattle.udt_model.specs.State.{State}
 use Rattle.udt_model.specs.Readiness.{is_broken, is_closed, is_connected, can_read, can_write, ready_bits}
 use Rattle.udt_model.specs.Wire.{bit, target}
@@ -40,56 +41,57 @@ closed_by false true phase.Closed = refl
 closed_by false false phase.Closed = refl
 
 -- a closed socket alone shows the highest bit
-pub bits_of_closed : (s : State) → nat_lt (ready_bits s) 32 ≡ not (is_closed s.phase)
+pub bits_of_closed : {C : Type 0} (s : State C) → nat_lt (ready_bits s) 32 ≡ not (is_closed s.phase)
 unfolding ready_bits
 bits_of_closed s = closed_by (can_read s) (can_write s) s.phase
 
 -- ---- routes
 
-pub route_away : (n : model.Network) (datagram : model.ScriptDatagram) → is_host datagram.to ≡ false
-    → route n.sockets datagram ≡ model.Nowhere (codes "host")
-unfolding route
-route_away n datagram away = rw away refl
-
-pub route_short : (n : model.Network) (datagram : model.ScriptDatagram) → is_host datagram.to ≡ true → target datagram.bytes ≡ None
-    → route n.sockets datagram ≡ model.Nowhere (codes "short")
-unfolding route
-route_short n datagram host none = rw (host, none) refl
-
-pub route_shake : (n : model.Network) (datagram : model.ScriptDatagram) → is_host datagram.to ≡ true → target datagram.bytes ≡ Some 0
-    → route n.sockets datagram ≡ model.Nowhere (codes "shake")
-unfolding route
-route_shake n datagram host zero_id = rw (host, zero_id) refl
-
-not_zero : (id : ℕ) → 0 < id → eqb id 0 ≡ false
+pub not_zero : (id : ℕ) → 0 < id → eqb id 0 ≡ false
 not_zero id some = ne_eqb id 0 (λ e. absurd (omega (arith, e)))
 
-module _ (n : model.Network) (network : Network) (shows : Shows n (view_of network)) (datagram : model.ScriptDatagram) (id : ℕ)
-    (host : is_host datagram.to ≡ true) (is : target datagram.bytes ≡ Some id) (some : 0 < id) where
-  pub route_past : length network.sockets.items ≤ id - 1 → route n.sockets datagram ≡ model.Nowhere (codes "id")
+module _ {C : Type 0} (w : Ways C) where
+  pub route_away : (n : model.Network C) (datagram : model.ScriptDatagram) → is_host datagram.to ≡ false
+      → route w n.sockets datagram ≡ model.Nowhere (codes "host")
   unfolding route
-  route_past past = rw (host, is, not_zero id some, slice_get_past n.sockets (id - 1) (omega (arith, past, count_same n network shows))) refl
+  route_away n datagram away = rw away refl
 
-  module _ (socket : ScriptSocket) (found : slice_get network.sockets.items (id - 1) ≡ Some socket) where
-    -- the socket is enrolled where the one that shows it is
-    enrolled_same : (known : model.ScriptSocket) (here : Bool) → slice_get n.sockets (id - 1) ≡ Some known
-        → (same_addr socket.host datagram.to && not (is_closed socket.socket.phase)) ≡ here → is_enrolled datagram.to known ≡ here
-    enrolled_same known here there test =
-        let seen : slice_get (view_of network).sockets (id - 1) ≡ Some (sight_of socket) = rw (slice_get-map sight_of network.sockets.items (id - 1), found) refl in
-        let same = shown_at n (view_of network) (id - 1) (sight_of socket) known shows seen there in
-        sym (ap (λ (s : Sight). same_addr s.host datagram.to && not (is_closed s.state.phase)) same) ∙ test
+  pub route_short : (n : model.Network C) (datagram : model.ScriptDatagram) → is_host datagram.to ≡ true → target datagram.bytes ≡ None
+      → route w n.sockets datagram ≡ model.Nowhere (codes "short")
+  unfolding route
+  route_short n datagram host none = rw (host, none) refl
 
-    pub route_other : (same_addr socket.host datagram.to && not (is_closed socket.socket.phase)) ≡ false
-        → route n.sockets datagram ≡ model.Nowhere (codes "id")
+  pub route_shake : (n : model.Network C) (datagram : model.ScriptDatagram) → is_host datagram.to ≡ true → target datagram.bytes ≡ Some 0
+      → route w n.sockets datagram ≡ model.Nowhere (codes "shake")
+  unfolding route
+  route_shake n datagram host zero_id = rw (host, zero_id) refl
+
+  module _ (n : model.Network C) (network : Network C) (shows : Shows w n (view_of network)) (datagram : model.ScriptDatagram) (id : ℕ)
+      (host : is_host datagram.to ≡ true) (is : target datagram.bytes ≡ Some id) (some : 0 < id) where
+    pub route_past : length network.sockets.items ≤ id - 1 → route w n.sockets datagram ≡ model.Nowhere (codes "id")
     unfolding route
-    route_other other =
-        let known = known_at n network (id - 1) shows (slice_get_within network.sockets.items (id - 1) socket found) in
-        let test : is_enrolled datagram.to known.0 ≡ false = enrolled_same known.0 false known.1 other in
-        rw (host, is, not_zero id some, known.1, test) refl
+    route_past past = rw (host, is, not_zero id some, slice_get_past n.sockets (id - 1) (omega (arith, past, count_same w n network shows))) refl
 
-    pub route_here : (same_addr socket.host datagram.to && not (is_closed socket.socket.phase)) ≡ true → GoesTo n datagram (id - 1)
-    unfolding route
-    route_here same =
-        let known = known_at n network (id - 1) shows (slice_get_within network.sockets.items (id - 1) socket found) in
-        let test : is_enrolled datagram.to known.0 ≡ true = enrolled_same known.0 true known.1 same in
-        (known.0, known.1, rw (host, is, not_zero id some, known.1, test) refl)
+    module _ (socket : ScriptSocket C) (found : slice_get network.sockets.items (id - 1) ≡ Some socket) where
+      -- the socket is enrolled where the one that shows it is
+      enrolled_same : (known : model.ScriptSocket C) (here : Bool) → slice_get n.sockets (id - 1) ≡ Some known
+          → (same_addr socket.host datagram.to && not (is_closed socket.socket.phase)) ≡ here → is_enrolled w datagram.to known ≡ here
+      enrolled_same known here there test =
+          let seen : slice_get (view_of network).sockets (id - 1) ≡ Some (sight_of socket) = rw (slice_get-map sight_of network.sockets.items (id - 1), found) refl in
+          let same = shown_at w n (view_of network) (id - 1) (sight_of socket) known shows seen there in
+          sym (ap (λ (s : Sight C). same_addr s.host datagram.to && not (is_closed s.state.phase)) same) ∙ test
+
+      pub route_other : (same_addr socket.host datagram.to && not (is_closed socket.socket.phase)) ≡ false
+          → route w n.sockets datagram ≡ model.Nowhere (codes "id")
+      unfolding route
+      route_other other =
+          let known = known_at w n network (id - 1) shows (slice_get_within network.sockets.items (id - 1) socket found) in
+          let test : is_enrolled w datagram.to known.0 ≡ false = enrolled_same known.0 false known.1 other in
+          rw (host, is, not_zero id some, known.1, test) refl
+
+      pub route_here : (same_addr socket.host datagram.to && not (is_closed socket.socket.phase)) ≡ true → GoesTo w n datagram (id - 1)
+      unfolding route
+      route_here same =
+          let known = known_at w n network (id - 1) shows (slice_get_within network.sockets.items (id - 1) socket found) in
+          let test : is_enrolled w datagram.to known.0 ≡ true = enrolled_same known.0 true known.1 same in
+          (known.0, known.1, rw (host, is, not_zero id some, known.1, test) refl)

@@ -11,11 +11,12 @@ use Rattle.udt_model.specs.declared.addresses.Addr.{Addr}
 use Rattle.udt_model.specs.declared.packets.Config.{Config}
 use Rattle.udt_model.specs.declared.answers.Peer.{Peer}
 use Rattle.udt_model.specs.Emissions.{IsPrefix}
-use Rattle.udt_model.specs.Events.{Arrive, DidTick, Event, Reply}
+use Rattle.udt_model.specs.Events.{Arrive, DidTick, Event, Reply, outs_of}
 use Rattle.udt_model.specs.History.{History, state_of, happened, taken_by, given_by, accepted_by, delivered_by, accepted, delivered}
 use Rattle.udt_model.specs.Lines.{Pairing, Line, Silent, PairLine, CallLine, DeliverLine, RawLine, read_line, AreEmitted}
 use Rattle.udt_model.specs.Network.{ScriptSocket, ScriptDatagram, Network, empty_network, first_host, second_host, place_of, Route, ToSocket, Nowhere, route}
 use Rattle.udt_model.specs.Opening.{opening}
+use Rattle.udt_model.specs.Rate.{Ways}
 use Rattle.udt_model.specs.Records.{own_peer}
 use Rattle.udt_model.specs.Script.{Printed, from_host, paired_socket, paired, may_pair, event_at, event_there, arrived, delivery, on_line, played_line, network_after, printed_after}
 use Rattle.udt_model.specs.Step.{step}
@@ -32,38 +33,12 @@ use Rattle.udt_world.proofs.ArriveLemmas.{arrive-gives}
 use Rattle.udt_world.proofs.LineLemmas.{no_lines, accepted-by, left-after}
 use Rattle.udt_world.proofs.PlaceLemmas.{same_word, is_same_word, name_there, place-set, position-first, position-others, position-cons}
 
--- the entries say of this name what the history says
-record Says (name : List ℕ) (entries : List Entry) (h : History) : Type 0 where
-  received : received name entries ≡ delivered h
-  sent : sent name entries ≡ accepted h
-
--- and of this name nothing
+-- the entries say of this name nothing
 record SaysNothing (name : List ℕ) (entries : List Entry) : Type 0 where
   received : received name entries ≡ []
   sent : sent name entries ≡ []
 
--- a socket at this place began as this one did
-record BeganAs (n : Network) (place : ℕ) (fresh : ScriptSocket) : Type 0 where
-  socket : ScriptSocket
-  at : slice_get n.sockets place ≡ Some socket
-  name : socket.name ≡ fresh.name
-  host : socket.host ≡ fresh.host
-  opened : socket.history.opening ≡ fresh.history.opening
-
--- two sockets began as a pair
-record HasPair (n : Network) (p : Pairing) : Type 0 where
-  place : ℕ
-  first : BeganAs n place (paired_socket p p.a first_host (place + 1) second_host (place + 2))
-  second : BeganAs n (place + 1) (paired_socket p p.b second_host (place + 2) first_host (place + 1))
-
--- the entries tell the network
-pub record IsTold (n : Network) (entries : List Entry) : Type 0 where
-  sockets : (k : ℕ) (socket : ScriptSocket) → slice_get n.sockets k ≡ Some socket → Says socket.name entries socket.history
-  places : (k : ℕ) (socket : ScriptSocket) → slice_get n.sockets k ≡ Some socket → place_of socket.name n.sockets ≡ Some k
-  others : (name : List ℕ) → place_of name n.sockets ≡ None → SaysNothing name entries
-  pairs : (entry : Entry) (p : Pairing) → Contains entries entry → read_line entry.line ≡ Some (PairLine p) → HasPair n p
-
--- ---- one more entry
+-- ---- what entries say
 
 received-more : (name : List ℕ) (entries : List Entry) (e : Entry) → received name (entries ++ e ∷ []) ≡ received name entries ++ given_to name (read_line e.line) e.reply
 received-more name entries e =
@@ -80,139 +55,13 @@ record Adds (name : List ℕ) (e : Entry) (gave took : List ℕ) : Type 0 where
   gives : given_to name (read_line e.line) e.reply ≡ gave
   takes : taken_from name (read_line e.line) e.reply ≡ took
 
-says-on : (name : List ℕ) (entries : List Entry) (e : Entry) (h : History) → Adds name e [] [] → Says name entries h → Says name (entries ++ e ∷ []) h
-says-on name entries e h adds says = record {
-  received = received-more name entries e ∙ (rw adds.gives (append-nil (received name entries)) ∙ says.received);
-  sent = sent-more name entries e ∙ (rw adds.takes (append-nil (sent name entries)) ∙ says.sent);
-}
-
 says-nothing-on : (name : List ℕ) (entries : List Entry) (e : Entry) → Adds name e [] [] → SaysNothing name entries → SaysNothing name (entries ++ e ∷ [])
 says-nothing-on name entries e adds says = record {
   received = received-more name entries e ∙ (rw adds.gives (append-nil (received name entries)) ∙ says.received);
   sent = sent-more name entries e ∙ (rw adds.takes (append-nil (sent name entries)) ∙ says.sent);
 }
 
-delivered-happened : (h : History) (event : Event) → delivered (happened h 0 event) ≡ delivered h ++ given_by (step (state_of h) event).reply
-unfolding delivered_by
-delivered-happened h event = delivered_by-append h.items _ ∙ ap (λ more. delivered h ++ more) (append-nil (given_by (step (state_of h) event).reply))
-
-accepted-happened : (h : History) (event : Event) → accepted (happened h 0 event) ≡ accepted h ++ taken_by event.act (step (state_of h) event).reply
-unfolding accepted_by
-accepted-happened h event = accepted_by-append h.items _ ∙ ap (λ more. accepted h ++ more) (append-nil (taken_by event.act (step (state_of h) event).reply))
-
-pairs-on : (n : Network) (entries : List Entry) (e : Entry) → ((p : Pairing) → read_line e.line ≡ Some (PairLine p) → HasPair n p)
-    → ((entry : Entry) (p : Pairing) → Contains entries entry → read_line entry.line ≡ Some (PairLine p) → HasPair n p)
-    → (entry : Entry) (p : Pairing) → Contains (entries ++ e ∷ []) entry → read_line entry.line ≡ Some (PairLine p) → HasPair n p
-pairs-on n entries e new old entry p among reads = elim (Contains-push_cases entries e entry among) [
-  | inl before ↦ old entry p before reads
-  | inr last ↦ new p (ap (λ (x : Entry). read_line x.line) last ∙ reads)
-]
-
--- an entry that tells nothing of any name
-quiet : (n : Network) (entries : List Entry) (e : Entry) → ((name : List ℕ) → Adds name e [] []) → ((p : Pairing) → read_line e.line ≡ Some (PairLine p) → HasPair n p)
-    → IsTold n entries → IsTold n (entries ++ e ∷ [])
-quiet n entries e adds new told = record {
-  sockets = λ k socket at. says-on socket.name entries e socket.history (adds socket.name) (told.sockets k socket at);
-  places = told.places;
-  others = λ name none. says-nothing-on name entries e (adds name) (told.others name none);
-  pairs = pairs-on n entries e new told.pairs;
-}
-
--- ---- events
-
-module _ (n : Network) (entries : List Entry) (told : IsTold n entries) (k : ℕ) (socket : ScriptSocket) (event : Event) (at : slice_get n.sockets k ≡ Some socket) where
-  abbrev later : ScriptSocket
-  later = record socket { history = happened socket.history 0 event }
-
-  abbrev gave : List ℕ
-  gave = given_by (step (state_of socket.history) event).reply
-
-  abbrev took : List ℕ
-  took = taken_by event.act (step (state_of socket.history) event).reply
-
-  began-on : (place : ℕ) (fresh : ScriptSocket) → BeganAs n place fresh → BeganAs (event_at n k socket event).network place fresh
-  unfolding event_at
-  began-on place fresh began = elim (cases_eq k place) [
-    | inl same ↦
-        let one = found-once n.sockets place socket began.socket (subst (λ (j : ℕ). slice_get n.sockets j ≡ Some socket) same at) began.at in
-        let there = subst (λ (j : ℕ). slice_get (slice_set n.sockets k later) j ≡ Some later) same (set-same n.sockets k socket later at) in
-        record {
-          socket = later;
-          at = there;
-          name = ap (λ (s : ScriptSocket). s.name) one ∙ began.name;
-          host = ap (λ (s : ScriptSocket). s.host) one ∙ began.host;
-          opened = ap (λ (s : ScriptSocket). s.history.opening) one ∙ began.opened;
-        }
-    | inr apart ↦ record {
-      socket = began.socket;
-      at = set-other n.sockets k place later apart ∙ began.at;
-      name = began.name;
-      host = began.host;
-      opened = began.opened;
-    }
-  ]
-
-  -- another name has another place
-  another : (name : List ℕ) (found : Option ℕ) → place_of name n.sockets ≡ found → (found ≡ Some k → ⊥) → is_word socket.name name ≡ false
-  another name found place apart =
-      elim (is_word socket.name name) as (λ b. is_word socket.name name ≡ b → b ≡ false) [
-        | true ↦ λ e.
-            let same = same_word socket.name name e in
-            absurd (apart (sym place ∙ (ap (λ word. place_of word n.sockets) (sym same) ∙ told.places k socket at)))
-        | false ↦ λ e. refl
-      ] refl
-
-  -- the entry tells of the socket's name what the event gave and took
-  event-told : (e : Entry) → ((name : List ℕ) → Adds name e (if is_word socket.name name then gave else []) (if is_word socket.name name then took else []))
-      → ((p : Pairing) → read_line e.line ≡ Some (PairLine p) → ⊥)
-      → IsTold (event_at n k socket event).network (entries ++ e ∷ [])
-  unfolding event_at
-  event-told e adds no_pair =
-      let silent : (name : List ℕ) → is_word socket.name name ≡ false → Adds name e [] [] = λ name other.
-      record { gives = (adds name).gives ∙ (rw other refl); takes = (adds name).takes ∙ (rw other refl) } in
-      let own = is_same_word socket.name in
-      let says = told.sockets k socket at in
-      let mine : Says socket.name (entries ++ e ∷ []) later.history = record {
-        received =
-            received-more socket.name entries e
-            ∙ (rw ((adds socket.name).gives, own, says.received) (sym (delivered-happened socket.history event)));
-        sent =
-            sent-more socket.name entries e
-            ∙ (rw ((adds socket.name).takes, own, says.sent) (sym (accepted-happened socket.history event)));
-      } in
-      record {
-        sockets = λ j found found_at. elim (cases_eq k j) [
-          | inl same ↦
-              let there = subst (λ (i : ℕ). slice_get (slice_set n.sockets k later) i ≡ Some later) same (set-same n.sockets k socket later at) in
-              subst (λ (s : ScriptSocket). Says s.name (entries ++ e ∷ []) s.history) (found-once _ j later found there found_at) mine
-          | inr apart ↦
-              let old = sym (set-other n.sockets k j later apart) ∙ found_at in
-              let other = another found.name (Some j) (told.places j found old) (λ (same : Some j ≡ Some k). apart (sym (same_Some j k same))) in
-              says-on found.name entries e found.history (silent found.name other) (told.sockets j found old)
-        ];
-        places = λ j found found_at. place-set found.name n.sockets k socket later at refl ∙ (elim (cases_eq k j) [
-          | inl same ↦
-              let there = subst (λ (i : ℕ). slice_get (slice_set n.sockets k later) i ≡ Some later) same (set-same n.sockets k socket later at) in
-              let one = found-once _ j later found there found_at in
-              ap (λ (s : ScriptSocket). place_of s.name n.sockets) (sym one) ∙ (told.places k socket at ∙ ap Some same)
-          | inr apart ↦ told.places j found (sym (set-other n.sockets k j later apart) ∙ found_at)
-        ]);
-        others = λ name none.
-            let before : place_of name n.sockets ≡ None = sym (place-set name n.sockets k socket later at refl) ∙ none in
-            says-nothing-on name entries e (silent name (another name None before (λ same. absurd (cc)))) (told.others name before);
-        pairs = pairs-on (event_at n k socket event).network entries e (λ p reads. absurd (no_pair p reads)) (λ entry p among reads.
-            let pair = told.pairs entry p among reads in
-            record { place = pair.place; first = began-on pair.place _ pair.first; second = began-on (pair.place + 1) _ pair.second });
-      }
-
--- ---- lines
-
--- what a line printed is an entry, with which the entries tell what it left
-pub record Made (line : List ℕ) (entries : List Entry) (p : Printed) : Type 0 where
-  pub entry : Entry
-  pub line_is : entry.line ≡ line
-  pub text : entry_text entry ≡ p.text
-  pub told : IsTold p.network (entries ++ entry ∷ [])
+-- ---- quiet lines
 
 -- a line that is no call and no pair
 record IsQuiet (line : List ℕ) : Type 0 where
@@ -227,201 +76,6 @@ entry_of line text = record { line = line; reply = DidTick; rest = text }
 no_matter : (b : Bool) (xs : List ℕ) → xs ≡ [] → (if b then xs else []) ≡ []
 no_matter true xs none = none
 no_matter false xs none = refl
-
-quiet-made : (n : Network) (entries : List Entry) (line text : List ℕ) → IsQuiet line → IsTold n entries
-    → Made line entries (record { network = n; text = text })
-unfolding entry_of
-quiet-made n entries line text is told = record {
-  entry = entry_of line text;
-  line_is = refl;
-  text = rw (is.answers DidTick) refl;
-  told = quiet n entries (entry_of line text) (λ name. record { gives = is.gives name DidTick; takes = is.takes name DidTick }) (λ p reads. absurd (is.no_pair p reads)) told;
-}
-
-arrival-made : (n : Network) (entries : List Entry) (line : List ℕ) (now : ℕ) (datagram : ScriptDatagram) (r : Route) → route n.sockets datagram ≡ r → IsQuiet line
-    → IsTold n entries → Made line entries (arrived n now datagram r)
-unfolding entry_of
-arrival-made n entries line now datagram (Nowhere word) is quietly told = quiet-made n entries line _ quietly told
-arrival-made n entries line now datagram (ToSocket place socket) is quietly told =
-    let event : Event = record { now = now; act = Arrive datagram.from datagram.bytes } in
-    let none = arrive-gives (state_of socket.history) now datagram.from datagram.bytes in
-    let entry = entry_of line (event_at n place socket event).text in
-    record {
-      entry = entry;
-      line_is = refl;
-      text = rw (quietly.answers DidTick) refl;
-      told = event-told n entries told place socket event (route-found n.sockets datagram place socket is) entry
-          (λ name. record {
-            gives = quietly.gives name DidTick ∙ sym (no_matter (is_word socket.name name) _ none);
-            takes = quietly.takes name DidTick ∙ sym (no_matter (is_word socket.name name) [] refl);
-          })
-          quietly.no_pair;
-    }
-
-delivery-made : (n : Network) (entries : List Entry) (line : List ℕ) (now : ℕ) (found : Option ScriptDatagram) (p : Printed) → delivery n now found ≡ Some p → IsQuiet line
-    → IsTold n entries → Made line entries p
-delivery-made n entries line now None p is quietly told = absurd (cc)
-delivery-made n entries line now (Some datagram) p is quietly told =
-    subst (Made line entries) (same_Some _ p is) (arrival-made n entries line now datagram (route n.sockets datagram) refl quietly told)
-
--- a call is answered by the socket of its name
-call-made : (n : Network) (entries : List Entry) (line name : List ℕ) (event : Event) (k : ℕ) (socket : ScriptSocket) → read_line line ≡ Some (CallLine name event)
-    → socket.name ≡ name → slice_get n.sockets k ≡ Some socket → IsTold n entries → Made line entries (event_at n k socket event)
-unfolding event_at
-call-made n entries line name event k socket reads named at told =
-    let reply = (step (state_of socket.history) event).reply in
-    let entry : Entry = record {
-      line = line;
-      reply = reply;
-      rest = datagrams_text (length n.datagrams) (map (from_host socket.host) (step (state_of socket.history) event).outs);
-    } in
-    record {
-      entry = entry;
-      line_is = refl;
-      text = rw (reads, ← named) refl;
-      told = event-told n entries told k socket event at entry (λ other. record { gives = rw (reads, ← named) refl; takes = rw (reads, ← named) refl }) (λ p pairs. absurd (cc));
-    }
-
-call-found : (n : Network) (entries : List Entry) (line name : List ℕ) (event : Event) (k : ℕ) (found : Option ScriptSocket) (p : Printed)
-    → read_line line ≡ Some (CallLine name event) → place_of name n.sockets ≡ Some k → slice_get n.sockets k ≡ found
-    → option_map (λ socket. event_at n k socket event) found ≡ Some p → IsTold n entries → Made line entries p
-call-found n entries line name event k None p reads place at is told = absurd (cc)
-call-found n entries line name event k (Some socket) p reads place at is told =
-    subst (Made line entries) (same_Some _ p is) (call-made n entries line name event k socket reads (name_there name n.sockets k socket place at) at told)
-
-call-there : (n : Network) (entries : List Entry) (line name : List ℕ) (event : Event) (found : Option ℕ) (p : Printed)
-    → read_line line ≡ Some (CallLine name event) → place_of name n.sockets ≡ found → event_there n found event ≡ Some p → IsTold n entries
-    → Made line entries p
-call-there n entries line name event None p reads place is told = absurd (cc)
-call-there n entries line name event (Some k) p reads place is told = call-found n entries line name event k (slice_get n.sockets k) p reads place refl is told
-
--- ---- pairs
-
-two-found : {X : Type 0} (a b x : X) (j : ℕ) → slice_get (a ∷ b ∷ []) j ≡ Some x → ((j ≡ 0) × (a ≡ x)) ⊎ ((j ≡ 1) × (b ≡ x))
-two-found a b x zero found = inl (refl, cc)
-two-found a b x (suc zero) found = inr (refl, cc)
-two-found a b x (suc (suc j)) found = absurd (cc)
-
-same_pairing : (p other : Pairing) → Some (PairLine p) ≡ Some (PairLine other) → p ≡ other
-same_pairing p other is = cc
-
-module _ (n : Network) (p : Pairing) (no_a : place_of p.a n.sockets ≡ None) (no_b : place_of p.b n.sockets ≡ None) (differ : is_word p.a p.b ≡ false) where
-  abbrev first_one : ScriptSocket
-  first_one = paired_socket p p.a first_host (length n.sockets + 1) second_host (length n.sockets + 2)
-
-  abbrev second_one : ScriptSocket
-  second_one = paired_socket p p.b second_host (length n.sockets + 2) first_host (length n.sockets + 1)
-
-  abbrev with_both : List ScriptSocket
-  with_both = n.sockets ++ first_one ∷ second_one ∷ []
-
-  old-place : (name : List ℕ) (k : ℕ) → place_of name n.sockets ≡ Some k → place_of name with_both ≡ Some k
-  unfolding place_of
-  old-place name k is = position-first (λ (s : ScriptSocket). is_word s.name name) n.sockets (first_one ∷ second_one ∷ []) k is
-
-  first-place : place_of p.a with_both ≡ Some (length n.sockets)
-  unfolding place_of
-  first-place =
-      let test : ScriptSocket → Bool = λ s. is_word s.name p.a in
-      let none : length n.sockets + 0 ≡ length n.sockets = omega arith in
-      position-others test n.sockets (first_one ∷ second_one ∷ []) no_a
-      ∙ rw (position-cons test first_one (second_one ∷ []), is_same_word p.a, none) refl
-
-  second-place : place_of p.b with_both ≡ Some (length n.sockets + 1)
-  unfolding place_of
-  second-place =
-      let test : ScriptSocket → Bool = λ s. is_word s.name p.b in
-      position-others test n.sockets (first_one ∷ second_one ∷ []) no_b
-      ∙ rw (position-cons test first_one (second_one ∷ []), differ, position-cons test second_one [], is_same_word p.b) refl
-
-  no-place : (name : List ℕ) (found : Option ℕ) → place_of name n.sockets ≡ found → place_of name with_both ≡ None → found ≡ None
-  no-place name None is none = refl
-  no-place name (Some k) is none = absurd (let there = old-place name k is in cc)
-
-  began-first : (place : ℕ) (fresh : ScriptSocket) → BeganAs n place fresh → BeganAs (paired n p).network place fresh
-  unfolding paired
-  began-first place fresh began = record {
-    socket = began.socket;
-    at = append-first n.sockets _ place began.socket began.at;
-    name = began.name;
-    host = began.host;
-    opened = began.opened;
-  }
-
-  the-pair : HasPair (paired n p).network p
-  unfolding paired
-  the-pair = record {
-    place = length n.sockets;
-    first = record { socket = first_one; at = append-second n.sockets _ (length n.sockets) 0 first_one (omega arith) refl; name = refl; host = refl; opened = refl };
-    second = record { socket = second_one; at = append-second n.sockets _ (length n.sockets + 1) 1 second_one refl refl; name = refl; host = refl; opened = refl };
-  }
-
-  -- nothing was said of the new names, and nothing happened to their sockets
-  new-says : (name : List ℕ) (entries : List Entry) (h : History) → h.items ≡ [] → SaysNothing name entries → Says name entries h
-  unfolding delivered_by accepted_by
-  new-says name entries h none says = record { received = rw none says.received; sent = rw none says.sent }
-
-  pair-told : (entries : List Entry) (e : Entry) → read_line e.line ≡ Some (PairLine p) → IsTold n entries → IsTold (paired n p).network (entries ++ e ∷ [])
-  unfolding paired
-  pair-told entries e reads told =
-      let adds : (name : List ℕ) → Adds name e [] [] = λ name. record { gives = rw reads refl; takes = rw reads refl } in
-      record {
-        sockets = λ k socket at. elim (append-found n.sockets (first_one ∷ second_one ∷ []) k socket at) [
-          | inl old ↦ says-on socket.name entries e socket.history (adds socket.name) (told.sockets k socket old)
-          | inr past ↦ elim (two-found first_one second_one socket past.0 past.2) [
-            | inl one ↦ subst (λ (s : ScriptSocket). Says s.name (entries ++ e ∷ []) s.history) one.1
-                (new-says p.a (entries ++ e ∷ []) first_one.history refl (says-nothing-on p.a entries e (adds p.a) (told.others p.a no_a)))
-            | inr two ↦ subst (λ (s : ScriptSocket). Says s.name (entries ++ e ∷ []) s.history) two.1
-                (new-says p.b (entries ++ e ∷ []) second_one.history refl (says-nothing-on p.b entries e (adds p.b) (told.others p.b no_b)))
-          ]
-        ];
-        places = λ k socket at. elim (append-found n.sockets (first_one ∷ second_one ∷ []) k socket at) [
-          | inl old ↦ old-place socket.name k (told.places k socket old)
-          | inr past ↦ elim (two-found first_one second_one socket past.0 past.2) [
-            | inl one ↦
-                let place : length n.sockets ≡ k = omega (arith, past.1, one.0) in
-                ap (λ (s : ScriptSocket). place_of s.name with_both) (sym one.1) ∙ (first-place ∙ ap Some place)
-            | inr two ↦
-                let place : length n.sockets + 1 ≡ k = omega (arith, past.1, two.0) in
-                ap (λ (s : ScriptSocket). place_of s.name with_both) (sym two.1) ∙ (second-place ∙ ap Some place)
-          ]
-        ];
-        others = λ name none. says-nothing-on name entries e (adds name) (told.others name (no-place name (place_of name n.sockets) refl none));
-        pairs = pairs-on (paired n p).network entries e
-            (λ other is. subst (HasPair (paired n p).network) (same_pairing p other (sym reads ∙ is)) the-pair)
-            (λ entry other among is.
-            let pair = told.pairs entry other among is in
-            record { place = pair.place; first = began-first pair.place _ pair.first; second = began-first (pair.place + 1) _ pair.second });
-      }
-
-not_taken : (o : Option ℕ) → not (is_some o) ≡ true → o ≡ None
-not_taken None is = refl
-not_taken (Some k) is = absurd (cc)
-
-is_false : (b : Bool) → not b ≡ true → b ≡ false
-is_false true is = absurd (cc)
-is_false false is = refl
-
-pair-made : (n : Network) (entries : List Entry) (line : List ℕ) (pairing : Pairing) (p : Printed) → read_line line ≡ Some (PairLine pairing)
-    → (if may_pair n pairing then Some (paired n pairing) else None) ≡ Some p → IsTold n entries → Made line entries p
-unfolding entry_of
-pair-made n entries line pairing p reads is told =
-    elim (may_pair n pairing) as (λ may. may_pair n pairing ≡ may → (if may then Some (paired n pairing) else None) ≡ Some p → Made line entries p) [
-      | true ↦ λ test e.
-          let parts = and_parts _ _ test in
-          let two = and_parts _ _ parts.0 in
-          let three = and_parts _ _ two.0 in
-          let entry = entry_of line (paired n pairing).text in
-          subst (Made line entries) (same_Some _ p e) (record {
-            entry = entry;
-            line_is = refl;
-            text = rw reads refl;
-            told = pair-told n pairing (not_taken _ two.1) (not_taken _ parts.1) (is_false _ three.1) entries entry reads told;
-          })
-      | false ↦ λ test e. absurd (cc)
-    ] refl is
-
--- ---- all lines
 
 quiet_deliver : (line : List ℕ) (number now : ℕ) → read_line line ≡ Some (DeliverLine number now) → IsQuiet line
 quiet_deliver line number now reads = record {
@@ -447,142 +101,496 @@ quiet_silent line reads = record {
   no_pair = λ p pairs. cc;
 }
 
-form-made : (n : Network) (entries : List Entry) (line : List ℕ) (form : Line) (p : Printed) → read_line line ≡ Some form → on_line n form ≡ Some p
-    → IsTold n entries → Made line entries p
-form-made n entries line Silent p reads is told = subst (Made line entries) (same_Some _ p is) (quiet-made n entries line [] (quiet_silent line reads) told)
-form-made n entries line (PairLine pairing) p reads is told = pair-made n entries line pairing p reads is told
-form-made n entries line (CallLine name event) p reads is told = call-there n entries line name event (place_of name n.sockets) p reads refl is told
-form-made n entries line (DeliverLine number now) p reads is told =
-    delivery-made n entries line now (slice_get n.datagrams number) p is (quiet_deliver line number now reads) told
-form-made n entries line (RawLine now datagram) p reads is told = delivery-made n entries line now (Some datagram) p is (quiet_raw line now datagram reads) told
+-- ---- two sockets
 
-read-made : (n : Network) (entries : List Entry) (line : List ℕ) (found : Option Line) (p : Printed) → read_line line ≡ found → (found >>= on_line n) ≡ Some p
-    → IsTold n entries → Made line entries p
-read-made n entries line None p reads is told = absurd (cc)
-read-made n entries line (Some form) p reads is told = form-made n entries line form p reads is told
+two-found : {X : Type 0} (a b x : X) (j : ℕ) → slice_get (a ∷ b ∷ []) j ≡ Some x → ((j ≡ 0) × (a ≡ x)) ⊎ ((j ≡ 1) × (b ≡ x))
+two-found a b x zero found = inl (refl, cc)
+two-found a b x (suc zero) found = inr (refl, cc)
+two-found a b x (suc (suc j)) found = absurd (cc)
 
--- each line that isn't refused
-pub line-made : (n : Network) (entries : List Entry) (line : List ℕ) (p : Printed) → played_line n line ≡ Some p → IsTold n entries → Made line entries p
-unfolding played_line
-line-made n entries line p is told = read-made n entries line (read_line line) p refl is told
+same_pairing : (p other : Pairing) → Some (PairLine p) ≡ Some (PairLine other) → p ≡ other
+same_pairing p other is = cc
+
+not_taken : (o : Option ℕ) → not (is_some o) ≡ true → o ≡ None
+not_taken None is = refl
+not_taken (Some k) is = absurd (cc)
+
+is_false : (b : Bool) → not b ≡ true → b ≡ false
+is_false true is = absurd (cc)
+is_false false is = refl
 
 no_socket : {X : Type 0} (k : ℕ) (x : X) → slice_get [] k ≡ Some x → ⊥
 no_socket k x at = cc
 
-pub nothing_told : IsTold empty_network []
-nothing_told = record {
-  sockets = λ k socket at. absurd (no_socket k socket at);
-  places = λ k socket at. absurd (no_socket k socket at);
-  others = λ name none. record { received = refl; sent = refl };
-  pairs = λ entry p among reads. absurd (omega (arith, among.1));
-}
+module _ {C : Type 0} (w : Ways C) where
+  -- the entries say of this name what the history says
+  record Says (name : List ℕ) (entries : List Entry) (h : History C) : Type 0 where
+    received : received name entries ≡ delivered h
+    sent : sent name entries ≡ accepted h
 
--- ---- in step
+  -- a socket at this place began as this one did
+  record BeganAs (n : Network C) (place : ℕ) (fresh : ScriptSocket C) : Type 0 where
+    socket : ScriptSocket C
+    at : slice_get n.sockets place ≡ Some socket
+    name : socket.name ≡ fresh.name
+    host : socket.host ≡ fresh.host
+    opened : socket.history.opening ≡ fresh.history.opening
 
-module _ (lines : List (List ℕ)) (entries : List Entry) (few : length lines < 2 ^ 30) (emitted : AreEmitted lines) (told : IsTold (network_after lines) entries) where
-  prefix-told : (k m : ℕ) (one other : ScriptSocket) (own : BeganAs (network_after lines) k one) (peer : BeganAs (network_after lines) m other)
-      → own_peer own.socket.history ≡ Some (record { addr = peer.socket.host; id = m + 1 })
-      → IsPrefix (received one.name entries) (sent other.name entries)
-  prefix-told k m one other own peer names =
-      let law = (script_prefix lines k m own.socket peer.socket few emitted own.at peer.at names).prefix in
-      let mine = told.sockets k own.socket own.at in
-      let theirs = told.sockets m peer.socket peer.at in
-      rw (← own.name, ← peer.name, mine.received, theirs.sent) law
+  -- two sockets began as a pair
+  record HasPair (n : Network C) (p : Pairing) : Type 0 where
+    place : ℕ
+    first : BeganAs n place (paired_socket w p p.a first_host (place + 1) second_host (place + 2))
+    second : BeganAs n (place + 1) (paired_socket w p p.b second_host (place + 2) first_host (place + 1))
 
-  peer-named : (h : History) (own : ℕ) (config : Config) (peer : Peer) (start : ℕ) (host : Addr) (id : ℕ) → h.opening ≡ opening own config peer 0 start
-      → peer.addr ≡ host → peer.id ≡ id → own_peer h ≡ Some (record { addr = host; id = id })
-  peer-named h own config peer start host id opened addr_is id_is =
-      let last = last_peer own config peer 0 start h opened in
-      rw (last, addr_is, id_is) refl
+  -- the entries tell the network
+  pub record IsTold (n : Network C) (entries : List Entry) : Type 0 where
+    sockets : (k : ℕ) (socket : ScriptSocket C) → slice_get n.sockets k ≡ Some socket → Says socket.name entries socket.history
+    places : (k : ℕ) (socket : ScriptSocket C) → slice_get n.sockets k ≡ Some socket → place_of socket.name n.sockets ≡ Some k
+    others : (name : List ℕ) → place_of name n.sockets ≡ None → SaysNothing name entries
+    pairs : (entry : Entry) (p : Pairing) → Contains entries entry → read_line entry.line ≡ Some (PairLine p) → HasPair n p
 
-  pub in-step : AreInStep entries
-  in-step = record {
-    second = λ entry p among reads.
-        let pair = told.pairs entry p among reads in
-        prefix-told (pair.place + 1) pair.place _ _ pair.second pair.first
-        (peer-named pair.second.socket.history _ _ _ _ pair.first.socket.host (pair.place + 1) pair.second.opened (sym pair.first.host) refl);
-    first = λ entry p among reads.
-        let pair = told.pairs entry p among reads in
-        prefix-told pair.place (pair.place + 1) _ _ pair.first pair.second
-        (peer-named pair.first.socket.history _ _ _ _ pair.second.socket.host (pair.place + 1 + 1) pair.first.opened (sym pair.second.host) (omega arith));
+  -- ---- one more entry
+
+  says-on : (name : List ℕ) (entries : List Entry) (e : Entry) (h : History C) → Adds name e [] [] → Says name entries h → Says name (entries ++ e ∷ []) h
+  says-on name entries e h adds says = record {
+    received = received-more name entries e ∙ (rw adds.gives (append-nil (received name entries)) ∙ says.received);
+    sent = sent-more name entries e ∙ (rw adds.takes (append-nil (sent name entries)) ∙ says.sent);
   }
 
--- ---- transcripts
+  delivered-happened : (h : History C) (event : Event) → delivered (happened w h 0 event) ≡ delivered h ++ given_by (step w (state_of w h) event).reply
+  unfolding delivered_by
+  delivered-happened h event = delivered_by-append h.items _ ∙ ap (λ more. delivered h ++ more) (append-nil (given_by (step w (state_of w h) event).reply))
 
--- the entries tell the lines of a script
-pub record Transcript (lines : List (List ℕ)) (entries : List Entry) : Type 0 where
-  pub lines_are : lines_in entries ≡ lines
-  pub printed : ArePrinted [] entries
-  pub told : IsTold (network_after lines) entries
+  accepted-happened : (h : History C) (event : Event) → accepted (happened w h 0 event) ≡ accepted h ++ taken_by event.act (step w (state_of w h) event).reply
+  unfolding accepted_by
+  accepted-happened h event = accepted_by-append h.items _ ∙ ap (λ more. accepted h ++ more) (append-nil (taken_by event.act (step w (state_of w h) event).reply))
 
--- one more entry is printed after the others
-printed-more : (before : List (List ℕ)) (entries : List Entry) (e : Entry) → ArePrinted before entries
-    → printed_after (before ++ lines_in entries) e.line ≡ Some (entry_text e) → ArePrinted before (entries ++ e ∷ [])
-unfolding ArePrinted
-printed-more before [] e are last = (rw (append-nil before) at last, tt)
-printed-more before (entry ∷ entries) e are last =
-    (are.0, printed-more (before ++ entry.line ∷ []) entries e are.1 (rw (append_assoc before (entry.line ∷ []) (lines_in entries)) last))
+  pairs-on : (n : Network C) (entries : List Entry) (e : Entry) → ((p : Pairing) → read_line e.line ≡ Some (PairLine p) → HasPair n p)
+      → ((entry : Entry) (p : Pairing) → Contains entries entry → read_line entry.line ≡ Some (PairLine p) → HasPair n p)
+      → (entry : Entry) (p : Pairing) → Contains (entries ++ e ∷ []) entry → read_line entry.line ≡ Some (PairLine p) → HasPair n p
+  pairs-on n entries e new old entry p among reads = elim (Contains-push_cases entries e entry among) [
+    | inl before ↦ old entry p before reads
+    | inr last ↦ new p (ap (λ (x : Entry). read_line x.line) last ∙ reads)
+  ]
 
--- the entry of one more line
-pub record More (lines : List (List ℕ)) (entries : List Entry) (line text : List ℕ) : Type 0 where
-  pub entry : Entry
-  pub line_is : entry.line ≡ line
-  pub text_is : entry_text entry ≡ text
-  pub transcript : Transcript (lines ++ line ∷ []) (entries ++ entry ∷ [])
+  -- an entry that tells nothing of any name
+  quiet : (n : Network C) (entries : List Entry) (e : Entry) → ((name : List ℕ) → Adds name e [] []) → ((p : Pairing) → read_line e.line ≡ Some (PairLine p) → HasPair n p)
+      → IsTold n entries → IsTold n (entries ++ e ∷ [])
+  quiet n entries e adds new told = record {
+    sockets = λ k socket at. says-on socket.name entries e socket.history (adds socket.name) (told.sockets k socket at);
+    places = told.places;
+    others = λ name none. says-nothing-on name entries e (adds name) (told.others name none);
+    pairs = pairs-on n entries e new told.pairs;
+  }
 
-pub one-told : (lines : List (List ℕ)) (entries : List Entry) (line text : List ℕ) → Transcript lines entries → printed_after lines line ≡ Some text
-    → More lines entries line text
-one-told lines entries line text t printed =
-    let found = accepted-by lines line text printed in
-    let made = line-made (network_after lines) entries line found.0 found.1 t.told in
-    let last : printed_after ([] ++ lines_in entries) made.entry.line ≡ Some (entry_text made.entry) =
-    ap (λ before. printed_after before made.entry.line) t.lines_are
-    ∙ (ap (λ one. printed_after lines one) made.line_is ∙ (printed ∙ ap (λ told. Some told) (sym (made.text ∙ found.2)))) in
-    record {
-      entry = made.entry;
-      line_is = made.line_is;
-      text_is = made.text ∙ found.2;
-      transcript = record {
-        lines_are = map-append (λ (entry : Entry). entry.line) entries (made.entry ∷ []) ∙ rw (t.lines_are, made.line_is) refl;
-        printed = printed-more [] entries made.entry t.printed last;
-        told = rw (left-after lines line found.0 found.1) made.told;
-      };
+  -- ---- events
+
+  module _ (n : Network C) (entries : List Entry) (told : IsTold n entries) (k : ℕ) (socket : ScriptSocket C) (event : Event) (at : slice_get n.sockets k ≡ Some socket) where
+    abbrev later : ScriptSocket C
+    later = record socket { history = happened w socket.history 0 event }
+
+    abbrev gave : List ℕ
+    gave = given_by (step w (state_of w socket.history) event).reply
+
+    abbrev took : List ℕ
+    took = taken_by event.act (step w (state_of w socket.history) event).reply
+
+    began-on : (place : ℕ) (fresh : ScriptSocket C) → BeganAs n place fresh → BeganAs (event_at w n k socket event).network place fresh
+    unfolding event_at
+    began-on place fresh began = elim (cases_eq k place) [
+      | inl same ↦
+          let one = found-once n.sockets place socket began.socket (subst (λ (j : ℕ). slice_get n.sockets j ≡ Some socket) same at) began.at in
+          let there = subst (λ (j : ℕ). slice_get (slice_set n.sockets k later) j ≡ Some later) same (set-same n.sockets k socket later at) in
+          record {
+            socket = later;
+            at = there;
+            name = ap (λ (s : ScriptSocket C). s.name) one ∙ began.name;
+            host = ap (λ (s : ScriptSocket C). s.host) one ∙ began.host;
+            opened = ap (λ (s : ScriptSocket C). s.history.opening) one ∙ began.opened;
+          }
+      | inr apart ↦ record {
+        socket = began.socket;
+        at = set-other n.sockets k place later apart ∙ began.at;
+        name = began.name;
+        host = began.host;
+        opened = began.opened;
+      }
+    ]
+
+    -- another name has another place
+    another : (name : List ℕ) (found : Option ℕ) → place_of name n.sockets ≡ found → (found ≡ Some k → ⊥) → is_word socket.name name ≡ false
+    another name found place apart =
+        elim (is_word socket.name name) as (λ b. is_word socket.name name ≡ b → b ≡ false) [
+          | true ↦ λ e.
+              let same = same_word socket.name name e in
+              absurd (apart (sym place ∙ (ap (λ word. place_of word n.sockets) (sym same) ∙ told.places k socket at)))
+          | false ↦ λ e. refl
+        ] refl
+
+    -- the entry tells of the socket's name what the event gave and took
+    event-told : (e : Entry) → ((name : List ℕ) → Adds name e (if is_word socket.name name then gave else []) (if is_word socket.name name then took else []))
+        → ((p : Pairing) → read_line e.line ≡ Some (PairLine p) → ⊥)
+        → IsTold (event_at w n k socket event).network (entries ++ e ∷ [])
+    unfolding event_at
+    event-told e adds no_pair =
+        let silent : (name : List ℕ) → is_word socket.name name ≡ false → Adds name e [] [] = λ name other.
+        record { gives = (adds name).gives ∙ (rw other refl); takes = (adds name).takes ∙ (rw other refl) } in
+        let own = is_same_word socket.name in
+        let says = told.sockets k socket at in
+        let mine : Says socket.name (entries ++ e ∷ []) later.history = record {
+          received =
+              received-more socket.name entries e
+              ∙ (rw ((adds socket.name).gives, own, says.received) (sym (delivered-happened socket.history event)));
+          sent =
+              sent-more socket.name entries e
+              ∙ (rw ((adds socket.name).takes, own, says.sent) (sym (accepted-happened socket.history event)));
+        } in
+        record {
+          sockets = λ j found found_at. elim (cases_eq k j) [
+            | inl same ↦
+                let there = subst (λ (i : ℕ). slice_get (slice_set n.sockets k later) i ≡ Some later) same (set-same n.sockets k socket later at) in
+                subst (λ (s : ScriptSocket C). Says s.name (entries ++ e ∷ []) s.history) (found-once _ j later found there found_at) mine
+            | inr apart ↦
+                let old = sym (set-other n.sockets k j later apart) ∙ found_at in
+                let other = another found.name (Some j) (told.places j found old) (λ (same : Some j ≡ Some k). apart (sym (same_Some j k same))) in
+                says-on found.name entries e found.history (silent found.name other) (told.sockets j found old)
+          ];
+          places = λ j found found_at. place-set found.name n.sockets k socket later at refl ∙ (elim (cases_eq k j) [
+            | inl same ↦
+                let there = subst (λ (i : ℕ). slice_get (slice_set n.sockets k later) i ≡ Some later) same (set-same n.sockets k socket later at) in
+                let one = found-once _ j later found there found_at in
+                ap (λ (s : ScriptSocket C). place_of s.name n.sockets) (sym one) ∙ (told.places k socket at ∙ ap Some same)
+            | inr apart ↦ told.places j found (sym (set-other n.sockets k j later apart) ∙ found_at)
+          ]);
+          others = λ name none.
+              let before : place_of name n.sockets ≡ None = sym (place-set name n.sockets k socket later at refl) ∙ none in
+              says-nothing-on name entries e (silent name (another name None before (λ same. absurd (cc)))) (told.others name before);
+          pairs = pairs-on (event_at w n k socket event).network entries e (λ p reads. absurd (no_pair p reads)) (λ entry p among reads.
+              let pair = told.pairs entry p among reads in
+              record { place = pair.place; first = began-on pair.place _ pair.first; second = began-on (pair.place + 1) _ pair.second });
+        }
+
+  -- ---- lines
+
+  -- what a line printed is an entry, with which the entries tell what it left
+  pub record Made (line : List ℕ) (entries : List Entry) (p : Printed C) : Type 0 where
+    pub entry : Entry
+    pub line_is : entry.line ≡ line
+    pub text : entry_text entry ≡ p.text
+    pub told : IsTold p.network (entries ++ entry ∷ [])
+
+  quiet-made : (n : Network C) (entries : List Entry) (line text : List ℕ) → IsQuiet line → IsTold n entries
+      → Made line entries (record { network = n; text = text })
+  unfolding entry_of
+  quiet-made n entries line text is told = record {
+    entry = entry_of line text;
+    line_is = refl;
+    text = rw (is.answers DidTick) refl;
+    told = quiet n entries (entry_of line text) (λ name. record { gives = is.gives name DidTick; takes = is.takes name DidTick }) (λ p reads. absurd (is.no_pair p reads)) told;
+  }
+
+  arrival-made : (n : Network C) (entries : List Entry) (line : List ℕ) (now : ℕ) (datagram : ScriptDatagram) (r : Route C) → route w n.sockets datagram ≡ r → IsQuiet line
+      → IsTold n entries → Made line entries (arrived w n now datagram r)
+  unfolding entry_of
+  arrival-made n entries line now datagram (Nowhere word) is quietly told = quiet-made n entries line _ quietly told
+  arrival-made n entries line now datagram (ToSocket place socket) is quietly told =
+      let event : Event = record { now = now; act = Arrive datagram.from datagram.bytes } in
+      let none = arrive-gives w (state_of w socket.history) now datagram.from datagram.bytes in
+      let entry = entry_of line (event_at w n place socket event).text in
+      record {
+        entry = entry;
+        line_is = refl;
+        text = rw (quietly.answers DidTick) refl;
+        told = event-told n entries told place socket event (route-found w n.sockets datagram place socket is) entry
+            (λ name. record {
+              gives = quietly.gives name DidTick ∙ sym (no_matter (is_word socket.name name) _ none);
+              takes = quietly.takes name DidTick ∙ sym (no_matter (is_word socket.name name) [] refl);
+            })
+            quietly.no_pair;
+      }
+
+  delivery-made : (n : Network C) (entries : List Entry) (line : List ℕ) (now : ℕ) (found : Option ScriptDatagram) (p : Printed C) → delivery w n now found ≡ Some p → IsQuiet line
+      → IsTold n entries → Made line entries p
+  delivery-made n entries line now None p is quietly told = absurd (cc)
+  delivery-made n entries line now (Some datagram) p is quietly told =
+      subst (Made line entries) (same_Some _ p is) (arrival-made n entries line now datagram (route w n.sockets datagram) refl quietly told)
+
+  -- a call is answered by the socket of its name
+  call-made : (n : Network C) (entries : List Entry) (line name : List ℕ) (event : Event) (k : ℕ) (socket : ScriptSocket C) → read_line line ≡ Some (CallLine name event)
+      → socket.name ≡ name → slice_get n.sockets k ≡ Some socket → IsTold n entries → Made line entries (event_at w n k socket event)
+  unfolding event_at
+  call-made n entries line name event k socket reads named at told =
+      let reply = (step w (state_of w socket.history) event).reply in
+      let entry : Entry = record {
+        line = line;
+        reply = reply;
+        rest = datagrams_text (length n.datagrams) (map (from_host socket.host) (outs_of (step w (state_of w socket.history) event)));
+      } in
+      record {
+        entry = entry;
+        line_is = refl;
+        text = rw (reads, ← named) refl;
+        told = event-told n entries told k socket event at entry (λ other. record { gives = rw (reads, ← named) refl; takes = rw (reads, ← named) refl }) (λ p pairs. absurd (cc));
+      }
+
+  call-found : (n : Network C) (entries : List Entry) (line name : List ℕ) (event : Event) (k : ℕ) (found : Option (ScriptSocket C)) (p : Printed C)
+      → read_line line ≡ Some (CallLine name event) → place_of name n.sockets ≡ Some k → slice_get n.sockets k ≡ found
+      → option_map (λ socket. event_at w n k socket event) found ≡ Some p → IsTold n entries → Made line entries p
+  call-found n entries line name event k None p reads place at is told = absurd (cc)
+  call-found n entries line name event k (Some socket) p reads place at is told =
+      subst (Made line entries) (same_Some _ p is) (call-made n entries line name event k socket reads (name_there name n.sockets k socket place at) at told)
+
+  call-there : (n : Network C) (entries : List Entry) (line name : List ℕ) (event : Event) (found : Option ℕ) (p : Printed C)
+      → read_line line ≡ Some (CallLine name event) → place_of name n.sockets ≡ found → event_there w n found event ≡ Some p → IsTold n entries
+      → Made line entries p
+  call-there n entries line name event None p reads place is told = absurd (cc)
+  call-there n entries line name event (Some k) p reads place is told = call-found n entries line name event k (slice_get n.sockets k) p reads place refl is told
+
+  -- ---- pairs
+
+  module _ (n : Network C) (p : Pairing) (no_a : place_of p.a n.sockets ≡ None) (no_b : place_of p.b n.sockets ≡ None) (differ : is_word p.a p.b ≡ false) where
+    abbrev first_one : ScriptSocket C
+    first_one = paired_socket w p p.a first_host (length n.sockets + 1) second_host (length n.sockets + 2)
+
+    abbrev second_one : ScriptSocket C
+    second_one = paired_socket w p p.b second_host (length n.sockets + 2) first_host (length n.sockets + 1)
+
+    abbrev with_both : List (ScriptSocket C)
+    with_both = n.sockets ++ first_one ∷ second_one ∷ []
+
+    old-place : (name : List ℕ) (k : ℕ) → place_of name n.sockets ≡ Some k → place_of name with_both ≡ Some k
+    unfolding place_of
+    old-place name k is = position-first (λ (s : ScriptSocket C). is_word s.name name) n.sockets (first_one ∷ second_one ∷ []) k is
+
+    first-place : place_of p.a with_both ≡ Some (length n.sockets)
+    unfolding place_of
+    first-place =
+        let test : ScriptSocket C → Bool = λ s. is_word s.name p.a in
+        let none : length n.sockets + 0 ≡ length n.sockets = omega arith in
+        position-others test n.sockets (first_one ∷ second_one ∷ []) no_a
+        ∙ rw (position-cons test first_one (second_one ∷ []), is_same_word p.a, none) refl
+
+    second-place : place_of p.b with_both ≡ Some (length n.sockets + 1)
+    unfolding place_of
+    second-place =
+        let test : ScriptSocket C → Bool = λ s. is_word s.name p.b in
+        position-others test n.sockets (first_one ∷ second_one ∷ []) no_b
+        ∙ rw (position-cons test first_one (second_one ∷ []), differ, position-cons test second_one [], is_same_word p.b) refl
+
+    no-place : (name : List ℕ) (found : Option ℕ) → place_of name n.sockets ≡ found → place_of name with_both ≡ None → found ≡ None
+    no-place name None is none = refl
+    no-place name (Some k) is none = absurd (let there = old-place name k is in cc)
+
+    began-first : (place : ℕ) (fresh : ScriptSocket C) → BeganAs n place fresh → BeganAs (paired w n p).network place fresh
+    unfolding paired
+    began-first place fresh began = record {
+      socket = began.socket;
+      at = append-first n.sockets _ place began.socket began.at;
+      name = began.name;
+      host = began.host;
+      opened = began.opened;
     }
 
-pub no_transcript : Transcript [] []
-unfolding ArePrinted
-no_transcript = record { lines_are = refl; printed = tt; told = rw no_lines nothing_told }
-
--- the lines of a script, each accepted after those before it
-transcript-from : (before lines : List (List ℕ)) (entries : List Entry) → Transcript before entries → AreAccepted before lines
-    → (all : List Entry) × Transcript (before ++ lines) all
-unfolding AreAccepted
-transcript-from before [] entries t are = (entries, rw (append-nil before) t)
-transcript-from before (line ∷ lines) entries t are =
-    let more = one-told before entries line are.0.0 t are.0.1 in
-    let whole = transcript-from (before ++ line ∷ []) lines (entries ++ more.entry ∷ []) more.transcript are.1 in
-    (whole.0, rw (append_assoc before (line ∷ []) lines) at whole.1)
-
--- one more line that was accepted
-pub accepted-more : (before lines : List (List ℕ)) (line text : List ℕ) → AreAccepted before lines → printed_after (before ++ lines) line ≡ Some text
-    → AreAccepted before (lines ++ line ∷ [])
-unfolding AreAccepted
-accepted-more before [] line text are printed = ((text, rw (append-nil before) at printed), tt)
-accepted-more before (first ∷ lines) line text are printed =
-    (are.0, accepted-more (before ++ first ∷ []) lines line text are.1 (rw (append_assoc before (first ∷ []) lines) printed))
-
--- what it printed tells it
-pub tells : (lines : List (List ℕ)) (line : List ℕ) (new : Option (List (List ℕ))) (before after : List ℕ) → AreAccepted [] lines → length (lines ++ line ∷ []) < 2 ^ 30
-    → Accepts (printed_after lines line) lines line new before after → TellsLine lines line before after
-tells lines line new before after are few accepts =
-    let t = transcript-from [] lines [] no_transcript are in
-    let more = one-told lines t.0 line accepts.text t.1 accepts.printed in
-    record {
-      entries = t.0;
-      last = more.entry;
-      lines_are = t.1.lines_are;
-      line_is = more.line_is;
-      printed = t.1.printed;
-      text = accepts.output ∙ ap (λ text. before ++ text) (sym more.text_is);
-      in_step = λ emitted. in-step (lines ++ line ∷ []) (t.0 ++ more.entry ∷ []) few emitted more.transcript.told;
+    the-pair : HasPair (paired w n p).network p
+    unfolding paired
+    the-pair = record {
+      place = length n.sockets;
+      first = record { socket = first_one; at = append-second n.sockets _ (length n.sockets) 0 first_one (omega arith) refl; name = refl; host = refl; opened = refl };
+      second = record { socket = second_one; at = append-second n.sockets _ (length n.sockets + 1) 1 second_one refl refl; name = refl; host = refl; opened = refl };
     }
+
+    -- nothing was said of the new names, and nothing happened to their sockets
+    new-says : (name : List ℕ) (entries : List Entry) (h : History C) → h.items ≡ [] → SaysNothing name entries → Says name entries h
+    unfolding delivered_by accepted_by
+    new-says name entries h none says = record { received = rw none says.received; sent = rw none says.sent }
+
+    pair-told : (entries : List Entry) (e : Entry) → read_line e.line ≡ Some (PairLine p) → IsTold n entries → IsTold (paired w n p).network (entries ++ e ∷ [])
+    unfolding paired
+    pair-told entries e reads told =
+        let adds : (name : List ℕ) → Adds name e [] [] = λ name. record { gives = rw reads refl; takes = rw reads refl } in
+        record {
+          sockets = λ k socket at. elim (append-found n.sockets (first_one ∷ second_one ∷ []) k socket at) [
+            | inl old ↦ says-on socket.name entries e socket.history (adds socket.name) (told.sockets k socket old)
+            | inr past ↦ elim (two-found first_one second_one socket past.0 past.2) [
+              | inl one ↦ subst (λ (s : ScriptSocket C). Says s.name (entries ++ e ∷ []) s.history) one.1
+                  (new-says p.a (entries ++ e ∷ []) first_one.history refl (says-nothing-on p.a entries e (adds p.a) (told.others p.a no_a)))
+              | inr two ↦ subst (λ (s : ScriptSocket C). Says s.name (entries ++ e ∷ []) s.history) two.1
+                  (new-says p.b (entries ++ e ∷ []) second_one.history refl (says-nothing-on p.b entries e (adds p.b) (told.others p.b no_b)))
+            ]
+          ];
+          places = λ k socket at. elim (append-found n.sockets (first_one ∷ second_one ∷ []) k socket at) [
+            | inl old ↦ old-place socket.name k (told.places k socket old)
+            | inr past ↦ elim (two-found first_one second_one socket past.0 past.2) [
+              | inl one ↦
+                  let place : length n.sockets ≡ k = omega (arith, past.1, one.0) in
+                  ap (λ (s : ScriptSocket C). place_of s.name with_both) (sym one.1) ∙ (first-place ∙ ap Some place)
+              | inr two ↦
+                  let place : length n.sockets + 1 ≡ k = omega (arith, past.1, two.0) in
+                  ap (λ (s : ScriptSocket C). place_of s.name with_both) (sym two.1) ∙ (second-place ∙ ap Some place)
+            ]
+          ];
+          others = λ name none. says-nothing-on name entries e (adds name) (told.others name (no-place name (place_of name n.sockets) refl none));
+          pairs = pairs-on (paired w n p).network entries e
+              (λ other is. subst (HasPair (paired w n p).network) (same_pairing p other (sym reads ∙ is)) the-pair)
+              (λ entry other among is.
+              let pair = told.pairs entry other among is in
+              record { place = pair.place; first = began-first pair.place _ pair.first; second = began-first (pair.place + 1) _ pair.second });
+        }
+
+  pair-made : (n : Network C) (entries : List Entry) (line : List ℕ) (pairing : Pairing) (p : Printed C) → read_line line ≡ Some (PairLine pairing)
+      → (if may_pair n pairing then Some (paired w n pairing) else None) ≡ Some p → IsTold n entries → Made line entries p
+  unfolding entry_of
+  pair-made n entries line pairing p reads is told =
+      elim (may_pair n pairing) as (λ may. may_pair n pairing ≡ may → (if may then Some (paired w n pairing) else None) ≡ Some p → Made line entries p) [
+        | true ↦ λ test e.
+            let parts = and_parts _ _ test in
+            let two = and_parts _ _ parts.0 in
+            let three = and_parts _ _ two.0 in
+            let entry = entry_of line (paired w n pairing).text in
+            subst (Made line entries) (same_Some _ p e) (record {
+              entry = entry;
+              line_is = refl;
+              text = rw reads refl;
+              told = pair-told n pairing (not_taken _ two.1) (not_taken _ parts.1) (is_false _ three.1) entries entry reads told;
+            })
+        | false ↦ λ test e. absurd (cc)
+      ] refl is
+
+  -- ---- all lines
+
+  form-made : (n : Network C) (entries : List Entry) (line : List ℕ) (form : Line) (p : Printed C) → read_line line ≡ Some form → on_line w n form ≡ Some p
+      → IsTold n entries → Made line entries p
+  form-made n entries line Silent p reads is told = subst (Made line entries) (same_Some _ p is) (quiet-made n entries line [] (quiet_silent line reads) told)
+  form-made n entries line (PairLine pairing) p reads is told = pair-made n entries line pairing p reads is told
+  form-made n entries line (CallLine name event) p reads is told = call-there n entries line name event (place_of name n.sockets) p reads refl is told
+  form-made n entries line (DeliverLine number now) p reads is told =
+      delivery-made n entries line now (slice_get n.datagrams number) p is (quiet_deliver line number now reads) told
+  form-made n entries line (RawLine now datagram) p reads is told = delivery-made n entries line now (Some datagram) p is (quiet_raw line now datagram reads) told
+
+  read-made : (n : Network C) (entries : List Entry) (line : List ℕ) (found : Option Line) (p : Printed C) → read_line line ≡ found → (found >>= on_line w n) ≡ Some p
+      → IsTold n entries → Made line entries p
+  read-made n entries line None p reads is told = absurd (cc)
+  read-made n entries line (Some form) p reads is told = form-made n entries line form p reads is told
+
+  -- each line that isn't refused
+  pub line-made : (n : Network C) (entries : List Entry) (line : List ℕ) (p : Printed C) → played_line w n line ≡ Some p → IsTold n entries → Made line entries p
+  unfolding played_line
+  line-made n entries line p is told = read-made n entries line (read_line line) p refl is told
+
+  pub nothing_told : IsTold empty_network []
+  nothing_told = record {
+    sockets = λ k socket at. absurd (no_socket k socket at);
+    places = λ k socket at. absurd (no_socket k socket at);
+    others = λ name none. record { received = refl; sent = refl };
+    pairs = λ entry p among reads. absurd (omega (arith, among.1));
+  }
+
+  -- ---- in step
+
+  module _ (lines : List (List ℕ)) (entries : List Entry) (few : length lines < 2 ^ 30) (emitted : AreEmitted lines) (told : IsTold (network_after w lines) entries) where
+    prefix-told : (k m : ℕ) (one other : ScriptSocket C) (own : BeganAs (network_after w lines) k one) (peer : BeganAs (network_after w lines) m other)
+        → own_peer w own.socket.history ≡ Some (record { addr = peer.socket.host; id = m + 1 })
+        → IsPrefix (received one.name entries) (sent other.name entries)
+    prefix-told k m one other own peer names =
+        let law = (script_prefix w lines k m own.socket peer.socket few emitted own.at peer.at names).prefix in
+        let mine = told.sockets k own.socket own.at in
+        let theirs = told.sockets m peer.socket peer.at in
+        rw (← own.name, ← peer.name, mine.received, theirs.sent) law
+
+    peer-named : (h : History C) (own : ℕ) (config : Config) (peer : Peer) (start : ℕ) (host : Addr) (id : ℕ) → h.opening ≡ opening w own config peer 0 start
+        → peer.addr ≡ host → peer.id ≡ id → own_peer w h ≡ Some (record { addr = host; id = id })
+    peer-named h own config peer start host id opened addr_is id_is =
+        let last = last_peer w own config peer 0 start h opened in
+        rw (last, addr_is, id_is) refl
+
+    pub in-step : AreInStep entries
+    in-step = record {
+      second = λ entry p among reads.
+          let pair = told.pairs entry p among reads in
+          prefix-told (pair.place + 1) pair.place _ _ pair.second pair.first
+          (peer-named pair.second.socket.history _ _ _ _ pair.first.socket.host (pair.place + 1) pair.second.opened (sym pair.first.host) refl);
+      first = λ entry p among reads.
+          let pair = told.pairs entry p among reads in
+          prefix-told pair.place (pair.place + 1) _ _ pair.first pair.second
+          (peer-named pair.first.socket.history _ _ _ _ pair.second.socket.host (pair.place + 1 + 1) pair.first.opened (sym pair.second.host) (omega arith));
+    }
+
+  -- ---- transcripts
+
+  -- the entries tell the lines of a script
+  pub record Transcript (lines : List (List ℕ)) (entries : List Entry) : Type 0 where
+    pub lines_are : lines_in entries ≡ lines
+    pub printed : ArePrinted w [] entries
+    pub told : IsTold (network_after w lines) entries
+
+  -- one more entry is printed after the others
+  printed-more : (before : List (List ℕ)) (entries : List Entry) (e : Entry) → ArePrinted w before entries
+      → printed_after w (before ++ lines_in entries) e.line ≡ Some (entry_text e) → ArePrinted w before (entries ++ e ∷ [])
+  unfolding ArePrinted
+  printed-more before [] e are last = (rw (append-nil before) at last, tt)
+  printed-more before (entry ∷ entries) e are last =
+      (are.0, printed-more (before ++ entry.line ∷ []) entries e are.1 (rw (append_assoc before (entry.line ∷ []) (lines_in entries)) last))
+
+  -- the entry of one more line
+  pub record More (lines : List (List ℕ)) (entries : List Entry) (line text : List ℕ) : Type 0 where
+    pub entry : Entry
+    pub line_is : entry.line ≡ line
+    pub text_is : entry_text entry ≡ text
+    pub transcript : Transcript (lines ++ line ∷ []) (entries ++ entry ∷ [])
+
+  pub one-told : (lines : List (List ℕ)) (entries : List Entry) (line text : List ℕ) → Transcript lines entries → printed_after w lines line ≡ Some text
+      → More lines entries line text
+  one-told lines entries line text t printed =
+      let found = accepted-by w lines line text printed in
+      let made = line-made (network_after w lines) entries line found.0 found.1 t.told in
+      let last : printed_after w ([] ++ lines_in entries) made.entry.line ≡ Some (entry_text made.entry) =
+      ap (λ before. printed_after w before made.entry.line) t.lines_are
+      ∙ (ap (λ one. printed_after w lines one) made.line_is ∙ (printed ∙ ap (λ told. Some told) (sym (made.text ∙ found.2)))) in
+      record {
+        entry = made.entry;
+        line_is = made.line_is;
+        text_is = made.text ∙ found.2;
+        transcript = record {
+          lines_are = map-append (λ (entry : Entry). entry.line) entries (made.entry ∷ []) ∙ rw (t.lines_are, made.line_is) refl;
+          printed = printed-more [] entries made.entry t.printed last;
+          told = rw (left-after w lines line found.0 found.1) made.told;
+        };
+      }
+
+  pub no_transcript : Transcript [] []
+  unfolding ArePrinted
+  no_transcript = record { lines_are = refl; printed = tt; told = rw (no_lines w) nothing_told }
+
+  -- the lines of a script, each accepted after those before it
+  transcript-from : (before lines : List (List ℕ)) (entries : List Entry) → Transcript before entries → AreAccepted w before lines
+      → (all : List Entry) × Transcript (before ++ lines) all
+  unfolding AreAccepted
+  transcript-from before [] entries t are = (entries, rw (append-nil before) t)
+  transcript-from before (line ∷ lines) entries t are =
+      let more = one-told before entries line are.0.0 t are.0.1 in
+      let whole = transcript-from (before ++ line ∷ []) lines (entries ++ more.entry ∷ []) more.transcript are.1 in
+      (whole.0, rw (append_assoc before (line ∷ []) lines) at whole.1)
+
+  -- one more line that was accepted
+  pub accepted-more : (before lines : List (List ℕ)) (line text : List ℕ) → AreAccepted w before lines → printed_after w (before ++ lines) line ≡ Some text
+      → AreAccepted w before (lines ++ line ∷ [])
+  unfolding AreAccepted
+  accepted-more before [] line text are printed = ((text, rw (append-nil before) at printed), tt)
+  accepted-more before (first ∷ lines) line text are printed =
+      (are.0, accepted-more (before ++ first ∷ []) lines line text are.1 (rw (append_assoc before (first ∷ []) lines) printed))
+
+  -- what it printed tells it
+  pub tells : (lines : List (List ℕ)) (line : List ℕ) (new : Option (List (List ℕ))) (before after : List ℕ) → AreAccepted w [] lines → length (lines ++ line ∷ []) < 2 ^ 30
+      → Accepts (printed_after w lines line) lines line new before after → TellsLine w lines line before after
+  tells lines line new before after are few accepts =
+      let t = transcript-from [] lines [] no_transcript are in
+      let more = one-told lines t.0 line accepts.text t.1 accepts.printed in
+      record {
+        entries = t.0;
+        last = more.entry;
+        lines_are = t.1.lines_are;
+        line_is = more.line_is;
+        printed = t.1.printed;
+        text = accepts.output ∙ ap (λ text. before ++ text) (sym more.text_is);
+        in_step = λ emitted. in-step (lines ++ line ∷ []) (t.0 ++ more.entry ∷ []) few emitted more.transcript.told;
+      }

@@ -5,6 +5,7 @@ use Rattle.std.proofs.lemmas.List.Sums.{sum_by-append}
 use Rattle.udt_model.specs.declared.limits.TheConstants.{LONGEST_SCRIPT}
 use Rattle.udt_model.specs.Network as model
 use Rattle.udt_model.specs.Lines as lines
+use Rattle.udt_model.specs.Rate.{Ways}
 use Rattle.udt_model.specs.Script.{Printed, on_line, left_by, network_after, played_line, printed_after, fits_after, size_of}
 use Rattle.udt_world.specs.declared.world.World.TheInside.{Inside}
 use Rattle.udt_world.specs.Views.{View, Shows}
@@ -19,92 +20,93 @@ use Rattle.udt_world.proofs.LineLemmas.{one_more}
 size-more : (lines : List (List ℕ)) (line : List ℕ) → size_of (lines ++ line ∷ []) ≡ size_of lines + (length line + 1)
 size-more lines line = let last : size_of (line ∷ []) ≡ length line + 1 = omega arith in sum_by-append (λ (l : List ℕ). length l + 1) lines (line ∷ []) ∙ ap (λ n. size_of lines + n) last
 
--- what a line prints where it fits
-printed-fits : (lines : List (List ℕ)) (line : List ℕ) → fits_after lines line ≡ true
-    → printed_after lines line ≡ option_map (λ (p : Printed). p.text) (played_line (network_after lines) line)
-unfolding printed_after
-printed-fits lines line fits = rw fits refl
-
-pub printed-none : (lines : List (List ℕ)) (line : List ℕ) → fits_after lines line ≡ false → printed_after lines line ≡ None
-unfolding printed_after
-printed-none lines line fits = rw fits refl
-
--- a line that can't be read is refused, another does what it says
-pub played_none : {A : Type 0} (n : model.Network) (line : List ℕ) (f : A → lines.Line) (found : Option A) → option_map f found ≡ lines.read_line line → found ≡ None → played_line n line ≡ None
-unfolding played_line
-played_none n line f found read none = let e : lines.read_line line ≡ None = sym read ∙ ap (option_map f) none in rw e refl
-
-pub played_some : {A : Type 0} (n : model.Network) (line : List ℕ) (f : A → lines.Line) (found : Option A) (x : A) → option_map f found ≡ lines.read_line line → found ≡ Some x → played_line n line ≡ on_line n (f x)
-unfolding played_line
-played_some n line f found x read some = let e : lines.read_line line ≡ Some (f x) = sym read ∙ ap (option_map f) some in rw e refl
+-- the lines of a script are few enough
+pub few_lines : (lines : List (List ℕ)) → size_of lines ≤ LONGEST_SCRIPT + 1 → length lines < 2 ^ 30
+few_lines lines small = omega (arith, lines-within lines, small)
 
 -- what follows of an answer
 pub if_ok_weaker : {T E : Type 0} {P Q : T → Type 0} (r : Result T E) → ((x : T) → P x → Q x) → IfOk r P → IfOk r Q
 if_ok_weaker (Ok x) f p = f x p
 if_ok_weaker (Err e) f p = tt
 
--- ---- one more line
+module _ {C : Type 0} (w : Ways C) where
+  -- what a line prints where it fits
+  printed-fits : (lines : List (List ℕ)) (line : List ℕ) → fits_after lines line ≡ true
+      → printed_after w lines line ≡ option_map (λ (p : Printed C). p.text) (played_line w (network_after w lines) line)
+  unfolding printed_after
+  printed-fits lines line fits = rw fits refl
 
-pub record Accepted (lines new_lines : List (List ℕ)) (line : List ℕ) (view : View) (before after : List ℕ) : Type 0 where
-  pub shown : Shows (network_after new_lines) view
-  pub size : size_of new_lines ≡ size_of lines + (length line + 1)
-  pub answer : Accepts (printed_after lines line) lines line (Some new_lines) before after
+  pub printed-none : (lines : List (List ℕ)) (line : List ℕ) → fits_after lines line ≡ false → printed_after w lines line ≡ None
+  unfolding printed_after
+  printed-none lines line fits = rw fits refl
 
-pub record Refused (lines new_lines : List (List ℕ)) (line : List ℕ) (view : View) (before after : List ℕ) : Type 0 where
-  pub shown : Shows (network_after new_lines) view
-  pub same : new_lines ≡ lines
-  pub answer : Refuses (printed_after lines line) lines (Some new_lines) before after
+  -- a line that can't be read is refused, another does what it says
+  pub played_none : {A : Type 0} (n : model.Network C) (line : List ℕ) (f : A → lines.Line) (found : Option A) → option_map f found ≡ lines.read_line line → found ≡ None → played_line w n line ≡ None
+  unfolding played_line
+  played_none n line f found read none = let e : lines.read_line line ≡ None = sym read ∙ ap (option_map f) none in rw e refl
 
-accepted_by : (n : model.Network) (planned : Option Printed) (lines new_lines : List (List ℕ)) (line : List ℕ) (view : View) (before after : List ℕ)
-    → new_lines ≡ lines ++ line ∷ [] → printed_after lines line ≡ option_map (λ (p : Printed). p.text) planned
-    → network_after (lines ++ line ∷ []) ≡ left_by n planned
-    → DoesLine n planned true view before after → Accepted lines new_lines line view before after
-accepted_by n None lines new_lines line view before after kept printed made does = absurd does
-accepted_by n (Some p) lines new_lines line view before after kept printed made does = record {
-  shown = rw (kept, made) does.0;
-  size = rw kept (size-more lines line);
-  answer = record { text = p.text; printed = printed; kept = ap (λ l. Some l) kept; output = does.1 };
-}
+  pub played_some : {A : Type 0} (n : model.Network C) (line : List ℕ) (f : A → lines.Line) (found : Option A) (x : A) → option_map f found ≡ lines.read_line line → found ≡ Some x → played_line w n line ≡ on_line w n (f x)
+  unfolding played_line
+  played_some n line f found x read some = let e : lines.read_line line ≡ Some (f x) = sym read ∙ ap (option_map f) some in rw e refl
 
-refused_by : (n : model.Network) (planned : Option Printed) (lines new_lines : List (List ℕ)) (line : List ℕ) (view : View) (before after : List ℕ)
-    → new_lines ≡ lines → printed_after lines line ≡ option_map (λ (p : Printed). p.text) planned
-    → network_after lines ≡ n
-    → DoesLine n planned false view before after → Refused lines new_lines line view before after
-refused_by n (Some p) lines new_lines line view before after kept printed made does = absurd does
-refused_by n None lines new_lines line view before after kept printed made does = record {
-  shown = rw (kept, made) does.0;
-  same = kept;
-  answer = record { refused = printed; same = ap (λ l. Some l) kept; output = does.1 };
-}
+  -- ---- one more line
 
--- what a line that was read and played does
-pub accepted : (did : Bool) (lines new_lines : List (List ℕ)) (line : List ℕ) (old new : View) (before after : List ℕ)
-    → did ≡ true → Shows (network_after lines) old → fits_after lines line ≡ true → new_lines ≡ kept_lines did lines line
-    → ((n : model.Network) → Shows n old → DoesLine n (played_line n line) did new before after)
-    → Accepted lines new_lines line new before after
-accepted true lines new_lines line old new before after is shows fits kept does =
-    accepted_by (network_after lines) (played_line (network_after lines) line) lines new_lines line new before after
-    kept (printed-fits lines line fits) (one_more model.empty_network lines line) (does (network_after lines) shows)
-accepted false lines new_lines line old new before after is shows fits kept does = absurd (cc)
+  pub record Accepted (lines new_lines : List (List ℕ)) (line : List ℕ) (view : View C) (before after : List ℕ) : Type 0 where
+    pub shown : Shows w (network_after w new_lines) view
+    pub size : size_of new_lines ≡ size_of lines + (length line + 1)
+    pub answer : Accepts (printed_after w lines line) lines line (Some new_lines) before after
 
-pub refused : (did : Bool) (lines new_lines : List (List ℕ)) (line : List ℕ) (old new : View) (before after : List ℕ)
-    → did ≡ false → Shows (network_after lines) old → fits_after lines line ≡ true → new_lines ≡ kept_lines did lines line
-    → ((n : model.Network) → Shows n old → DoesLine n (played_line n line) did new before after)
-    → Refused lines new_lines line new before after
-refused false lines new_lines line old new before after is shows fits kept does =
-    refused_by (network_after lines) (played_line (network_after lines) line) lines new_lines line new before after
-    kept (printed-fits lines line fits) refl (does (network_after lines) shows)
-refused true lines new_lines line old new before after is shows fits kept does = absurd (cc)
+  pub record Refused (lines new_lines : List (List ℕ)) (line : List ℕ) (view : View C) (before after : List ℕ) : Type 0 where
+    pub shown : Shows w (network_after w new_lines) view
+    pub same : new_lines ≡ lines
+    pub answer : Refuses (printed_after w lines line) lines (Some new_lines) before after
 
--- ---- in step
+  accepted_by : (n : model.Network C) (planned : Option (Printed C)) (lines new_lines : List (List ℕ)) (line : List ℕ) (view : View C) (before after : List ℕ)
+      → new_lines ≡ lines ++ line ∷ [] → printed_after w lines line ≡ option_map (λ (p : Printed C). p.text) planned
+      → network_after w (lines ++ line ∷ []) ≡ left_by n planned
+      → DoesLine w n planned true view before after → Accepted lines new_lines line view before after
+  accepted_by n None lines new_lines line view before after kept printed made does = absurd does
+  accepted_by n (Some p) lines new_lines line view before after kept printed made does = record {
+    shown = rw (kept, made) does.0;
+    size = rw kept (size-more lines line);
+    answer = record { text = p.text; printed = printed; kept = ap (λ l. Some l) kept; output = does.1 };
+  }
 
--- the lines of a script are few enough
-pub few_lines : (lines : List (List ℕ)) → size_of lines ≤ LONGEST_SCRIPT + 1 → length lines < 2 ^ 30
-few_lines lines small = omega (arith, lines-within lines, small)
+  refused_by : (n : model.Network C) (planned : Option (Printed C)) (lines new_lines : List (List ℕ)) (line : List ℕ) (view : View C) (before after : List ℕ)
+      → new_lines ≡ lines → printed_after w lines line ≡ option_map (λ (p : Printed C). p.text) planned
+      → network_after w lines ≡ n
+      → DoesLine w n planned false view before after → Refused lines new_lines line view before after
+  refused_by n (Some p) lines new_lines line view before after kept printed made does = absurd does
+  refused_by n None lines new_lines line view before after kept printed made does = record {
+    shown = rw (kept, made) does.0;
+    same = kept;
+    answer = record { refused = printed; same = ap (λ l. Some l) kept; output = does.1 };
+  }
 
-pub steps_few : (lost : Bool) (lines : List (List ℕ)) → (lost ≡ false → length lines < 2 ^ 30) → AreAllInStep (if lost then None else Some lines)
-steps_few true lines few = tt
-steps_few false lines few = λ place peer_place socket peer emitted. script_prefix lines place peer_place socket peer (few refl) emitted
+  -- what a line that was read and played does
+  pub accepted : (did : Bool) (lines new_lines : List (List ℕ)) (line : List ℕ) (old new : View C) (before after : List ℕ)
+      → did ≡ true → Shows w (network_after w lines) old → fits_after lines line ≡ true → new_lines ≡ kept_lines did lines line
+      → ((n : model.Network C) → Shows w n old → DoesLine w n (played_line w n line) did new before after)
+      → Accepted lines new_lines line new before after
+  accepted true lines new_lines line old new before after is shows fits kept does =
+      accepted_by (network_after w lines) (played_line w (network_after w lines) line) lines new_lines line new before after
+      kept (printed-fits lines line fits) (one_more w model.empty_network lines line) (does (network_after w lines) shows)
+  accepted false lines new_lines line old new before after is shows fits kept does = absurd (cc)
 
-pub steps : (w : Inside) → IsWorld w → AreAllInStep (lines_of w)
-steps w is = steps_few w.lost (lines_in w) (λ kept. few_lines (lines_in w) (omega (arith, is.size_is kept, is.bound)))
+  pub refused : (did : Bool) (lines new_lines : List (List ℕ)) (line : List ℕ) (old new : View C) (before after : List ℕ)
+      → did ≡ false → Shows w (network_after w lines) old → fits_after lines line ≡ true → new_lines ≡ kept_lines did lines line
+      → ((n : model.Network C) → Shows w n old → DoesLine w n (played_line w n line) did new before after)
+      → Refused lines new_lines line new before after
+  refused false lines new_lines line old new before after is shows fits kept does =
+      refused_by (network_after w lines) (played_line w (network_after w lines) line) lines new_lines line new before after
+      kept (printed-fits lines line fits) refl (does (network_after w lines) shows)
+  refused true lines new_lines line old new before after is shows fits kept does = absurd (cc)
+
+  -- ---- in step
+
+  pub steps_few : (lost : Bool) (lines : List (List ℕ)) → (lost ≡ false → length lines < 2 ^ 30) → AreAllInStep w (if lost then None else Some lines)
+  steps_few true lines few = tt
+  steps_few false lines few = λ place peer_place socket peer emitted. script_prefix w lines place peer_place socket peer (few refl) emitted
+
+  pub steps : (world : Inside C) → IsWorld w world → AreAllInStep w (lines_of world)
+  steps world is = steps_few world.lost (lines_in world) (λ kept. few_lines (lines_in world) (omega (arith, is.size_is kept, is.bound)))

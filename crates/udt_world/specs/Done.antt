@@ -1,25 +1,27 @@
 -- What a line does to a network that is shown.
 use Rattle.std.specs.Prelude.{◌≡◌, ℕ, Bool, true, false, List, ◌++◌, Option, Some, None, slice_get}
 use Rattle.udt_model.specs.Network as model
+use Rattle.udt_model.specs.Rate.{Ways}
 use Rattle.udt_model.specs.Script as model_script
 use Rattle.udt_world.specs.declared.deliveries.Route.{Route}
 use Rattle.udt_world.specs.declared.deliveries.Route.TheVariants as to
 use Rattle.udt_world.specs.Views.{View, Shows}
 
--- where the definitions say what a line does, it was done and printed; where they refuse it, nothing changed
-abbrev pub DoesLine : model.Network → Option model_script.Printed → Bool → View → List ℕ → List ℕ → Type 0
-DoesLine network (Some printed) true view before after = Shows printed.network view × (after ≡ before ++ printed.text)
-DoesLine network None false view before after = Shows network view × (after ≡ before)
-DoesLine network (Some printed) false view before after = ⊥
-DoesLine network None true view before after = ⊥
+module _ {C : Type 0} (w : Ways C) where
+  -- where the definitions say what a line does, it was done and printed; where they refuse it, nothing changed
+  abbrev pub DoesLine : model.Network C → Option (model_script.Printed C) → Bool → View C → List ℕ → List ℕ → Type 0
+  DoesLine network (Some printed) true view before after = Shows w printed.network view × (after ≡ before ++ printed.text)
+  DoesLine network None false view before after = Shows w network view × (after ≡ before)
+  DoesLine network (Some printed) false view before after = ⊥
+  DoesLine network None true view before after = ⊥
 
--- the datagram goes to the socket at this place
-abbrev pub GoesTo : model.Network → model.ScriptDatagram → ℕ → Type 0
-GoesTo network datagram place =
-    (socket : model.ScriptSocket) × (slice_get network.sockets place ≡ Some socket)
-    × (model.route network.sockets datagram ≡ model.ToSocket place socket)
+  -- the datagram goes to the socket at this place
+  abbrev pub GoesTo : model.Network C → model.ScriptDatagram → ℕ → Type 0
+  GoesTo network datagram place =
+      (socket : model.ScriptSocket C) × (slice_get network.sockets place ≡ Some socket)
+      × (model.route w network.sockets datagram ≡ model.ToSocket place socket)
 
--- the route of a datagram in the network
-abbrev pub IsRoute : model.Network → model.ScriptDatagram → Route → Type 0
-IsRoute network datagram (to.To place) = GoesTo network datagram place
-IsRoute network datagram (to.Nowhere word) = model.route network.sockets datagram ≡ model.Nowhere word.now
+  -- the route of a datagram in the network
+  abbrev pub IsRoute : model.Network C → model.ScriptDatagram → Route → Type 0
+  IsRoute network datagram (to.To place) = GoesTo network datagram place
+  IsRoute network datagram (to.Nowhere word) = model.route w network.sockets datagram ≡ model.Nowhere word.now

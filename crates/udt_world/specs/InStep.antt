@@ -1,18 +1,20 @@
 -- What the sockets of a script keep, whatever is delivered.
 use Rattle.std.specs.Prelude.{◌≡◌, ℕ, ◌+◌, List, Option, Some, None, slice_get}
 use Rattle.udt_model.specs.Lines.{AreEmitted}
+use Rattle.udt_model.specs.Rate.{Ways}
 use Rattle.udt_model.specs.Records.{own_peer}
 use Rattle.udt_model.specs.Script.{network_after}
 use Rattle.udt_model.specs.Network.{ScriptSocket}
 use Rattle.udt_laws.specs.Laws.{AreInStep}
 
--- where no line gives bytes of its own, what each socket of these lines delivered is a prefix of what its own peer accepted,
--- and no more of its blocks are acknowledged than have arrived there
-abbrev pub AreAllInStep : Option (List (List ℕ)) → Type 0
-AreAllInStep (Some lines) =
-    (place peer_place : ℕ) (socket peer : ScriptSocket) → AreEmitted lines
-    → slice_get (network_after lines).sockets place ≡ Some socket
-    → slice_get (network_after lines).sockets peer_place ≡ Some peer
-    → own_peer socket.history ≡ Some (record { addr = peer.host; id = peer_place + 1 })
-    → AreInStep socket.history peer.history
-AreAllInStep None = Unit {0}
+module _ {C : Type 0} (w : Ways C) where
+  -- where no line gives bytes of its own, what each socket of these lines delivered is a prefix of what its own peer accepted,
+  -- and no more of its blocks are acknowledged than have arrived there
+  abbrev pub AreAllInStep : Option (List (List ℕ)) → Type 0
+  AreAllInStep (Some lines) =
+      (place peer_place : ℕ) (socket peer : ScriptSocket C) → AreEmitted lines
+      → slice_get (network_after w lines).sockets place ≡ Some socket
+      → slice_get (network_after w lines).sockets peer_place ≡ Some peer
+      → own_peer w socket.history ≡ Some (record { addr = peer.host; id = peer_place + 1 })
+      → AreInStep w socket.history peer.history
+  AreAllInStep None = Unit {0}

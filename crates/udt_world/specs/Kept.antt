@@ -1,6 +1,7 @@
 -- The lines that a world keeps.
 use Rattle.std.specs.Prelude.{◌≡◌, ℕ, Bool, true, false, List, [], ◌∷◌, ◌++◌, Some, Vec}
 use Rattle.std.specs.Global.{Global}
+use Rattle.udt_model.specs.Rate.{Ways}
 use Rattle.udt_model.specs.Script.{printed_after}
 
 -- the bytes of a line
@@ -12,8 +13,9 @@ abbrev pub kept_lines : Bool → List (List ℕ) → List ℕ → List (List ℕ
 kept_lines true lines line = lines ++ line ∷ []
 kept_lines false lines line = lines
 
--- the definitions accept each of these lines, after the ones before it
-unfoldable pub AreAccepted : List (List ℕ) → List (List ℕ) → Type 0
-AreAccepted before [] = Unit {0}
-AreAccepted before (line ∷ lines) =
-    ((text : List ℕ) × (printed_after before line ≡ Some text)) × AreAccepted (before ++ line ∷ []) lines
+module _ {C : Type 0} (w : Ways C) where
+  -- the definitions accept each of these lines, after the ones before it
+  unfoldable pub AreAccepted : List (List ℕ) → List (List ℕ) → Type 0
+  AreAccepted before [] = Unit {0}
+  AreAccepted before (line ∷ lines) =
+      ((text : List ℕ) × (printed_after w before line ≡ Some text)) × AreAccepted (before ++ line ∷ []) lines

@@ -1,5 +1,6 @@
 pub mod Views
 pub mod Done
+pub mod Runs
 pub mod ScriptLines
 pub mod Kept
 pub mod Transcripts

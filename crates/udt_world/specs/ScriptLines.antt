@@ -1,5 +1,6 @@
 -- What a world answers to a line.
 use Rattle.std.specs.Prelude.{◌≡◌, ℕ, List, [], ◌∷◌, ◌++◌, Option, Some, None, Result, Ok, Err}
+use Rattle.udt_model.specs.Rate.{Ways}
 use Rattle.udt_model.specs.Script.{printed_after}
 use Rattle.udt_world.specs.declared.world.LineNo.{LineNo}
 use Rattle.udt_world.specs.declared.world.LineNo.TheVariants.{Refused, OutOfMemory}
@@ -24,13 +25,16 @@ pub record LosesLine (new : Option (List (List ℕ))) (before after : List ℕ) 
   pub lost : new ≡ None
   pub output : after ≡ before
 
--- a line's answer, what it leaves and what the output was before and after it. Without memory no line is accepted or refused
-abbrev pub AnswersLine :
-    Option (List (List ℕ)) → List ℕ → Result (Unit {0}) LineNo
-    → Option (List (List ℕ)) → List ℕ → List ℕ → Type 0
-AnswersLine (Some lines) line (Ok done) new before after = Accepts (printed_after lines line) lines line new before after
-AnswersLine (Some lines) line (Err Refused) new before after = Refuses (printed_after lines line) lines new before after
-AnswersLine (Some lines) line (Err OutOfMemory) new before after = LosesLine new before after
-AnswersLine None line (Ok done) new before after = ⊥
-AnswersLine None line (Err Refused) new before after = ⊥
-AnswersLine None line (Err OutOfMemory) new before after = LosesLine new before after
+module _ {C : Type 0} (w : Ways C) where
+  -- a line's answer, what it leaves and what the output was before and after it. Without memory no line is accepted or refused
+  abbrev pub AnswersLine :
+      Option (List (List ℕ)) → List ℕ → Result (Unit {0}) LineNo
+      → Option (List (List ℕ)) → List ℕ → List ℕ → Type 0
+  AnswersLine (Some lines) line (Ok done) new before after =
+      Accepts (printed_after w lines line) lines line new before after
+  AnswersLine (Some lines) line (Err Refused) new before after =
+      Refuses (printed_after w lines line) lines new before after
+  AnswersLine (Some lines) line (Err OutOfMemory) new before after = LosesLine new before after
+  AnswersLine None line (Ok done) new before after = ⊥
+  AnswersLine None line (Err Refused) new before after = ⊥
+  AnswersLine None line (Err OutOfMemory) new before after = LosesLine new before after

@@ -5,6 +5,7 @@ use Rattle.udt_model.specs.Emissions.{IsPrefix}
 use Rattle.udt_model.specs.Events.{Reply}
 use Rattle.udt_model.specs.History.{taken_by, given_by}
 use Rattle.udt_model.specs.Lines.{Pairing, Line, PairLine, CallLine, read_line, AreEmitted}
+use Rattle.udt_model.specs.Rate.{Ways}
 use Rattle.udt_model.specs.Script.{printed_after}
 use Rattle.udt_model.specs.Texts.{event_text}
 use Rattle.udt_model.specs.Words.{is_word}
@@ -52,24 +53,25 @@ pub record AreInStep (entries : List Entry) : Type 0 where
 abbrev pub lines_in : List Entry → List (List ℕ)
 lines_in entries = map (λ (entry : Entry). entry.line) entries
 
--- each line is printed as the definitions say, after these and the ones before it
-unfoldable pub ArePrinted : List (List ℕ) → List Entry → Type 0
-ArePrinted lines [] = Unit {0}
-ArePrinted lines (entry ∷ entries) =
-    (printed_after lines entry.line ≡ Some (entry_text entry)) × ArePrinted (lines ++ entry.line ∷ []) entries
+module _ {C : Type 0} (w : Ways C) where
+  -- each line is printed as the definitions say, after these and the ones before it
+  unfoldable pub ArePrinted : List (List ℕ) → List Entry → Type 0
+  ArePrinted lines [] = Unit {0}
+  ArePrinted lines (entry ∷ entries) =
+      (printed_after w lines entry.line ≡ Some (entry_text entry)) × ArePrinted (lines ++ entry.line ∷ []) entries
 
--- one more line was printed after these: where none gives bytes of its own, by this text and by what the others print each
--- name received a prefix of what its peer sent
-pub record TellsLine (lines : List (List ℕ)) (line before after : List ℕ) : Type 0 where
-  pub entries : List Entry
-  pub last : Entry
-  pub lines_are : lines_in entries ≡ lines
-  pub line_is : last.line ≡ line
-  pub printed : ArePrinted [] entries
-  pub text : after ≡ before ++ entry_text last
-  pub in_step : AreEmitted (lines ++ line ∷ []) → AreInStep (entries ++ last ∷ [])
+  -- one more line was printed after these: where none gives bytes of its own, by this text and by what the others print each
+  -- name received a prefix of what its peer sent
+  pub record TellsLine (lines : List (List ℕ)) (line before after : List ℕ) : Type 0 where
+    pub entries : List Entry
+    pub last : Entry
+    pub lines_are : lines_in entries ≡ lines
+    pub line_is : last.line ≡ line
+    pub printed : ArePrinted [] entries
+    pub text : after ≡ before ++ entry_text last
+    pub in_step : AreEmitted (lines ++ line ∷ []) → AreInStep (entries ++ last ∷ [])
 
--- what a world's line printed after these
-abbrev pub KeepsPrefix : Option (List (List ℕ)) → List ℕ → Result (Unit {0}) LineNo → List ℕ → List ℕ → Type 0
-KeepsPrefix (Some lines) line (Ok done) before after = TellsLine lines line before after
-KeepsPrefix lines line answer before after = Unit {0}
+  -- what a world's line printed after these
+  abbrev pub KeepsPrefix : Option (List (List ℕ)) → List ℕ → Result (Unit {0}) LineNo → List ℕ → List ℕ → Type 0
+  KeepsPrefix (Some lines) line (Ok done) before after = TellsLine lines line before after
+  KeepsPrefix lines line answer before after = Unit {0}

@@ -1,22 +1,24 @@
 -- A world, as it lies in memory.
 use Rattle.std.specs.Prelude.{◌≡◌, ℕ, ◌+◌, ◌≤◌, false, List, [], map, Option, Some, None, if◌then◌else◌}
 use Rattle.udt_model.specs.declared.limits.TheConstants.{LONGEST_SCRIPT}
+use Rattle.udt_model.specs.Rate.{Ways}
 use Rattle.udt_model.specs.Script.{network_after, size_of}
 use Rattle.udt_world.specs.declared.world.World.TheInside.{Inside}
 use Rattle.udt_world.specs.Kept.{items_of, AreAccepted}
 use Rattle.udt_world.specs.Views.{Shows, view_of}
 
-abbrev pub lines_in : Inside → List (List ℕ)
-lines_in w = map items_of w.lines.items
+module _ {C : Type 0} where
+  abbrev pub lines_in : Inside C → List (List ℕ)
+  lines_in world = map items_of world.lines.items
 
--- the accepted lines, while there is memory
-abbrev pub lines_of : Inside → Option (List (List ℕ))
-lines_of w = if w.lost then None else Some (lines_in w)
+  -- the accepted lines, while there is memory
+  abbrev pub lines_of : Inside C → Option (List (List ℕ))
+  lines_of world = if world.lost then None else Some (lines_in world)
 
 -- while there is memory, each line was accepted after those before it, and the sockets and datagrams are those that the
 -- definitions make of the lines
-pub record IsWorld (w : Inside) : Type 0 where
-  pub shown : w.lost ≡ false → Shows (network_after (lines_in w)) (view_of w.network)
-  pub size_is : w.lost ≡ false → w.size ≡ size_of (lines_in w)
-  pub bound : w.size ≤ LONGEST_SCRIPT + 1
-  pub accepted : w.lost ≡ false → AreAccepted [] (lines_in w)
+pub record IsWorld {C : Type 0} (w : Ways C) (world : Inside C) : Type 0 where
+  pub shown : world.lost ≡ false → Shows w (network_after w (lines_in world)) (view_of world.network)
+  pub size_is : world.lost ≡ false → world.size ≡ size_of (lines_in world)
+  pub bound : world.size ≤ LONGEST_SCRIPT + 1
+  pub accepted : world.lost ≡ false → AreAccepted w [] (lines_in world)

@@ -2,6 +2,7 @@
 
 ghost use Rattle.std.specs.Prelude.{◌≡◌, ℕ, ◌<◌, ◌&&◌, Some, true, not, length, take, vec_len, IfOk, OnOk, OnErr};
 ghost use Rattle.udt_model.specs.Addresses.{same_addr};
+ghost use Rattle.udt_model.specs.Events.{event};
 ghost use Rattle.udt_model.specs.Lines.{CallLine, DeliverLine, RawLine};
 ghost use Rattle.udt_model.specs.Network as model;
 ghost use Rattle.udt_model.specs.Script.{on_line};
@@ -16,6 +17,7 @@ use crate::pairs::{FIRST_HOST, SECOND_HOST};
 use std::alloc::AllocError;
 use udt_model::Addr;
 use udt_packet::target;
+use udt_rate::Control;
 use udt_script::{Call, ScriptDatagram, print_dropped};
 
 /// The highest readiness bit, which a closed socket alone shows.
@@ -36,19 +38,19 @@ fn is_host(addr: Addr) -> bool
 }
 
 // The socket stands at this host, and isn't closed.
-fn is_enrolled(socket: &ScriptSocket, host: Addr) -> bool
+fn is_enrolled<C: Control>(socket: &ScriptSocket<C>, host: Addr) -> bool
     ensures { result ≡ (same_addr socket.now.host host && not (is_closed socket.now.socket.phase)) }
 {
     socket.host.is_same(host) && socket.socket.bits() < CLOSED
 }
 
-impl Network {
+impl<C: Control> Network<C> {
     // The route to the socket with this ID at this host.
     fn route_to(&self, id: u32, host: Addr) -> Route
-        ensures value { (n : model.Network) (datagram : model.ScriptDatagram)
-            → Shows n (view_of self.now) → model.is_host host ≡ true
+        ensures value { (n : model.Network C) (datagram : model.ScriptDatagram)
+            → Shows C.ways n (view_of self.now) → model.is_host host ≡ true
             → datagram.to ≡ host → Some id ≡ destination datagram.bytes
-            → IsRoute n datagram result }
+            → IsRoute C.ways n datagram result }
         ensures within { (place : ℕ) → result ≡ Route.To place → place < vec_len self.now.sockets }
     {
         if id == 0 {
@@ -64,10 +66,10 @@ impl Network {
         Route::To(place)
     }
 
-    // The route of a datagram, by its destination.
-    fn route(&self, datagram: &ScriptDatagram) -> Route
-        ensures value { (n : model.Network) → Shows n (view_of self.now)
-            → IsRoute n (datagram_of datagram.now) result }
+    /// The route of a datagram, by its destination.
+    pub fn route(&self, datagram: &ScriptDatagram) -> Route
+        ensures value { (n : model.Network C) → Shows C.ways n (view_of self.now)
+            → IsRoute C.ways n (datagram_of datagram.now) result }
         ensures within { (place : ℕ) → result ≡ Route.To place → place < vec_len self.now.sockets }
     {
         if !is_host(datagram.to) {
@@ -86,8 +88,8 @@ impl Network {
         datagram: &ScriptDatagram,
         out: &mut Vec<u8>,
     ) -> Result<(), AllocError>
-        ensures done { OnOk result ((n : model.Network) → Shows n (view_of self.old)
-            → DoesLine n (on_line n (RawLine now (datagram_of datagram.now))) true
+        ensures done { OnOk result ((n : model.Network C) → Shows C.ways n (view_of self.old)
+            → DoesLine C.ways n (on_line C.ways n (RawLine now (datagram_of datagram.now))) true
             (view_of self.new) out.old.items out.new.items) }
         ensures err { OnErr result (take (vec_len out.old) out.new.items ≡ out.old.items) }
     {
@@ -102,8 +104,8 @@ impl Network {
 
     /// The arrival of the datagram with this number. False where none was printed under it.
     pub fn deliver(&mut self, number: u64, now: u64, out: &mut Vec<u8>) -> Result<bool, AllocError>
-        ensures done { IfOk result (λ did. (n : model.Network) → Shows n (view_of self.old)
-            → DoesLine n (on_line n (DeliverLine number now)) did
+        ensures done { IfOk result (λ did. (n : model.Network C) → Shows C.ways n (view_of self.old)
+            → DoesLine C.ways n (on_line C.ways n (DeliverLine number now)) did
             (view_of self.new) out.old.items out.new.items) }
         ensures err { OnErr result (take (vec_len out.old) out.new.items ≡ out.old.items) }
     {
@@ -128,8 +130,8 @@ impl Network {
         call: &Call,
         out: &mut Vec<u8>,
     ) -> Result<bool, AllocError>
-        ensures done { IfOk result (λ did. (n : model.Network) → Shows n (view_of self.old)
-            → DoesLine n (on_line n (CallLine name.now (record { now = now; act = act_of call.now }))) did
+        ensures done { IfOk result (λ did. (n : model.Network C) → Shows C.ways n (view_of self.old)
+            → DoesLine C.ways n (on_line C.ways n (CallLine name.now (event now (act_of call.now)))) did
             (view_of self.new) out.old.items out.new.items) }
         ensures err { OnErr result (take (vec_len out.old) out.new.items ≡ out.old.items) }
     {

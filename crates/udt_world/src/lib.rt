@@ -5,10 +5,14 @@
 #![tactic(auto)]
 
 mod deliveries;
+mod generated;
 mod network;
 mod pairs;
+mod quiet;
 #[cfg(test)]
 mod tests;
 mod world;
 
+pub use generated::generate;
+pub use udt_core::OutOfMemory;
 pub use world::{LineNo, World};

@@ -1,7 +1,7 @@
 // The sockets of a script, and the datagrams that they emitted.
 
 ghost use Rattle.std.specs.Prelude.{◌≡◌, ℕ, ◌+◌, ◌<◌, ◌++◌, length, map, take, position, vec_len, IfSome, IfOk, OnOk, OnErr};
-ghost use Rattle.udt_model.specs.Events.{Recv};
+ghost use Rattle.udt_model.specs.Events.{Recv, event, outs_of};
 ghost use Rattle.udt_model.specs.Script.{from_host};
 ghost use Rattle.udt_model.specs.Step.{step};
 ghost use Rattle.udt_model.specs.Texts.{datagrams_text};
@@ -13,14 +13,15 @@ ghost use Rattle.udt_world.specs.Views.{view_of, event_of, HasEvent};
 use std::alloc::{AllocError, Global};
 use udt_core::{Outs, Socket};
 use udt_model::Addr;
+use udt_rate::Control;
 use udt_script::{Call, Reply, ScriptDatagram, print_datagram, print_reply};
 
 /// A socket of a script: its name, the address of its host, and the machine.
 #[derive(Drop)]
-pub struct ScriptSocket {
+pub struct ScriptSocket<C> {
     pub name: Vec<u8>,
     pub host: Addr,
-    pub socket: Socket,
+    pub socket: Socket<C>,
 }
 
 /// What happens to a socket: a call of it, or bytes that arrive from an address.
@@ -33,15 +34,15 @@ pub enum Act<'a> {
 /// All sockets of a script, and all datagrams that they emitted. Room for those of one event is
 /// taken once.
 #[derive(Drop)]
-pub struct Network {
+pub struct Network<C> {
     pub alloc: Global,
-    pub sockets: Vec<ScriptSocket>,
+    pub sockets: Vec<ScriptSocket<C>>,
     pub datagrams: Vec<ScriptDatagram>,
     pub outs: Option<Outs>,
 }
 
 /// The place of the socket with this name.
-pub fn place_of(sockets: &[ScriptSocket], name: &[u8]) -> Option<usize>
+pub fn place_of<C>(sockets: &[ScriptSocket<C>], name: &[u8]) -> Option<usize>
     ensures value { result ≡ position (λ socket. is_word socket.name.items name.now) sockets.now }
     ensures within { IfSome result (λ place. place < length sockets.now) }
 {
@@ -50,8 +51,8 @@ pub fn place_of(sockets: &[ScriptSocket], name: &[u8]) -> Option<usize>
         .position(|socket| socket.name.as_slice() == name)
 }
 
-// The room for what an event emits.
-fn room(alloc: Global, outs: &mut Option<Outs>) -> Result<Outs, AllocError> {
+/// The room for what an event emits.
+pub fn room(alloc: Global, outs: &mut Option<Outs>) -> Result<Outs, AllocError> {
     match outs.take() {
         Some(outs) => Ok(outs),
         None => Outs::new(alloc).map_err(|_| AllocError),
@@ -59,11 +60,16 @@ fn room(alloc: Global, outs: &mut Option<Outs>) -> Result<Outs, AllocError> {
 }
 
 // A receive with room for this many bytes.
-fn receive(alloc: Global, socket: &mut Socket, now: u64, room: u32) -> Result<Reply, AllocError>
+fn receive<C: Control>(
+    alloc: Global,
+    socket: &mut Socket<C>,
+    now: u64,
+    room: u32,
+) -> Result<Reply, AllocError>
     ensures value { IfOk result (λ reply. reply_of reply
-        ≡ (step socket.old (record { now = now; act = Recv room })).reply) }
+        ≡ (step C.ways socket.old (event now (Recv room))).reply) }
     ensures next { OnOk result (socket.new
-        ≡ (step socket.old (record { now = now; act = Recv room })).after) }
+        ≡ (step C.ways socket.old (event now (Recv room))).after) }
 {
     let mut into = vec![in alloc; 0; room as usize]?;
     match socket.recv(now, &mut into) {
@@ -76,20 +82,20 @@ fn receive(alloc: Global, socket: &mut Socket, now: u64, room: u32) -> Result<Re
 }
 
 // What a call of a socket answers. What it emits is left in `outs`.
-#[tactic(auto, using(crate::proofs::EventLemmas::send_outs, crate::proofs::EventLemmas::recv_outs, crate::proofs::EventLemmas::close_outs, crate::proofs::EventLemmas::close_reply, crate::proofs::EventLemmas::tick_reply))]
-fn answer(
+#[tactic(auto, using(crate::proofs::EventLemmas::send_outs, crate::proofs::EventLemmas::recv_outs, crate::proofs::EventLemmas::close_outs, crate::proofs::EventLemmas::close_reply, crate::proofs::EventLemmas::tick_reply, crate::proofs::EventLemmas::measure_outs))]
+fn answer<C: Control>(
     alloc: Global,
-    socket: &mut Socket,
+    socket: &mut Socket<C>,
     now: u64,
     call: &Call,
     outs: &mut Outs,
 ) -> Result<Reply, AllocError>
     ensures value { IfOk result (λ reply. reply_of reply
-        ≡ (step socket.old (record { now = now; act = act_of call.now })).reply) }
+        ≡ (step C.ways socket.old (event now (act_of call.now))).reply) }
     ensures next { OnOk result (socket.new
-        ≡ (step socket.old (record { now = now; act = act_of call.now })).after) }
+        ≡ (step C.ways socket.old (event now (act_of call.now))).after) }
     ensures outs { OnOk result (outs.new
-        ≡ (step socket.old (record { now = now; act = act_of call.now })).outs) }
+        ≡ outs_of (step C.ways socket.old (event now (act_of call.now)))) }
 {
     outs.clear();
     match call {
@@ -104,21 +110,22 @@ fn answer(
             socket.close(now);
             Ok(Reply::Closed)
         }
+        Call::Perf => Ok(Reply::Measured(socket.perf(now))),
     }
 }
 
-// What an event of a socket answers. What it emits is left in `outs`.
-fn happen(
+/// What an event of a socket answers. What it emits is left in `outs`.
+pub fn happen<C: Control>(
     alloc: Global,
-    socket: &mut Socket,
+    socket: &mut Socket<C>,
     now: u64,
     act: &Act,
     outs: &mut Outs,
 ) -> Result<Reply, AllocError>
     ensures value { IfOk result (λ reply. reply_of reply
-        ≡ (step socket.old (event_of now act.now)).reply) }
-    ensures next { OnOk result (socket.new ≡ (step socket.old (event_of now act.now)).after) }
-    ensures outs { OnOk result (outs.new ≡ (step socket.old (event_of now act.now)).outs) }
+        ≡ (step C.ways socket.old (event_of now act.now)).reply) }
+    ensures next { OnOk result (socket.new ≡ (step C.ways socket.old (event_of now act.now)).after) }
+    ensures outs { OnOk result (outs.new ≡ outs_of (step C.ways socket.old (event_of now act.now))) }
 {
     match act {
         Act::Call(call) => answer(alloc, socket, now, call, outs),
@@ -150,7 +157,7 @@ fn keep_emitted(
     Ok(())
 }
 
-impl Network {
+impl<C: Control> Network<C> {
     /// An event of the socket at this place, which is printed; and then what the socket emitted is
     /// printed and kept.
     pub fn event(
@@ -161,7 +168,7 @@ impl Network {
         out: &mut Vec<u8>,
     ) -> Result<(), AllocError>
         requires { place < vec_len self.old.sockets }
-        ensures ok { OnOk result (HasEvent place (event_of now act.now)
+        ensures ok { OnOk result (HasEvent C.ways place (event_of now act.now)
             (view_of self.old) (view_of self.new) out.old.items out.new.items) }
         ensures err { OnErr result (take (vec_len out.old) out.new.items ≡ out.old.items) }
     {

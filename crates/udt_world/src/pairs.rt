@@ -13,8 +13,8 @@ ghost use Rattle.udt_world.specs.Views.{sight_of, sight_of_history, view_of, Sho
 use crate::network::{Network, ScriptSocket, place_of};
 use std::alloc::{AllocError, Global};
 use udt_core::{Peer, Socket};
-use udt_model::{Addr, Ip, MOST_SOCKETS};
-use udt_packet::{Config, Kind};
+use udt_model::{Addr, Config, Ip, Kind, MOST_SOCKETS};
+use udt_rate::Control;
 use udt_script::{Pairing, print_pair};
 
 /// The host of the first socket of each pair, 10.0.0.1:9000.
@@ -37,16 +37,16 @@ struct Place {
 }
 
 // One socket of a pair, with its name and place, and the place of the other.
-fn open(
+fn open<C: Control + Drop>(
     alloc: Global,
     pairing: &Pairing,
     name: &[u8],
     own: Place,
     peer: Place,
-) -> Result<ScriptSocket, AllocError>
+) -> Result<ScriptSocket<C>, AllocError>
     requires { IsPairable pairing.now }
-    ensures { IfOk result (λ socket. sight_of socket ≡ sight_of_history
-        (paired_socket (pairing_of pairing.now) name.now own.host own.id peer.host peer.id)) }
+    ensures { IfOk result (λ socket. sight_of socket ≡ sight_of_history C.ways
+        (paired_socket C.ways (pairing_of pairing.now) name.now own.host own.id peer.host peer.id)) }
 {
     let config = Config {
         kind: Kind::Stream,
@@ -69,10 +69,10 @@ fn open(
     }
 }
 
-impl Network {
+impl<C: Control + Drop> Network<C> {
     // Both names are new, and there is room for two sockets.
     fn may_pair(&self, pairing: &Pairing) -> bool
-        ensures value { (n : model.Network) → Shows n (view_of self.now)
+        ensures value { (n : model.Network C) → Shows C.ways n (view_of self.now)
             → result ≡ model_script.may_pair n (pairing_of pairing.now) }
         ensures bound { result ≡ true → vec_len self.now.sockets + 2 ≤ MOST_SOCKETS }
     {
@@ -91,8 +91,8 @@ impl Network {
     /// Opens two sockets, each the other's peer. False where a name is taken or there are too many.
     pub fn pair(&mut self, pairing: &Pairing, out: &mut Vec<u8>) -> Result<bool, AllocError>
         requires { IsPairable pairing.now }
-        ensures done { IfOk result (λ did. (n : model.Network) → Shows n (view_of self.old)
-            → DoesLine n (on_line n (PairLine (pairing_of pairing.now))) did
+        ensures done { IfOk result (λ did. (n : model.Network C) → Shows C.ways n (view_of self.old)
+            → DoesLine C.ways n (on_line C.ways n (PairLine (pairing_of pairing.now))) did
             (view_of self.new) out.old.items out.new.items) }
         ensures err { OnErr result (take (vec_len out.old) out.new.items ≡ out.old.items) }
     {

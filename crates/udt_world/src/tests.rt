@@ -1,12 +1,14 @@
 // One world and a line of each form, and what becomes of bytes that no socket sent.
 
-use crate::{LineNo, World};
+use crate::{LineNo, World, generate};
+use udt_model::Summary;
+use udt_rate::Native;
 
 #[test]
 fn plays_a_line_of_each_form(rt: HostRuntime) {
-    let mut world = World::new(rt.alloc());
+    let mut world = World::<Native>::new(rt.alloc());
     let mut out = Vec::new(rt.alloc());
-    let lines: [(&[u8], Result<(), LineNo>, &[u8]); 15] = [
+    let lines: [(&[u8], Result<(), LineNo>, &[u8]); 16] = [
         (b"pair stream a b 4 5 4", Ok(()), b"pair a 1 b 2\n"),
         (b"a send 1000 68656c6c6f", Ok(()), b"a send 5\n"),
         (
@@ -21,6 +23,12 @@ fn plays_a_line_of_each_form(rt: HostRuntime) {
         (b"# b has four bytes", Ok(()), b""),
         (b"b recv 3000 10", Ok(()), b"b recv 68656c6c\n"),
         (b"b recv 3000 10", Ok(()), b"b recv again\n"),
+        (
+            b"b perf 3000",
+            Ok(()),
+            b"b perf rtt 100000 var 50000 window 16 period 0 sent 0 resent 0 placed 1 double 0 below 0 \
+            above 0 control 0 stale 0 foreign 0 malformed 0 acked 0\n",
+        ),
         (
             b"raw 3000 10.0.0.1:9000 10.0.0.2:9000 80010000000000000000000000000002",
             Ok(()),
@@ -57,7 +65,7 @@ fn plays_a_line_of_each_form(rt: HostRuntime) {
 
 #[test]
 fn answers_bytes_that_no_socket_sent(rt: HostRuntime) {
-    let arrivals: [(&[u8], &[u8]); 18] = [
+    let arrivals: [(&[u8], &[u8]); 21] = [
         (
             b"raw 2000 10.0.0.1:9000 10.0.0.2:9000 00000005800000010000000000000002",
             b"b arrive badlength\n",
@@ -73,6 +81,20 @@ fn answers_bytes_that_no_socket_sent(rt: HostRuntime) {
         (
             b"raw 2000 10.0.0.1:9000 10.0.0.2:9000 00000004c0000001000000000000000201",
             b"b arrive above\n",
+        ),
+        (
+            b"raw 2000 10.0.0.1:9000 10.0.0.2:9000 00000007c0000001000000000000000201",
+            b"b arrive placed\n\
+            datagram 2 10.0.0.2:9000 10.0.0.1:9000 8003000000000000000007d0000000018000000500000006\n",
+        ),
+        (
+            b"raw 2000 10.0.0.2:9000 10.0.0.1:9000 8002000000000001000000000000000100000006000186a00000c35000000004",
+            b"a arrive ack\n\
+            datagram 2 10.0.0.1:9000 10.0.0.2:9000 8006000000000001000007d000000002\n",
+        ),
+        (
+            b"raw 2000 10.0.0.2:9000 10.0.0.1:9000 800300000000000000000000000000018000000500000006",
+            b"a arrive nak\n",
         ),
         (
             b"raw 2000 10.0.0.2:9000 10.0.0.1:9000 800300000000000000000000000000018000000500000007",
@@ -132,7 +154,7 @@ fn answers_bytes_that_no_socket_sent(rt: HostRuntime) {
         ),
     ];
     for (line, printed) in arrivals {
-        let mut world = World::new(rt.alloc());
+        let mut world = World::<Native>::new(rt.alloc());
         let mut out = Vec::new(rt.alloc());
         for before in [
             b"pair stream a b 4 5 4".as_slice(),
@@ -145,5 +167,26 @@ fn answers_bytes_that_no_socket_sent(rt: HostRuntime) {
         out.clear();
         assert_eq!(rt; world.line(line, &mut out), Ok(()), "{line:?}");
         assert_eq!(rt; out.as_slice(), printed, "{line:?}");
+    }
+}
+
+fn summary(accepted: u64, delivered: u64, acked: u64, datagrams: u64) -> Summary {
+    Summary {
+        accepted,
+        delivered,
+        acked,
+        datagrams,
+    }
+}
+
+#[test]
+fn generates_runs(rt: HostRuntime) {
+    let runs: [(u64, u64, Summary); 3] = [
+        (7, 0, summary(0, 0, 0, 0)),
+        (7, 1, summary(0, 0, 0, 0)),
+        (7, 200, summary(45_617, 12_148, 0, 18)),
+    ];
+    for (n, turns, told) in runs {
+        assert_eq!(rt; generate::<Native>(rt.alloc(), n, turns), Ok(told));
     }
 }

@@ -16,6 +16,7 @@ use crate::network::Network;
 use std::alloc::{AllocError, Global};
 use std::marker::Model;
 use udt_model::{LONGEST_LINE, LONGEST_SCRIPT};
+use udt_rate::Control;
 use udt_script::{Line, read_line};
 
 /// Why a line did nothing.
@@ -28,14 +29,14 @@ pub enum LineNo {
 /// The network of a script, and the lines that made it. Contracts see it as the lines that were accepted, and as
 /// None once memory has run out: every later line is then answered so.
 #[derive(Drop)]
-pub struct World {
+pub struct World<C: Control> {
     lines: Vec<Vec<u8>>,
     size: u64,
-    network: Network,
+    network: Network<C>,
     lost: bool,
 }
 
-impl Model for World {
+impl<C: Control> Model for World<C> {
     ghost use Rattle.std.specs.Prelude.{List, ℕ, Option};
 
     ghost Value = { Option (List (List ℕ)) };
@@ -44,14 +45,18 @@ impl Model for World {
 
     ghost view = { lines_of };
 
-    ghost invariant = { IsWorld };
+    ghost invariant = { IsWorld C.ways };
 }
 
 // Does what a line of this form says. False where it is refused.
-fn do_line(network: &mut Network, line: &Line, out: &mut Vec<u8>) -> Result<bool, AllocError>
+fn do_line<C: Control + Drop>(
+    network: &mut Network<C>,
+    line: &Line,
+    out: &mut Vec<u8>,
+) -> Result<bool, AllocError>
     requires { IsInRange line.now }
-    ensures done { IfOk result (λ did. (n : model.Network) → Shows n (view_of network.old)
-        → DoesLine n (on_line n (line_of line.now)) did
+    ensures done { IfOk result (λ did. (n : model.Network C) → Shows C.ways n (view_of network.old)
+        → DoesLine C.ways n (on_line C.ways n (line_of line.now)) did
         (view_of network.new) out.old.items out.new.items) }
     ensures err { OnErr result (take (vec_len out.old) out.new.items ≡ out.old.items) }
 {
@@ -68,9 +73,13 @@ fn do_line(network: &mut Network, line: &Line, out: &mut Vec<u8>) -> Result<bool
 }
 
 // Reads a line and does what it says. False where it is refused.
-fn play_line(network: &mut Network, line: &[u8], out: &mut Vec<u8>) -> Result<bool, AllocError>
-    ensures done { IfOk result (λ did. (n : model.Network) → Shows n (view_of network.old)
-        → DoesLine n (played_line n line.now) did
+fn play_line<C: Control + Drop>(
+    network: &mut Network<C>,
+    line: &[u8],
+    out: &mut Vec<u8>,
+) -> Result<bool, AllocError>
+    ensures done { IfOk result (λ did. (n : model.Network C) → Shows C.ways n (view_of network.old)
+        → DoesLine C.ways n (played_line C.ways n line.now) did
         (view_of network.new) out.old.items out.new.items) }
     ensures err { OnErr result (take (vec_len out.old) out.new.items ≡ out.old.items) }
 {
@@ -81,16 +90,16 @@ fn play_line(network: &mut Network, line: &[u8], out: &mut Vec<u8>) -> Result<bo
 }
 
 // Keeps a line, and does what it says. A refused one isn't kept.
-fn keep_line(
+fn keep_line<C: Control + Drop>(
     lines: &mut Vec<Vec<u8>>,
-    network: &mut Network,
+    network: &mut Network<C>,
     line: &[u8],
     out: &mut Vec<u8>,
 ) -> Result<bool, AllocError>
     ensures lines { IfOk result (λ did.
         map items_of lines.new.items ≡ kept_lines did (map items_of lines.old.items) line.now) }
-    ensures done { IfOk result (λ did. (n : model.Network) → Shows n (view_of network.old)
-        → DoesLine n (played_line n line.now) did
+    ensures done { IfOk result (λ did. (n : model.Network C) → Shows C.ways n (view_of network.old)
+        → DoesLine C.ways n (played_line C.ways n line.now) did
         (view_of network.new) out.old.items out.new.items) }
     ensures err { OnErr result (take (vec_len out.old) out.new.items ≡ out.old.items) }
 {
@@ -113,9 +122,9 @@ fn fits(size: u64, line: &[u8]) -> bool
     size + line.len() as u64 <= LONGEST_SCRIPT && line.len() as u64 <= LONGEST_LINE
 }
 
-impl World {
+impl<C: Control + Drop> World<C> {
     /// A network without sockets.
-    pub fn new(alloc: Global) -> World
+    pub fn new(alloc: Global) -> World<C>
         ensures { result ≡ Some [] }
     {
         let network = Network {
@@ -135,9 +144,9 @@ impl World {
     /// Does what a line says, and prints it after what was printed before. A refused line changes
     /// nothing. Once memory has run out every line is answered so, and prints nothing.
     pub fn line(&mut self, line: &[u8], out: &mut Vec<u8>) -> Result<(), LineNo>
-        ensures answer { AnswersLine self.old line.now result self.new out.old.items out.new.items }
-        ensures in_step { AreAllInStep self.new }
-        ensures prefix { KeepsPrefix self.old line.now result out.old.items out.new.items }
+        ensures answer { AnswersLine C.ways self.old line.now result self.new out.old.items out.new.items }
+        ensures in_step { AreAllInStep C.ways self.new }
+        ensures prefix { KeepsPrefix C.ways self.old line.now result out.old.items out.new.items }
     {
         if self.lost {
             return Err(LineNo::OutOfMemory);

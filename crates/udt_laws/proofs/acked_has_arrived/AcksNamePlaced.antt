@@ -1,29 +1,33 @@
--- What a history acknowledges: each acknowledgement that it emits names one offset, before which all was placed.
-use Rattle.std.proofs.Common.{◌≡◌, ℕ, ◌≤◌, List, [], ◌∷◌, Ok, ap, sym, subst, arith}
+-- What a history acknowledges: each ACK that it emits names one offset, before which all was placed.
+use Rattle.std.proofs.Common.{◌≡◌, ℕ, ◌≤◌, List, [], ◌∷◌, ◌++◌, Ok, ap, ◌∙◌, sym, subst, arith}
 use Rattle.std.specs.List.{Contains}
 use Rattle.udt_model.specs.declared.answers.Peer.{Peer}
 use Rattle.udt_model.specs.declared.packets.AckBody.{AckBody}
-use Rattle.udt_model.specs.declared.packets.AckBody.TheVariants.{Full}
+use Rattle.udt_model.specs.declared.packets.AckBody.TheVariants.{Light, Full}
 use Rattle.udt_model.specs.declared.packets.Config.{Config}
+use Rattle.udt_model.specs.Emissions.{emitted}
+use Rattle.udt_model.specs.Events.{Act, Reply, at_moment}
+use Rattle.udt_model.specs.History.{Item, History, start_of, after_items, IsLegal, placed_by, placed_offsets, placed_from}
 use Rattle.udt_model.specs.Numbers.{sequence_number}
-use Rattle.udt_model.specs.Wire.{Ack, read}
-use Rattle.udt_model.specs.State.{State}
-use Rattle.udt_model.specs.Sending.{acked_number}
-use Rattle.udt_model.specs.Receiving.{room_from}
-use Rattle.udt_model.specs.Ticks.{round_trip}
-use Rattle.udt_model.specs.Events.{at_moment}
 use Rattle.udt_model.specs.Opening.{opening}
-use Rattle.udt_model.specs.History.{Item, History, start_of, after_items, IsLegal, placed_offsets, placed_from}
+use Rattle.udt_model.specs.Rate.{Ways}
 use Rattle.udt_model.specs.Records.{Way, PairedAt, opened_by, IsWay}
-use Rattle.udt_model.specs.Emissions.{Emission, emitted}
+use Rattle.udt_model.specs.ReceiveHalf.{after_block}
+use Rattle.udt_model.specs.ReceiveReports.{ack_offset, full_ack, light_ack}
+use Rattle.udt_model.specs.SendReports.{acked_number}
+use Rattle.udt_model.specs.State.{State, Emission}
+use Rattle.udt_model.specs.Step.{step}
+use Rattle.udt_model.specs.Wire.{Ack, read}
+use Rattle.udt_model.proofs.EmissionLemmas.{Emitting, NewBlock, LostBlock, FullAck, LightAck, Reports, ReportsGap, AnswersAck, SendsKeepAlive, TheEnd}
+use Rattle.udt_model.proofs.HalfLemmas.{after_block-keeps}
 use Rattle.udt_model.proofs.TickLemmas.{ack_outcome-tells}
-use Rattle.udt_model.proofs.EmissionLemmas.{Emitting, NewBlock, LostBlock, Acknowledgement, SendsKeepAlive, TheEnd}
 use Rattle.udt_laws.proofs.sockets.Opened.{opened_start}
 use Rattle.udt_laws.proofs.acked_has_arrived.CountsWithoutGap.{IsAmong, AllBetween}
 use Rattle.udt_laws.proofs.acked_has_arrived.BelowGapWasPlaced.{Covers, ack_emitted-covered}
-use Rattle.udt_laws.proofs.acked_has_arrived.EventsPlace.{AllMeet, items-covers}
+use Rattle.udt_laws.proofs.acked_has_arrived.EventsPlace.{AllMeet, items-covers, carried-covers, item-meets}
 use Rattle.udt_laws.proofs.sent_blocks.EmissionsRead.{packet_of}
-use Rattle.udt_laws.proofs.sent_blocks.SentBlocks.{same-packet, moment-after, way-begins, emission-at, emission-reads}
+use Rattle.udt_laws.proofs.sent_blocks.ReportsFit.{ReportsFit, block-fits}
+use Rattle.udt_laws.proofs.sent_blocks.SentBlocks.{same-packet, moment-at, way-begins, emission-at, emission-reads}
 
 -- the datagram names one offset, which has this sequence number, and all from the start on and before it meet this
 pub record TellsOf (P : ℕ → Type 0) (start isn : ℕ) (emission : Emission) (number : ℕ) : Type 0 where
@@ -33,54 +37,76 @@ pub record TellsOf (P : ℕ → Type 0) (start isn : ℕ) (emission : Emission) 
   pub all : AllBetween P start offset
   pub numbered : sequence_number isn offset ≡ number
 
--- an emission that is an acknowledgement tells of what the half knows
-emitting-tells : (P : ℕ → Type 0) (start : ℕ) (s : State) (emission : Emission) (x : Emitting s emission) (number stamp dest : ℕ) (body : AckBody)
-    → Covers P start s.receiving → packet_of s emission x ≡ Ack number stamp dest body
-    → TellsOf P start s.receiving.isn emission (acked_number body)
-emitting-tells P start s emission (NewBlock block connected packs is) number stamp dest body covers same = absurd (cc)
-emitting-tells P start s emission (LostBlock offset block connected packs is) number stamp dest body covers same = absurd (cc)
-emitting-tells P start s emission (Acknowledgement ack connected tells is) number stamp dest body covers same =
-    let named_ack = ack_outcome-tells s.receiving s.last round_trip.rtt ack tells in
-    let covered = ack_emitted-covered P start s.receiving covers in
-    let full : Full (sequence_number s.receiving.isn ack.offset) round_trip.rtt round_trip.var (room_from s.receiving ack.offset) 0 0 ≡ body = cc in
-    record {
-      offset = ack.offset;
-      names = ap (λ (e : Emission). e.offsets) is;
-      not_before = rw named_ack.offset covered.begun;
-      all = rw named_ack.offset covered.below;
-      numbered = ap acked_number full;
-    }
-emitting-tells P start s emission (SendsKeepAlive connected is) number stamp dest body covers same = absurd (cc)
-emitting-tells P start s emission (TheEnd closing is) number stamp dest body covers same = absurd (cc)
+module _ {C : Type 0} (w : Ways C) where
+  -- an emission that is an ACK tells of what the half knows
+  emitting-tells : (P : ℕ → Type 0) (start : ℕ) (s : State C) (act : Act) (reply : Reply) (emission : Emission) (x : Emitting w s act reply emission)
+      (number stamp dest : ℕ) (body : AckBody) → ReportsFit s.receiving → Covers P start s.receiving → AllMeet P (placed_by s act reply)
+      → packet_of w s act reply emission x ≡ Ack number stamp dest body
+      → TellsOf P start s.receiving.isn emission (acked_number body)
+  emitting-tells P start s act reply emission (NewBlock block connected packs is) number stamp dest body fits covers meets same = absurd (cc)
+  emitting-tells P start s act reply emission (LostBlock offset block connected packs is) number stamp dest body fits covers meets same = absurd (cc)
+  emitting-tells P start s act reply emission (FullAck ack connected tells is) number stamp dest body fits covers meets same =
+      let told = ack_outcome-tells s.receiving s.last s.rtt ack tells in
+      let covered = ack_emitted-covered P start s.receiving fits covers in
+      let full : full_ack s.receiving s.rtt ack.offset ≡ body = cc in
+      record {
+        offset = ack.offset;
+        names = ap (λ (e : Emission). e.offsets) is;
+        not_before = rw told.offset covered.begun;
+        all = rw told.offset covered.below;
+        numbered = ap acked_number full;
+      }
+  emitting-tells P start s act reply emission (LightAck from raw number' flags stamp' bytes connected arrives carries sender replies is) number stamp dest body fits covers meets same =
+      let after = after_block s.receiving s.last number' flags bytes in
+      let there = subst (λ (a : Act). AllMeet P (placed_by s a reply)) arrives meets in
+      let covers_after = carried-covers w P start s from raw s.last number' flags stamp' s.own bytes reply carries replies there covers in
+      let covered = ack_emitted-covered P start after (block-fits s.receiving s.last number' flags bytes fits) covers_after in
+      let light : light_ack after ≡ body = cc in
+      record {
+        offset = ack_offset after;
+        names = ap (λ (e : Emission). e.offsets) is;
+        not_before = covered.begun;
+        all = covered.below;
+        numbered =
+            ap (λ (isn : ℕ). sequence_number isn (ack_offset after)) (sym (after_block-keeps s.receiving s.last number' flags bytes).isn)
+            ∙ ap acked_number light;
+      }
+  emitting-tells P start s act reply emission (Reports range ranges connected reports is) number stamp dest body fits covers meets same = absurd (cc)
+  emitting-tells P start s act reply emission (ReportsGap from raw number' flags stamp' bytes ends connected arrives carries sender gap is) number stamp dest body fits covers meets same = absurd (cc)
+  emitting-tells P start s act reply emission (AnswersAck number' connected is) number stamp dest body fits covers meets same = absurd (cc)
+  emitting-tells P start s act reply emission (SendsKeepAlive connected is) number stamp dest body fits covers meets same = absurd (cc)
+  emitting-tells P start s act reply emission (TheEnd closing is) number stamp dest body fits covers meets same = absurd (cc)
 
--- a block of this offset was placed in this history
-abbrev pub HasPlaced : History → ℕ → Type 0
-HasPlaced h offset = IsAmong offset (placed_offsets h)
+  -- a block of this offset was placed in this history
+  abbrev pub HasPlaced : History C → ℕ → Type 0
+  HasPlaced h offset = IsAmong offset (placed_offsets w h)
 
--- a history knows of no offset when it begins
-opening-covers : (P : ℕ → Type 0) (own : ℕ) (config : Config) (peer : Peer) (now start : ℕ) → Covers P start (opening own config peer now start).receiving
-unfolding opening
-opening-covers P own config peer now start = record { begun = omega arith; below = λ n low high. absurd (omega arith); placed = tt }
+  -- a history knows of no offset when it begins
+  opening-covers : (P : ℕ → Type 0) (own : ℕ) (config : Config) (peer : Peer) (now start : ℕ) → Covers P start (opening w own config peer now start).receiving
+  unfolding opening
+  opening-covers P own config peer now start = record { begun = omega arith; there = λ n low high none. absurd (omega (arith, low, high)) }
 
-way-covers : (P : ℕ → Type 0) (own : ℕ) (way : Way) (h : History) → h.opening ≡ opened_by own way → Covers P (start_of h) h.opening.receiving
-way-covers P own (PairedAt config peer now start) h opened =
-    subst (λ (n : ℕ). Covers P n h.opening.receiving) (sym (opened_start own config peer now start h opened))
-    (subst (λ (s : State). Covers P start s.receiving) (sym opened) (opening-covers P own config peer now start))
+  way-covers : (P : ℕ → Type 0) (own : ℕ) (way : Way) (h : History C) → h.opening ≡ opened_by w own way → Covers P (start_of h) h.opening.receiving
+  way-covers P own (PairedAt config peer now start) h opened =
+      subst (λ (n : ℕ). Covers P n h.opening.receiving) (sym (opened_start w own config peer now start h opened))
+      (subst (λ (s : State C). Covers P start s.receiving) (sym opened) (opening-covers P own config peer now start))
 
--- so what it emits and is read as an acknowledgement tells of what was placed in it
-pub history-tells : (own : ℕ) (way : Way) (h : History) → IsWay own way → h.opening ≡ opened_by own way → IsLegal h
-    → (emission : Emission) (number stamp dest : ℕ) (body : AckBody) → Contains (emitted h) emission
-    → read emission.datagram.bytes ≡ Ok (Ack number stamp dest body)
-    → TellsOf (HasPlaced h) (start_of h) h.opening.receiving.isn emission (acked_number body)
-history-tells own way h in_range opened legal emission number stamp dest body among reads =
-    let P = HasPlaced h in
-    let at = emission-at own way h in_range opened legal emission among in
-    let spelled = emission-reads own way h in_range opened legal emission at in
-    let there = after_items h.opening at.front in
-    let moment = moment-after h.opening (start_of h) at.front at.item.event.now (way-begins own way h in_range opened) in
-    let covers = items-covers P (start_of h) h.opening at.front (at.item ∷ at.rest)
-    (subst (λ (items : List Item). IsLegal (record { opening = h.opening; items = items })) at.joined legal)
-    (subst (λ (items : List Item). AllMeet P (placed_from h.opening items)) at.joined (λ n among. among)) (way-covers P own way h opened) in
-    subst (λ (isn : ℕ). TellsOf P (start_of h) isn emission (acked_number body)) moment.receiving_isn
-    (emitting-tells P (start_of h) (at_moment there at.item.event.now) emission at.emitting number stamp dest body covers
-    (same-packet emission.datagram.bytes _ _ spelled.reads reads))
+  -- so what it emits and is read as an ACK tells of what was placed in it
+  pub history-tells : (own : ℕ) (way : Way) (h : History C) → IsWay own way → h.opening ≡ opened_by w own way → IsLegal w h
+      → (emission : Emission) (number stamp dest : ℕ) (body : AckBody) → Contains (emitted w h) emission
+      → read emission.datagram.bytes ≡ Ok (Ack number stamp dest body)
+      → TellsOf (HasPlaced h) (start_of h) h.opening.receiving.isn emission (acked_number body)
+  history-tells own way h in_range opened legal emission number stamp dest body among reads =
+      let P = HasPlaced h in
+      let at = emission-at w own way h in_range opened legal emission among in
+      let spelled = emission-reads w own way h in_range opened legal emission at in
+      let there = after_items w h.opening at.front in
+      let moment = moment-at w own way h in_range opened legal emission at in
+      let here_legal = subst (λ (items : List Item). IsLegal w (record { opening = h.opening; items = items })) at.joined legal in
+      let all_meet = subst (λ (items : List Item). AllMeet P (placed_from w h.opening items)) at.joined (λ n among. among) in
+      let covers = items-covers w P (start_of h) h.opening at.front (at.item ∷ at.rest) here_legal all_meet (way-covers P own way h opened) in
+      let meets = item-meets w P (start_of h) h.opening at.front at.item at.rest here_legal all_meet in
+      subst (λ (isn : ℕ). TellsOf P (start_of h) isn emission (acked_number body)) moment.receiving_isn
+      (emitting-tells P (start_of h) (at_moment there at.item.event.now) at.item.event.act _ emission at.emitting number stamp dest body
+      moment.can.reports covers meets
+      (same-packet emission.datagram.bytes _ _ spelled.reads reads))

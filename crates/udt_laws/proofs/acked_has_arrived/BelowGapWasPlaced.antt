@@ -1,123 +1,180 @@
--- What a receiving half knows: all offsets below its base and those of its placed blocks were placed, so all below its
--- first gap were.
-use Rattle.std.proofs.Common.{◌≡◌, ℕ, ◌+◌, ◌-◌, ◌≤◌, true, false, List, [], ◌∷◌, length, Ok, Err, refl, subst, inl, inr, arith}
-use Rattle.std.specs.Prelude.{◌==◌, ◌&&◌, nat_le, if◌then◌else◌, Result}
-use Rattle.std.proofs.lemmas.Bool.{eqb-true, and_parts, cases_eq}
+-- What a receiving half knows: each offset below its top that isn't missing was placed, so all below the least missing one were.
+use Rattle.std.proofs.Common.{◌≡◌, ℕ, ◌+◌, ◌-◌, ◌<◌, ◌≤◌, max, Bool, true, false, List, [], ◌∷◌, Some, None, Ok, refl, sym, ap, ◌∙◌, subst, inl, inr, arith}
+use Rattle.std.specs.Prelude.{◌==◌, nat_lt, if◌then◌else◌, Option}
+use Rattle.std.proofs.lemmas.Bool.{cases_eq, cases_lt, cases_Bool, false_from_ne_true, true≢false, ltb-true, ltb-false}
 use Rattle.std.proofs.lemmas.Bool.Decides.{nat_tests}
-use Rattle.udt_model.specs.declared.answers.Refusal.{Refusal}
+use Rattle.udt_model.specs.declared.answers.Placed.{Placed}
+use Rattle.udt_model.specs.declared.answers.Placed.TheVariants as placing
 use Rattle.udt_model.specs.declared.packets.Flags.{Flags}
-use Rattle.udt_model.specs.State.{PlacedBlock, Receiving}
-use Rattle.udt_model.specs.Receiving.{Placing, AtOffset, IsDouble, IsBelow, IsAbove, placing, after_placing, after_arrival, Front, front_after, receive_answer, after_receive_answer, after_receive, first_gap, ack_offset, AckOutcome, IsEarly, IsKnown, EmitsAck, ack_outcome, after_ack_outcome, after_ack_timer, receiving_closed}
-use Rattle.udt_model.proofs.ReceivingLemmas.{AllPlaced, AllPlaced-with_block}
+use Rattle.udt_model.specs.declared.sockets.SentAck.{SentAck}
+use Rattle.udt_model.specs.Losses.{is_missing, with_missing, without_missing, report, after_report}
+use Rattle.udt_model.specs.ReceiveBlocks.{ReceiveBlocks, PlacedBlock, placing_of, arrived_at, after_placing_of, after_place}
+use Rattle.udt_model.specs.ReceiveHalf.{Receiving, measured, offset_of, placing_at, missing_after, with_new, after_placing, after_block, after_receive}
+use Rattle.udt_model.specs.ReceiveReports.{least_missing, ack_offset, nak_words, AckOutcome, IsEarly, IsKnown, EmitsAck, ack_outcome, after_ack_outcome, after_ack_timer, after_nak_timer, confirmed_by, after_ack2}
+use Rattle.udt_model.specs.Timing.{RoundTrip, period_of, last_under}
+use Rattle.udt_model.proofs.MissingOffsets.{added_keeps, added_has, arrived_keeps, reported_same, below_least, least_is}
+use Rattle.udt_model.proofs.TakenOffsets.{begins_later}
 use Rattle.udt_laws.proofs.acked_has_arrived.CountsWithoutGap.{IsAmong, AllBetween}
+use Rattle.udt_laws.proofs.sent_blocks.ReportsFit.{ReportsFit}
 
 -- the offset at which a block is placed
-abbrev pub placed_by_placing : Placing → List ℕ
-placed_by_placing (AtOffset offset) = offset ∷ []
-placed_by_placing other = []
+abbrev pub placed_by_placing : Option ℕ → Placed → List ℕ
+placed_by_placing (Some offset) placing.New = offset ∷ []
+placed_by_placing offset other = []
 
--- the offset meets this, whatever the bytes of its block
-abbrev pub AtOffsets : (ℕ → Type 0) → ℕ → List ℕ → Type 0
-AtOffsets P offset bytes = P offset
+-- each offset from the start on and below the top that isn't missing meets this
+pub record Covers (P : ℕ → Type 0) (start : ℕ) (r : Receiving) : Type 0 where
+  pub begun : start ≤ r.blocks.base
+  pub there : (n : ℕ) → start ≤ n → n < r.top → is_missing n r.missing ≡ false → P n
 
--- each offset from the start on and below the base meets this, and so does that of each of these blocks
-pub record CoversUpTo (P : ℕ → Type 0) (start base : ℕ) (blocks : List PlacedBlock) : Type 0 where
-  pub begun : start ≤ base
-  pub below : AllBetween P start base
-  pub placed : AllPlaced (AtOffsets P) blocks
-
--- a half whose offsets meet this
-abbrev pub Covers : (ℕ → Type 0) → ℕ → Receiving → Type 0
-Covers P start r = CoversUpTo P start r.base r.placed
+-- each offset from the start on and below an ACK offset meets this
+pub record CoversUpTo (P : ℕ → Type 0) (start end : ℕ) : Type 0 where
+  pub begun : start ≤ end
+  pub below : AllBetween P start end
 
 among-itself : (offset : ℕ) → IsAmong offset (offset ∷ [])
 among-itself offset = grind (arith, nat_tests)
 
+-- a block that is placed leaves the base
+put-base : (b : ReceiveBlocks) (block : PlacedBlock) (p : Placed) → (after_placing_of b block p).base ≡ b.base
+put-base b block placing.New = refl
+put-base b block placing.Below = refl
+put-base b block placing.Above = refl
+put-base b block placing.Double = refl
+
+place-base : (b : ReceiveBlocks) (offset : ℕ) (flags : Flags) (bytes : List ℕ) → (after_place b offset flags bytes).base ≡ b.base
+unfolding after_place
+place-base b offset flags bytes = put-base b (arrived_at offset flags bytes) (placing_of b offset)
+
+placing-base : (r : Receiving) (now : ℕ) (flags : Flags) (bytes : List ℕ) (offset : Option ℕ) (p : Placed)
+    → (after_placing r now flags bytes offset p).blocks.base ≡ r.blocks.base
+placing-base r now flags bytes (Some offset) placing.New = place-base r.blocks offset flags bytes
+placing-base r now flags bytes (Some offset) placing.Below = refl
+placing-base r now flags bytes (Some offset) placing.Above = refl
+placing-base r now flags bytes (Some offset) placing.Double = refl
+placing-base r now flags bytes None placing.New = refl
+placing-base r now flags bytes None placing.Below = refl
+placing-base r now flags bytes None placing.Above = refl
+placing-base r now flags bytes None placing.Double = refl
+
+-- the ACK offset isn't above the top, and not below the base
+pub ack-within : (r : Receiving) → ReportsFit r → (r.blocks.base ≤ ack_offset r) × (ack_offset r ≤ r.top)
+ack-within r fits = elim (least_is r.top r.missing) [
+  | inl top ↦ (omega (arith, top, fits.order.base), omega (arith, top))
+  | inr lost ↦ (fits.order.from (ack_offset r) lost, omega (arith, fits.order.below (ack_offset r) lost))
+]
+
 module _ (P : ℕ → Type 0) (start : ℕ) where
-  one-more : (base : ℕ) → P base → AllBetween P start base → AllBetween P start (base + 1)
-  one-more base here below n low high = elim (cases_eq n base) [
-    | inl same ↦ rw same here
-    | inr differ ↦ below n low (omega arith)
-  ]
-
-  -- a base moves over placed blocks alone
-  front-covers : (base given : ℕ) (blocks : List PlacedBlock) → CoversUpTo P start base blocks
-      → CoversUpTo P start (front_after base given blocks).base (front_after base given blocks).placed
-  unfolding front_after
-  front-covers base given [] covers = covers
-  front-covers base given (block ∷ others) covers =
-      elim (block.offset == base && nat_le (length block.bytes) given) as (λ read. (block.offset == base && nat_le (length block.bytes) given) ≡ read
-      → (let front : Front = (if read then front_after (base + 1) (given - length block.bytes) others
-      else record { base = base; given = given; placed = block ∷ others }) in CoversUpTo P start front.base front.placed)) [
-        | true ↦ λ test.
-            let here = eqb-true block.offset base (and_parts (block.offset == base) _ test).0 in
-            front-covers (base + 1) (given - length block.bytes) others (record {
-              begun = omega (arith, covers.begun);
-              below = one-more base (subst P here covers.placed.0) covers.below;
-              placed = covers.placed.1;
-            })
-        | false ↦ λ test. covers
-      ] refl
-
-  -- and so does the search for a gap
-  gap-covered : (offset : ℕ) (blocks : List PlacedBlock) → CoversUpTo P start offset blocks
-      → CoversUpTo P start (first_gap offset blocks) []
-  unfolding first_gap
-  gap-covered offset [] covers = covers
-  gap-covered offset (block ∷ others) covers =
-      elim (block.offset == offset) as (λ here. (block.offset == offset) ≡ here
-      → CoversUpTo P start (if here then first_gap (offset + 1) others else offset) []) [
-        | true ↦ λ same.
-            gap-covered (offset + 1) others (record {
-              begun = omega (arith, covers.begun);
-              below = one-more offset (subst P (eqb-true block.offset offset same) covers.placed.0) covers.below;
-              placed = covers.placed.1;
-            })
-        | false ↦ λ apart. record { begun = covers.begun; below = covers.below; placed = tt }
-      ] refl
-
-  -- all that an acknowledgement tells of
-  pub ack_emitted-covered : (r : Receiving) → Covers P start r → CoversUpTo P start (ack_offset r) []
-  ack_emitted-covered r covers = gap-covered r.base r.placed covers
+  -- all that an ACK tells of
+  pub ack_emitted-covered : (r : Receiving) → ReportsFit r → Covers P start r → CoversUpTo P start (ack_offset r)
+  ack_emitted-covered r fits covers =
+      let within = ack-within r fits in
+      record {
+        begun = omega (arith, covers.begun, within.0);
+        below = λ n low high. covers.there n low (omega (arith, high, within.1)) (below_least 0 r.top n r.missing fits.rising high);
+      }
 
   -- ---- what the events of a half keep
 
-  reading-covers : (r : Receiving) (answer : Result (List ℕ) Refusal) → Covers P start r → Covers P start (after_receive_answer r answer)
-  reading-covers r (Ok bytes) covers = front-covers r.base (r.given + length bytes) r.placed covers
-  reading-covers r (Err why) covers = covers
+  -- an offset that isn't missing once a block was placed wasn't missing before, or is that of the block
+  not_missing : (r : Receiving) (now offset n : ℕ) → n < max r.top (offset + 1) → is_missing n (missing_after r now offset) ≡ false
+      → (n ≡ offset → ⊥) → (n < r.top) × (is_missing n r.missing ≡ false)
+  not_missing r now offset n less none other =
+      elim (nat_lt r.top offset) as (λ above. nat_lt r.top offset ≡ above → is_missing n (
+      if above
+      then with_missing r.top (offset - 1) now r.missing
+      else (if nat_lt offset r.top then without_missing offset offset r.missing else r.missing)) ≡ false
+      → (n < r.top) × (is_missing n r.missing ≡ false)) [
+        | true ↦ λ test none.
+            let above = ltb-true r.top offset test in
+            let old = false_from_ne_true _ (λ there. true≢false (sym (added_keeps r.top (offset - 1) now n r.missing there) ∙ none)) in
+            elim (cases_lt n r.top) [
+              | inl below ↦ (below, old)
+              | inr past ↦ absurd (true≢false (sym (added_has r.top (offset - 1) now n r.missing past (omega (arith, less, other, above))) ∙ none))
+            ]
+        | false ↦ λ test none.
+            let least = ltb-false r.top offset test in
+            elim (nat_lt offset r.top) as (λ below. nat_lt offset r.top ≡ below → is_missing n (
+            if below then without_missing offset offset r.missing else r.missing) ≡ false → (n < r.top) × (is_missing n r.missing ≡ false)) [
+              | true ↦ λ within none. (
+                omega (arith, less, ltb-true offset r.top within),
+                false_from_ne_true _ (λ there. true≢false (sym (arrived_keeps offset n r.missing there other) ∙ none)),
+              )
+              | false ↦ λ at none. (omega (arith, less, other, ltb-false offset r.top at, least), none)
+            ] refl none
+      ] refl none
 
-  pub receive-covers : (r : Receiving) (room : ℕ) → Covers P start r → Covers P start (after_receive r room)
-  unfolding after_receive
-  receive-covers r room covers = reading-covers r (receive_answer r room) covers
+  new-covers : (r : Receiving) (now : ℕ) (flags : Flags) (bytes : List ℕ) (offset : ℕ) → P offset → (with_new r now flags bytes offset).blocks.base ≡ r.blocks.base
+      → Covers P start r → Covers P start (with_new r now flags bytes offset)
+  new-covers r now flags bytes offset here same covers = record {
+    begun = omega (arith, covers.begun, same);
+    there = λ n low less none. elim (cases_eq n offset) [
+      | inl own ↦ rw own here
+      | inr other ↦
+          let was = not_missing r now offset n less none other in
+          covers.there n low was.0 was.1
+    ];
+  }
 
-  placing-covers : (r : Receiving) (flags : Flags) (bytes : List ℕ) (p : Placing) → ((n : ℕ) → IsAmong n (placed_by_placing p) → P n)
-      → Covers P start r → Covers P start (after_placing r flags bytes p)
-  placing-covers r flags bytes (AtOffset offset) meets covers =
-      let here : P offset = meets offset (among-itself offset) in
-      record {
-        begun = covers.begun;
-        below = covers.below;
-        placed = AllPlaced-with_block (AtOffsets P) (record { offset = offset; flags = flags; bytes = bytes }) r.placed here covers.placed;
-      }
-  placing-covers r flags bytes IsDouble meets covers = covers
-  placing-covers r flags bytes IsBelow meets covers = covers
-  placing-covers r flags bytes IsAbove meets covers = covers
+  placing-covers : (r : Receiving) (now : ℕ) (flags : Flags) (bytes : List ℕ) (offset : Option ℕ) (p : Placed)
+      → (after_placing r now flags bytes offset p).blocks.base ≡ r.blocks.base
+      → ((n : ℕ) → IsAmong n (placed_by_placing offset p) → P n) → Covers P start r → Covers P start (after_placing r now flags bytes offset p)
+  placing-covers r now flags bytes (Some offset) placing.New same meets covers =
+      new-covers r now flags bytes offset (meets offset (among-itself offset)) same covers
+  placing-covers r now flags bytes (Some offset) placing.Below same meets covers = covers
+  placing-covers r now flags bytes (Some offset) placing.Above same meets covers = covers
+  placing-covers r now flags bytes (Some offset) placing.Double same meets covers = covers
+  placing-covers r now flags bytes None placing.New same meets covers = covers
+  placing-covers r now flags bytes None placing.Below same meets covers = covers
+  placing-covers r now flags bytes None placing.Above same meets covers = covers
+  placing-covers r now flags bytes None placing.Double same meets covers = covers
 
-  pub arrival-covers : (r : Receiving) (number : ℕ) (flags : Flags) (bytes : List ℕ)
-      → ((n : ℕ) → IsAmong n (placed_by_placing (placing r number)) → P n) → Covers P start r
-      → Covers P start (after_arrival r number flags bytes)
-  unfolding after_arrival
-  arrival-covers r number flags bytes meets covers = placing-covers r flags bytes (placing r number) meets covers
+  found-covers : (r : Receiving) (now number : ℕ) (flags : Flags) (bytes : List ℕ)
+      → ((n : ℕ) → IsAmong n (placed_by_placing (offset_of r number) (placing_at r (offset_of r number))) → P n) → Covers P start r
+      → Covers P start (after_placing (measured r now number) now flags bytes (offset_of r number) (placing_at r (offset_of r number)))
+  found-covers r now number flags bytes meets covers =
+      placing-covers (measured r now number) now flags bytes (offset_of r number) (placing_at r (offset_of r number))
+      (placing-base (measured r now number) now flags bytes (offset_of r number) (placing_at r (offset_of r number))) meets
+      (record { begun = covers.begun; there = covers.there })
+
+  pub block-covers : (r : Receiving) (now number : ℕ) (flags : Flags) (bytes : List ℕ)
+      → ((n : ℕ) → IsAmong n (placed_by_placing (offset_of r number) (placing_at r (offset_of r number))) → P n) → Covers P start r
+      → Covers P start (after_block r now number flags bytes)
+  unfolding after_block
+  block-covers r now number flags bytes meets covers = found-covers r now number flags bytes meets covers
 
   ack_outcome-covers : (r : Receiving) (now : ℕ) (t : AckOutcome) → Covers P start r → Covers P start (after_ack_outcome r now t)
   ack_outcome-covers r now IsEarly covers = covers
-  ack_outcome-covers r now IsKnown covers = covers
-  ack_outcome-covers r now (EmitsAck ack) covers = covers
+  ack_outcome-covers r now IsKnown covers = record { begun = covers.begun; there = covers.there }
+  ack_outcome-covers r now (EmitsAck ack) covers = record { begun = covers.begun; there = covers.there }
 
-  pub tell-covers : (r : Receiving) (now rtt : ℕ) → Covers P start r → Covers P start (after_ack_timer r now rtt)
+  nak-covers : (r : Receiving) (now : ℕ) (known : RoundTrip) → Covers P start r → Covers P start (after_nak_timer r now known)
+  unfolding after_nak_timer
+  nak-covers r now known covers =
+      let ranges = report now known.rtt (nak_words r) r.missing in
+      elim (nat_lt now r.nak_due) as (λ early. Covers P start (
+      if early then r else record r { missing = after_report now ranges r.missing; nak_due = now + period_of known })) [
+        | true ↦ covers
+        | false ↦ record {
+          begun = covers.begun;
+          there = λ n low less none. covers.there n low less (sym (reported_same now n ranges r.missing) ∙ none);
+        }
+      ]
+
+  pub reports-cover : (r : Receiving) (now : ℕ) (known : RoundTrip) → Covers P start r
+      → Covers P start (after_nak_timer (after_ack_timer r now known) now known)
   unfolding after_ack_timer
-  tell-covers r now rtt covers = ack_outcome-covers r now (ack_outcome r now rtt) covers
+  reports-cover r now known covers = nak-covers _ now known (ack_outcome-covers r now (ack_outcome r now known) covers)
 
-  pub closed-covers : (r : Receiving) → Covers P start r → Covers P start (receiving_closed r)
-  unfolding receiving_closed
-  closed-covers r covers = record { begun = covers.begun; below = covers.below; placed = tt }
+  confirmed-covers : (r : Receiving) (number : ℕ) (found : Option SentAck) → Covers P start r → Covers P start (confirmed_by r number found)
+  confirmed-covers r number None covers = covers
+  confirmed-covers r number (Some ack) covers = record { begun = covers.begun; there = covers.there }
+
+  pub ack2-covers : (r : Receiving) (number : ℕ) → Covers P start r → Covers P start (after_ack2 r number)
+  unfolding after_ack2
+  ack2-covers r number covers = confirmed-covers r number (last_under number r.history) covers
+
+  pub receive-covers : (r : Receiving) (count : ℕ) → Covers P start r → Covers P start (after_receive r count)
+  receive-covers r count covers =
+      let later = begins_later r.blocks.placed r.blocks.base (r.blocks.given + count) in
+      record { begun = omega (arith, covers.begun, later); there = covers.there }

@@ -3,4 +3,4 @@ use Rattle.udt_laws.proofs.sent_blocks.GoesToPeer.{addressed}
 use Rattle.udt_laws.proofs.addressed.Goals as goal
 
 pub returns : goal.returns
-returns c = addressed
+returns g c = addressed g.C.Control.ways

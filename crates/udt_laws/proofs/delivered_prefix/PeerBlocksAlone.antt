@@ -14,24 +14,19 @@ use Rattle.udt_model.specs.Opening.{opening}
 use Rattle.udt_model.specs.History.{History, state_of, start_of, IsLegal, accepted, delivered}
 use Rattle.udt_model.specs.declared.addresses.Addr.{Addr}
 use Rattle.udt_model.specs.Records.{Way, PairedAt, opened_by, IsWay, ArePaired}
-use Rattle.udt_model.specs.Emissions.{IsPrefix, Emission, emitted}
+use Rattle.udt_model.specs.Emissions.{IsPrefix, emitted}
+use Rattle.udt_model.specs.Rate.{Ways}
+use Rattle.udt_model.specs.State.{Emission}
 use Rattle.udt_model.specs.Honest.{IsClose}
 use Rattle.udt_model.proofs.NearLemmas.{near-is}
 use Rattle.udt_model.proofs.ReceivingLemmas.{AllFrom, concat-append}
 use Rattle.udt_laws.specs.Laws.{HasBlocks}
 use Rattle.udt_laws.proofs.delivered_is_carried.GivenIsOfBlocks.{IsPrefixOf}
 use Rattle.udt_laws.proofs.delivered_is_carried.DeliversPlacedBlocks.{AllMeet, delivers-front_of}
-use Rattle.udt_laws.proofs.sockets.Opened.{opened_own, opened_peer, opened_phase, opened_receiving, opened_start, opened_top, opened_base, opened_placed, last_peer, last_isn}
+use Rattle.udt_laws.proofs.sockets.Opened.{opened_own, opened_peer, opened_receiving, opened_start, opened_top, opened_base, opened_placed, last_peer, last_isn}
 use Rattle.udt_laws.proofs.delivered_prefix.WindowRises.{IsWithin}
 use Rattle.udt_laws.proofs.delivered_is_carried.DeliveredIsCarried.{opened_kept}
 use Rattle.udt_laws.proofs.sent_blocks.SentBlocks.{has_blocks}
-
--- the bytes were emitted in this history, and what they name lies near this offset
-pub record IsEmittedNear (g : History) (top : ℕ) (bytes : List ℕ) : Type 0 where
-  pub emission : Emission
-  pub among : Contains (emitted g) emission
-  pub same : emission.datagram.bytes ≡ bytes
-  pub close : (offset : ℕ) → Contains emission.offsets offset → IsClose offset top
 
 -- a block at its place in a list begins what stands from there on
 drop-found : (blocks : List (List ℕ)) (k : ℕ) (block : List ℕ) → slice_get blocks k ≡ Some block → drop k blocks ≡ block ∷ drop (k + 1) blocks
@@ -41,99 +36,107 @@ drop-found (first ∷ others) (suc k) block found =
     let same : suc k + 1 ≡ suc (k + 1) = omega arith in
     rw same (drop-found others k block found)
 
-module _ (g : History) (has : HasBlocks g) where
-  -- the block of the sender at this offset
-  abbrev pub IsBlockAt : ℕ → List ℕ → Type 0
-  IsBlockAt offset payload = slice_get has.blocks (offset - start_of g) ≡ Some payload
+module _ {C : Type 0} (w : Ways C) where
+  -- the bytes were emitted in this history, and what they name lies near this offset
+  pub record IsEmittedNear (g : History C) (top : ℕ) (bytes : List ℕ) : Type 0 where
+    pub emission : Emission
+    pub among : Contains (emitted w g) emission
+    pub same : emission.datagram.bytes ≡ bytes
+    pub close : (offset : ℕ) → Contains emission.offsets offset → IsClose offset top
 
-  -- a data packet that the sender emitted is read as the block whose offset it names
-  pub record IsReadAs (emission : Emission) (offset : ℕ) (payload : List ℕ) : Type 0 where
-    pub named : Contains emission.offsets offset
-    pub is_block : IsBlockAt offset payload
+  module _ (g : History C) (has : HasBlocks w g) where
+    -- the block of the sender at this offset
+    abbrev pub IsBlockAt : ℕ → List ℕ → Type 0
+    IsBlockAt offset payload = slice_get has.blocks (offset - start_of g) ≡ Some payload
 
-  pub reads-as : (isn top number offset : ℕ) (flags : Flags) (stamp dest : ℕ) (bytes payload : List ℕ) → (state_of g).sending.isn ≡ isn
-      → (is : IsEmittedNear g top bytes) → read bytes ≡ Ok (Block number flags stamp dest payload) → near isn top number ≡ Some offset
-      → IsReadAs is.emission offset payload
-  reads-as isn top number offset flags stamp dest bytes payload same_isn is reads found =
-      let carries = has.emits is.emission number flags stamp dest payload is.among (ap read is.same ∙ reads) in
-      let named = subst (λ (offsets : List ℕ). Contains offsets carries.offset) (sym carries.names) (Contains-push [] carries.offset) in
-      let close = is.close carries.offset named in
-      let numbered : sequence_number isn carries.offset ≡ number = ap (λ (n : ℕ). sequence_number n carries.offset) (sym same_isn) ∙ sym carries.numbered in
-      let there = near-is isn top number carries.offset (record { carries = numbered; not_above = close.0; not_below = close.1 }) in
-      let same : carries.offset ≡ offset = same_Some _ _ (sym there ∙ found) in
+    -- a data packet that the sender emitted is read as the block whose offset it names
+    pub record IsReadAs (emission : Emission) (offset : ℕ) (payload : List ℕ) : Type 0 where
+      pub named : Contains emission.offsets offset
+      pub is_block : IsBlockAt offset payload
+
+    pub reads-as : (isn top number offset : ℕ) (flags : Flags) (stamp dest : ℕ) (bytes payload : List ℕ) → (state_of w g).sending.isn ≡ isn
+        → (is : IsEmittedNear g top bytes) → read bytes ≡ Ok (Block number flags stamp dest payload) → near isn top number ≡ Some offset
+        → IsReadAs is.emission offset payload
+    reads-as isn top number offset flags stamp dest bytes payload same_isn is reads found =
+        let carries = has.emits is.emission number flags stamp dest payload is.among (ap read is.same ∙ reads) in
+        let named = subst (λ (offsets : List ℕ). Contains offsets carries.offset) (sym carries.names) (Contains-push [] carries.offset) in
+        let close = is.close carries.offset named in
+        let numbered : sequence_number isn carries.offset ≡ number = ap (λ (n : ℕ). sequence_number n carries.offset) (sym same_isn) ∙ sym carries.numbered in
+        let there = near-is isn top number carries.offset (record { carries = numbered; not_above = close.0; not_below = close.1 }) in
+        let same : carries.offset ≡ offset = same_Some _ _ (sym there ∙ found) in
+        record {
+          named = subst (λ (n : ℕ). Contains is.emission.offsets n) same named;
+          is_block = subst (λ (n : ℕ). IsBlockAt n payload) same carries.carries;
+        }
+
+    -- blocks that stand at their places follow one another in the list
+    blocks-follow : (k : ℕ) (blocks : List (List ℕ)) → AllFrom IsBlockAt (start_of g + k) blocks
+        → (rest : List (List ℕ)) × (drop k has.blocks ≡ blocks ++ rest)
+    blocks-follow k [] all = (drop k has.blocks, refl)
+    blocks-follow k (block ∷ others) all =
+        let place : start_of g + k - start_of g ≡ k = omega arith in
+        let next : start_of g + k + 1 ≡ start_of g + (k + 1) = omega arith in
+        let found : slice_get has.blocks k ≡ Some block = ap (slice_get has.blocks) (sym place) ∙ all.0 in
+        let after = blocks-follow (k + 1) others (subst (λ (offset : ℕ). AllFrom IsBlockAt offset others) next all.1) in
+        (after.0, drop-found has.blocks k block found ∙ ap (λ (rest : List (List ℕ)). block ∷ rest) after.1)
+
+    -- so a front of them is a front of what the sender accepted
+    front-accepted : (got : List ℕ) → IsPrefixOf IsBlockAt (start_of g) got → IsPrefix got (accepted g)
+    front-accepted got front =
+        let place : start_of g ≡ start_of g + 0 = omega arith in
+        let follow = blocks-follow 0 front.blocks (subst (λ (offset : ℕ). AllFrom IsBlockAt offset front.blocks) place front.each) in (
+          front.front.0 ++ concat follow.0,
+          sym has.joined ∙ ap concat follow.1 ∙ concat-append front.blocks follow.0
+              ∙ ap (λ (bytes : List ℕ). bytes ++ concat follow.0) front.front.1 ∙ append_assoc got front.front.0 (concat follow.0),
+        )
+
+    -- a socket that begins where the sender does, and places only its blocks, delivers a front of what it accepted
+    pub delivers-front : (own : ℕ) (config : Config) (peer : Peer) (now start : ℕ) (h : History C) → h.opening ≡ opening w own config peer now start
+        → IsLegal w h → start_of g ≡ start → AllMeet w IsBlockAt h.opening h.items → IsPrefix (delivered h) (accepted g)
+    delivers-front own config peer now start h opened legal same_start meets =
+        let front = delivers-front_of w IsBlockAt start h.opening h.items legal meets
+        (opened_kept w own config peer now start h opened legal IsBlockAt) in
+        front-accepted (delivered h) (subst (λ (n : ℕ). IsPrefixOf IsBlockAt n (delivered h)) (sym same_start) front)
+
+  -- ---- pairs
+
+  -- two sockets name each other as peer, count from one initial sequence number and one offset, and the one delivers a front of
+  -- what the other accepted where it places only its blocks
+  pub record AreMates (addr : Addr) (own : ℕ) (h : History C) (other_addr : Addr) (other_own : ℕ) (g : History C) : Type 0 where
+    pub has : HasBlocks w g
+    pub own_is : h.opening.own ≡ own
+    pub peer_addr : h.opening.peer.addr ≡ other_addr
+    pub peer_id : h.opening.peer.id ≡ other_own
+    pub back_addr : (state_of w g).peer.addr ≡ addr
+    pub back_id : (state_of w g).peer.id ≡ own
+    pub same_isn : (state_of w g).sending.isn ≡ h.opening.receiving.isn
+    pub same_start : start_of g ≡ start_of h
+    pub stands : IsWithin (start_of h) (start_of h) h.opening.receiving
+    pub front : AllMeet w (IsBlockAt g has) h.opening h.items → IsPrefix (delivered h) (accepted g)
+
+  pub mates : (addr : Addr) (own : ℕ) (way : Way) (h : History C) (other_addr : Addr) (other_own : ℕ) (other_way : Way) (g : History C)
+      → ArePaired addr own way other_addr other_own other_way → h.opening ≡ opened_by w own way → IsLegal w h
+      → IsWay other_own other_way → g.opening ≡ opened_by w other_own other_way → IsLegal w g → AreMates addr own h other_addr other_own g
+  mates addr own (PairedAt config peer now start) h other_addr other_own (PairedAt other_config other_peer other_now other_start) g paired opened legal in_range other_opened other_legal =
+      let has = has_blocks w other_own (PairedAt other_config other_peer other_now other_start) g in_range other_opened other_legal in
+      let peer_is = opened_peer w own config peer now start h opened in
+      let back_is = last_peer w other_own other_config other_peer other_now other_start g other_opened in
+      let start_is = opened_start w other_own other_config other_peer other_now other_start g other_opened ∙ paired.6 in
       record {
-        named = subst (λ (n : ℕ). Contains is.emission.offsets n) same named;
-        is_block = subst (λ (n : ℕ). IsBlockAt n payload) same carries.carries;
+        has = has;
+        own_is = opened_own w own config peer now start h opened;
+        peer_addr = ap (λ (p : Peer). p.addr) peer_is ∙ paired.0;
+        peer_id = ap (λ (p : Peer). p.id) peer_is ∙ paired.1;
+        back_addr = ap (λ (p : Peer). p.addr) back_is ∙ paired.2;
+        back_id = ap (λ (p : Peer). p.id) back_is ∙ paired.3;
+        same_isn = last_isn w other_own other_config other_peer other_now other_start g other_opened ∙ paired.5
+            ∙ sym (opened_receiving w own config peer now start h opened);
+        same_start = start_is ∙ sym (opened_start w own config peer now start h opened);
+        stands = subst (λ (n : ℕ). IsWithin n n h.opening.receiving) (sym (opened_start w own config peer now start h opened)) (record {
+          not_below = omega (arith, opened_base w own config peer now start h opened);
+          base = omega (arith, opened_base w own config peer now start h opened, opened_top w own config peer now start h opened);
+          placed = rw (opened_placed w own config peer now start h opened) tt;
+          not_above = omega (arith, opened_top w own config peer now start h opened);
+        });
+        front = delivers-front g has own config peer now start h opened legal start_is;
       }
-
-  -- blocks that stand at their places follow one another in the list
-  blocks-follow : (k : ℕ) (blocks : List (List ℕ)) → AllFrom IsBlockAt (start_of g + k) blocks
-      → (rest : List (List ℕ)) × (drop k has.blocks ≡ blocks ++ rest)
-  blocks-follow k [] all = (drop k has.blocks, refl)
-  blocks-follow k (block ∷ others) all =
-      let place : start_of g + k - start_of g ≡ k = omega arith in
-      let next : start_of g + k + 1 ≡ start_of g + (k + 1) = omega arith in
-      let found : slice_get has.blocks k ≡ Some block = ap (slice_get has.blocks) (sym place) ∙ all.0 in
-      let after = blocks-follow (k + 1) others (subst (λ (offset : ℕ). AllFrom IsBlockAt offset others) next all.1) in
-      (after.0, drop-found has.blocks k block found ∙ ap (λ (rest : List (List ℕ)). block ∷ rest) after.1)
-
-  -- so a front of them is a front of what the sender accepted
-  front-accepted : (got : List ℕ) → IsPrefixOf IsBlockAt (start_of g) got → IsPrefix got (accepted g)
-  front-accepted got front =
-      let place : start_of g ≡ start_of g + 0 = omega arith in
-      let follow = blocks-follow 0 front.blocks (subst (λ (offset : ℕ). AllFrom IsBlockAt offset front.blocks) place front.each) in (
-        front.front.0 ++ concat follow.0,
-        sym has.joined ∙ ap concat follow.1 ∙ concat-append front.blocks follow.0
-            ∙ ap (λ (bytes : List ℕ). bytes ++ concat follow.0) front.front.1 ∙ append_assoc got front.front.0 (concat follow.0),
-      )
-
-  -- a socket that begins where the sender does, and places only its blocks, delivers a front of what it accepted
-  pub delivers-front : (own : ℕ) (config : Config) (peer : Peer) (now start : ℕ) (h : History) → h.opening ≡ opening own config peer now start
-      → IsLegal h → start_of g ≡ start → AllMeet IsBlockAt h.opening h.items → IsPrefix (delivered h) (accepted g)
-  delivers-front own config peer now start h opened legal same_start meets =
-      let front = delivers-front_of IsBlockAt start h.opening h.items (opened_phase own config peer now start h opened) legal meets
-      (opened_kept own config peer now start h opened legal IsBlockAt) in
-      front-accepted (delivered h) (subst (λ (n : ℕ). IsPrefixOf IsBlockAt n (delivered h)) (sym same_start) front)
-
--- ---- pairs
-
--- two sockets name each other as peer, count from one initial sequence number and one offset, and the one delivers a front of
--- what the other accepted where it places only its blocks
-pub record AreMates (addr : Addr) (own : ℕ) (h : History) (other_addr : Addr) (other_own : ℕ) (g : History) : Type 0 where
-  pub has : HasBlocks g
-  pub own_is : h.opening.own ≡ own
-  pub peer_addr : h.opening.peer.addr ≡ other_addr
-  pub peer_id : h.opening.peer.id ≡ other_own
-  pub back_addr : (state_of g).peer.addr ≡ addr
-  pub back_id : (state_of g).peer.id ≡ own
-  pub same_isn : (state_of g).sending.isn ≡ h.opening.receiving.isn
-  pub same_start : start_of g ≡ start_of h
-  pub stands : IsWithin (start_of h) (start_of h) h.opening.receiving
-  pub front : AllMeet (IsBlockAt g has) h.opening h.items → IsPrefix (delivered h) (accepted g)
-
-pub mates : (addr : Addr) (own : ℕ) (way : Way) (h : History) (other_addr : Addr) (other_own : ℕ) (other_way : Way) (g : History)
-    → ArePaired addr own way other_addr other_own other_way → h.opening ≡ opened_by own way → IsLegal h
-    → IsWay other_own other_way → g.opening ≡ opened_by other_own other_way → IsLegal g → AreMates addr own h other_addr other_own g
-mates addr own (PairedAt config peer now start) h other_addr other_own (PairedAt other_config other_peer other_now other_start) g paired opened legal in_range other_opened other_legal =
-    let has = has_blocks other_own (PairedAt other_config other_peer other_now other_start) g in_range other_opened other_legal in
-    let peer_is = opened_peer own config peer now start h opened in
-    let back_is = last_peer other_own other_config other_peer other_now other_start g other_opened in
-    let start_is = opened_start other_own other_config other_peer other_now other_start g other_opened ∙ paired.6 in
-    record {
-      has = has;
-      own_is = opened_own own config peer now start h opened;
-      peer_addr = ap (λ (p : Peer). p.addr) peer_is ∙ paired.0;
-      peer_id = ap (λ (p : Peer). p.id) peer_is ∙ paired.1;
-      back_addr = ap (λ (p : Peer). p.addr) back_is ∙ paired.2;
-      back_id = ap (λ (p : Peer). p.id) back_is ∙ paired.3;
-      same_isn = last_isn other_own other_config other_peer other_now other_start g other_opened ∙ paired.5
-          ∙ sym (opened_receiving own config peer now start h opened);
-      same_start = start_is ∙ sym (opened_start own config peer now start h opened);
-      stands = subst (λ (n : ℕ). IsWithin n n h.opening.receiving) (sym (opened_start own config peer now start h opened)) (record {
-        not_below = omega (arith, opened_base own config peer now start h opened);
-        base = omega (arith, opened_base own config peer now start h opened, opened_top own config peer now start h opened);
-        placed = rw (opened_placed own config peer now start h opened) tt;
-        not_above = omega (arith, opened_top own config peer now start h opened);
-      });
-      front = delivers-front g has own config peer now start h opened legal start_is;
-    }

@@ -3,4 +3,4 @@ use Rattle.udt_laws.proofs.sent_blocks.SentBlocks.{emitted_blocks}
 use Rattle.udt_laws.proofs.emitted_blocks.Goals as goal
 
 pub returns : goal.returns
-returns c = emitted_blocks
+returns g c = emitted_blocks g.C.Control.ways

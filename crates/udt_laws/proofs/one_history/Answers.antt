@@ -3,4 +3,4 @@ use Rattle.udt_laws.proofs.delivered_is_carried.DeliveredIsCarried.{one_history}
 use Rattle.udt_laws.proofs.one_history.Goals as goal
 
 pub returns : goal.returns
-returns c = one_history
+returns g c = one_history g.C.Control.ways

@@ -3,4 +3,4 @@ use Rattle.udt_laws.proofs.pairs.PairIsHonest.{pair_honest}
 use Rattle.udt_laws.proofs.pair_honest.Goals as goal
 
 pub returns : goal.returns
-returns c = pair_honest
+returns g c = pair_honest g.C.Control.ways

@@ -3,4 +3,4 @@ use Rattle.udt_laws.proofs.pairs.PairPrefix.{pair_prefix}
 use Rattle.udt_laws.proofs.pair_prefix.Goals as goal
 
 pub returns : goal.returns
-returns c = pair_prefix
+returns g c = pair_prefix g.C.Control.ways

@@ -4,7 +4,7 @@ use Rattle.udt_laws.proofs.delivered_prefix.DeliveredPrefix.{prefix-delivered}
 use Rattle.udt_laws.proofs.prefix.Goals as goal
 
 pub returns : goal.returns
-returns c = λ net addr socket other peer lawful honest here stream peer_is there own_is. record {
-  prefix = prefix-delivered net addr socket other peer lawful honest here peer_is there own_is;
-  acknowledged = prefix-arrived net addr socket other peer lawful honest here peer_is there own_is;
+returns g c = λ net addr socket other peer lawful honest here stream peer_is there own_is. record {
+  prefix = prefix-delivered g.C.Control.ways net addr socket other peer lawful honest here peer_is there own_is;
+  acknowledged = prefix-arrived g.C.Control.ways net addr socket other peer lawful honest here peer_is there own_is;
 }

@@ -3,4 +3,4 @@ use Rattle.udt_laws.proofs.scripts.ScriptsInStep.{script_prefix}
 use Rattle.udt_laws.proofs.script_prefix.Goals as goal
 
 pub returns : goal.returns
-returns c = script_prefix
+returns g c = script_prefix g.C.Control.ways

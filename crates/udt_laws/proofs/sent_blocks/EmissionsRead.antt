@@ -1,143 +1,173 @@
 -- What a socket emits reads as the packet that it is, which goes to the peer.
-use Rattle.std.proofs.Common.{◌≡◌, ℕ, ◌^◌, ◌<◌, List, [], ◌∷◌, Some, Ok, Err, refl, ap, ◌∙◌, sym, subst, arith}
-use Rattle.std.specs.Prelude.{Result}
-use Rattle.std.proofs.lemmas.Bool.Decides.{nat_tests}
+use Rattle.std.proofs.Common.{◌≡◌, ℕ, ◌+◌, ◌*◌, ◌/◌, ◌%◌, ◌^◌, ◌<◌, ◌≤◌, Bool, true, false, List, [], ◌∷◌, ◌++◌, Some, Ok, refl, ap, ◌∙◌, sym, subst, arith}
+use Rattle.std.specs.Prelude.{map, length, filter, sum, ◌||◌, ◌==◌, nat_lt, nat_le, if◌then◌else◌}
+use Rattle.std.specs.List.{AllByRecursion}
+use Rattle.std.proofs.lemmas.List.Elements.{All-from_recursion}
+use Rattle.std.proofs.Math.Nat.{div-le_self}
+use Rattle.udt_model.specs.declared.answers.Peer.{Peer}
 use Rattle.udt_model.specs.declared.answers.Phase.TheVariants as phase
-use Rattle.udt_model.specs.declared.answers.Refusal.{Refusal}
 use Rattle.udt_model.specs.declared.packets.Flags.{Flags}
+use Rattle.udt_model.specs.Calls.{stamp_of, emission as emits}
+use Rattle.udt_model.specs.Events.{Act, Reply}
+use Rattle.udt_model.specs.Losses.{LostRange}
 use Rattle.udt_model.specs.Numbers.{sequence_number}
-use Rattle.udt_model.specs.Wire.{Packet, Block, KeepAlive, Shutdown, destination, IsInRange, read}
-use Rattle.udt_model.specs.State.{Receiving, State}
-use Rattle.udt_model.specs.declared.sockets.SentAck.{SentAck}
-use Rattle.udt_model.specs.Receiving.{Placing, AtOffset, IsDouble, IsBelow, IsAbove, placing, after_placing, after_arrival, receive_answer, after_receive_answer, after_receive, number_after, AckOutcome, IsEarly, IsKnown, EmitsAck, ack_outcome, after_ack_outcome, after_ack_timer, receiving_closed}
-use Rattle.udt_model.specs.Step.{step}
-use Rattle.udt_model.specs.Events.{Event}
-use Rattle.udt_model.specs.Ticks.{round_trip, ack_packet}
-use Rattle.udt_model.specs.Calls.{stamp_of}
-use Rattle.udt_model.specs.History.{Item, after_items}
-use Rattle.udt_model.specs.Emissions.{Emission}
-use Rattle.udt_model.proofs.SendingLemmas.{MessagesFit, MessagesFit-at, packing-sends, packing-again}
+use Rattle.udt_model.specs.Rate.{Ways}
+use Rattle.udt_model.specs.ReceiveHalf.{after_block}
+use Rattle.udt_model.specs.ReceiveReports.{full_ack, light_ack}
+use Rattle.udt_model.specs.SendHalf.{block_packet}
+use Rattle.udt_model.specs.State.{State, Emission}
+use Rattle.udt_model.specs.Ticks.{numbers_of}
+use Rattle.udt_model.specs.Timing.{in_a_second, near_median, is_near, median, is_short, speed_of, capacity_of}
+use Rattle.udt_model.specs.Wire.{Packet, Block, KeepAlive, Ack, Nak, Shutdown, Ack2, IsRange, destination, IsInRange, read, spelling, type_word, word}
+use Rattle.udt_model.proofs.EmissionLemmas.{Emitting, NewBlock, LostBlock, FullAck, LightAck, Reports, ReportsGap, AnswersAck, SendsKeepAlive, TheEnd}
+use Rattle.udt_model.proofs.SendingLemmas.{MessagesFit, MessagesFit-at, kept_at-is, packing-sends, packing-again}
 use Rattle.udt_model.proofs.TickLemmas.{ack_outcome-tells}
-use Rattle.udt_model.proofs.ReceivingSteps.{receiving-shows}
-use Rattle.udt_model.proofs.WireLemmas.{read-spelling}
-use Rattle.udt_model.proofs.EmissionLemmas.{Emitting, NewBlock, LostBlock, Acknowledgement, SendsKeepAlive, TheEnd}
+use Rattle.udt_model.proofs.WireLemmas.{read-spelling, word-mod}
+use Rattle.udt_laws.proofs.sent_blocks.ReportsFit.{RoundTripFits, ReportsFit}
+use Rattle.udt_laws.proofs.sent_blocks.NakRanges.{EndsMeet, IsBetween, nak-ends, block-gap, numbers-are, gap-number}
 
--- ---- the numbers of packets fit their places
+-- ---- rates have 32 bits
 
--- so do those of acknowledgements
-pub record AcksFit (r : Receiving) : Type 0 where
-  pub blocks : r.blocks < 2 ^ 32
-  pub number : number_after r.last_ack < 2 ^ 31
+filter-short : (test : ℕ → Bool) (xs : List ℕ) → length (filter test xs) ≤ length xs
+filter-short test [] = omega arith
+filter-short test (x ∷ xs) =
+    let rest = filter-short test xs in
+    elim (test x) as (λ keeps. length (if keeps then x ∷ filter test xs else filter test xs) ≤ length (x ∷ xs)) [
+      | true ↦ omega (arith, rest)
+      | false ↦ omega (arith, rest)
+    ]
 
-receive-fits : (r : Receiving) (answer : Result (List ℕ) Refusal) → AcksFit r → AcksFit (after_receive_answer r answer)
-receive-fits r (Ok bytes) fits = record { blocks = fits.blocks; number = fits.number }
-receive-fits r (Err why) fits = fits
+second-fits : (count micros : ℕ) → count ≤ 16 → in_a_second count micros < 2 ^ 32
+second-fits count micros few =
+    let most = div-le_self (count * 1000000) micros in
+    elim (micros == 0) as (λ none. (if none then 0 else count * 1000000 / micros) < 2 ^ 32) [
+      | true ↦ omega arith
+      | false ↦ omega (arith, most, few)
+    ]
 
-arrival-fits : (r : Receiving) (flags : Flags) (bytes : List ℕ) (p : Placing) → AcksFit r → AcksFit (after_placing r flags bytes p)
-arrival-fits r flags bytes (AtOffset offset) fits = record { blocks = fits.blocks; number = fits.number }
-arrival-fits r flags bytes IsDouble fits = fits
-arrival-fits r flags bytes IsBelow fits = fits
-arrival-fits r flags bytes IsAbove fits = fits
+speed-fits : (samples : List ℕ) → length samples ≤ 16 → speed_of samples < 2 ^ 32
+speed-fits samples short =
+    let kept = near_median samples in
+    let few = filter-short (is_near (median samples)) samples in
+    elim (is_short samples || nat_le (length kept) 8) as (λ none. (if none then 0 else in_a_second (length kept) (sum kept)) < 2 ^ 32) [
+      | true ↦ omega arith
+      | false ↦ second-fits (length kept) (sum kept) (omega (arith, few, short))
+    ]
 
-next-fits : (ack : SentAck) → ack.number < 2 ^ 31 → number_after (Some ack) < 2 ^ 31
-next-fits ack fits = grind (arith, nat_tests)
-
-tell-fits : (r : Receiving) (now rtt : ℕ) (t : AckOutcome) → ack_outcome r now rtt ≡ t → AcksFit r → AcksFit (after_ack_outcome r now t)
-tell-fits r now rtt IsEarly is fits = fits
-tell-fits r now rtt IsKnown is fits = record { blocks = fits.blocks; number = fits.number }
-tell-fits r now rtt (EmitsAck ack) is fits =
-    let named_ack = ack_outcome-tells r now rtt ack is in
-    record { blocks = fits.blocks; number = next-fits ack (subst (λ (n : ℕ). n < 2 ^ 31) (sym named_ack.number) fits.number) }
-
-step-fits : (s : State) (event : Event) → AcksFit s.receiving → AcksFit (step s event).after.receiving
-unfolding after_receive after_arrival after_ack_timer receiving_closed
-step-fits s event fits = receiving-shows s event AcksFit (record {
-  stays = fits;
-  reads = λ room. receive-fits s.receiving (receive_answer s.receiving room) fits;
-  carries = λ from raw number flags stamp bytes is sender reads. arrival-fits s.receiving flags bytes (placing s.receiving number) fits;
-  tells = λ now. tell-fits s.receiving now round_trip.rtt (ack_outcome s.receiving now round_trip.rtt) refl fits;
-  closes = record { blocks = fits.blocks; number = fits.number };
-})
-
-pub items-fit : (s : State) (items : List Item) → AcksFit s.receiving → AcksFit (after_items s items).receiving
-unfolding after_items
-items-fit s [] fits = fits
-items-fit s (item ∷ items) fits = items-fit (step s item.event).after items (step-fits s item.event fits)
-
--- what has to hold of a state, so that its packets can be spelled
-pub record CanSpell (s : State) : Type 0 where
-  pub id : s.peer.id < 2 ^ 32
-  pub acks : AcksFit s.receiving
-  pub messages : s.phase ≡ phase.Connected → MessagesFit s.sending.kept
+capacity-fits : (samples : List ℕ) → capacity_of samples < 2 ^ 32
+capacity-fits samples = elim (is_short samples) as (λ none. (if none then 0 else in_a_second 1 (median samples)) < 2 ^ 32) [
+  | true ↦ omega arith
+  | false ↦ second-fits 1 (median samples) (omega arith)
+]
 
 -- ---- packets
 
--- the packet that an emission is
-abbrev pub packet_of : (s : State) → (emission : Emission) → Emitting s emission → Packet
-packet_of s emission (NewBlock block connected packs is) =
-    Block (sequence_number s.sending.isn s.sending.next) block.flags (stamp_of s) s.peer.id block.bytes
-packet_of s emission (LostBlock offset block connected packs is) =
-    Block (sequence_number s.sending.isn offset) block.flags (stamp_of s) s.peer.id block.bytes
-packet_of s emission (Acknowledgement ack connected tells is) = ack_packet s ack
-packet_of s emission (SendsKeepAlive connected is) = KeepAlive (stamp_of s) s.peer.id
-packet_of s emission (TheEnd closing is) = Shutdown (stamp_of s) s.peer.id
+module _ {C : Type 0} where
+  -- what has to hold of a state, so that its packets can be spelled
+  pub record CanSpell (s : State C) : Type 0 where
+    pub id : s.peer.id < 2 ^ 32
+    pub rtt : RoundTripFits s.rtt
+    pub reports : ReportsFit s.receiving
+    pub messages : MessagesFit s.sending.blocks.kept
 
--- it is for the peer
-pub packet-dest : (s : State) (emission : Emission) (x : Emitting s emission) → destination (packet_of s emission x) ≡ s.peer.id
-packet-dest s emission (NewBlock block connected packs is) = refl
-packet-dest s emission (LostBlock offset block connected packs is) = refl
-packet-dest s emission (Acknowledgement ack connected tells is) = refl
-packet-dest s emission (SendsKeepAlive connected is) = refl
-packet-dest s emission (TheEnd closing is) = refl
+-- the spelling of an ACK2 has 32 bits of its number
+ack2-spelling : (number stamp dest : ℕ) → spelling (Ack2 number stamp dest) ≡ spelling (Ack2 (number % 2 ^ 32) stamp dest)
+unfolding spelling
+ack2-spelling number stamp dest =
+    ap (λ (numbered : List ℕ). word (type_word 6) ++ numbered ++ word stamp ++ word dest ++ []) (sym (word-mod number))
 
-packet-in_range : (s : State) (emission : Emission) (x : Emitting s emission) → CanSpell s → IsInRange (packet_of s emission x)
-packet-in_range s emission (NewBlock block connected packs is) can =
-    let found = packing-sends s.sending s.last block packs in
-    (omega arith, MessagesFit-at s.sending.kept _ block (can.messages connected) found, omega arith, can.id)
-packet-in_range s emission (LostBlock offset block connected packs is) can =
-    let found = (packing-again s.sending s.last offset block packs).kept in
-    (omega arith, MessagesFit-at s.sending.kept _ block (can.messages connected) found, omega arith, can.id)
-packet-in_range s emission (Acknowledgement ack connected tells is) can =
-    let named_ack = ack_outcome-tells s.receiving s.last round_trip.rtt ack tells in
-    let number : ack.number < 2 ^ 32 = omega (arith, named_ack.number, can.acks.number) in
-    let room = can.acks.blocks in
-    ((omega arith, omega arith, omega arith, omega arith, omega arith, omega arith), number, omega arith, can.id)
-packet-in_range s emission (SendsKeepAlive connected is) can = (omega arith, can.id)
-packet-in_range s emission (TheEnd closing is) can = (omega arith, can.id)
+module _ {C : Type 0} (w : Ways C) where
+  -- the packet that an emission is
+  abbrev pub packet_of : (s : State C) → (act : Act) → (reply : Reply) → (emission : Emission) → Emitting w s act reply emission → Packet
+  packet_of s act reply emission (NewBlock block connected packs is) = block_packet s.sending (stamp_of s) s.peer.id s.sending.next block
+  packet_of s act reply emission (LostBlock offset block connected packs is) = block_packet s.sending (stamp_of s) s.peer.id offset block
+  packet_of s act reply emission (FullAck ack connected tells is) = Ack ack.number (stamp_of s) s.peer.id (full_ack s.receiving s.rtt ack.offset)
+  packet_of s act reply emission (LightAck from raw number flags stamp bytes connected arrives carries sender replies is) =
+      Ack 0 (stamp_of s) s.peer.id (light_ack (after_block s.receiving s.last number flags bytes))
+  packet_of s act reply emission (Reports range ranges connected reports is) = Nak (stamp_of s) s.peer.id (map (numbers_of s) (range ∷ ranges))
+  packet_of s act reply emission (ReportsGap from raw number flags stamp bytes ends connected arrives carries sender gap is) =
+      Nak (stamp_of s) s.peer.id
+      (numbers_of (record s { receiving = after_block s.receiving s.last number flags bytes }) (record { first = ends.0; last = ends.1 }) ∷ [])
+  packet_of s act reply emission (AnswersAck number connected is) = Ack2 (number % 2 ^ 32) (stamp_of s) s.peer.id
+  packet_of s act reply emission (SendsKeepAlive connected is) = KeepAlive (stamp_of s) s.peer.id
+  packet_of s act reply emission (TheEnd closing is) = Shutdown (stamp_of s) s.peer.id
 
--- an emission reads as its packet, and goes to the peer's address
-pub record IsSpelled (s : State) (emission : Emission) (x : Emitting s emission) : Type 0 where
-  pub reads : read emission.datagram.bytes ≡ Ok (packet_of s emission x)
-  pub sent_to : emission.datagram.addr ≡ s.peer.addr
+  -- it is for the peer
+  pub packet-dest : (s : State C) (act : Act) (reply : Reply) (emission : Emission) (x : Emitting w s act reply emission) → destination (packet_of s act reply emission x) ≡ s.peer.id
+  packet-dest s act reply emission (NewBlock block connected packs is) = refl
+  packet-dest s act reply emission (LostBlock offset block connected packs is) = refl
+  packet-dest s act reply emission (FullAck ack connected tells is) = refl
+  packet-dest s act reply emission (LightAck from raw number flags stamp bytes connected arrives carries sender replies is) = refl
+  packet-dest s act reply emission (Reports range ranges connected reports is) = refl
+  packet-dest s act reply emission (ReportsGap from raw number flags stamp bytes ends connected arrives carries sender gap is) = refl
+  packet-dest s act reply emission (AnswersAck number connected is) = refl
+  packet-dest s act reply emission (SendsKeepAlive connected is) = refl
+  packet-dest s act reply emission (TheEnd closing is) = refl
 
-pub emission-spelled : (s : State) (emission : Emission) (x : Emitting s emission) → CanSpell s → IsSpelled s emission x
-emission-spelled s emission (NewBlock block connected packs is) can =
-    let x = NewBlock block connected packs is in
-    record {
-      reads = ap (λ (e : Emission). read e.datagram.bytes) is ∙ read-spelling (packet_of s emission x) (packet-in_range s emission x can);
-      sent_to = ap (λ (e : Emission). e.datagram.addr) is;
-    }
-emission-spelled s emission (LostBlock offset block connected packs is) can =
-    let x = LostBlock offset block connected packs is in
-    record {
-      reads = ap (λ (e : Emission). read e.datagram.bytes) is ∙ read-spelling (packet_of s emission x) (packet-in_range s emission x can);
-      sent_to = ap (λ (e : Emission). e.datagram.addr) is;
-    }
-emission-spelled s emission (Acknowledgement ack connected tells is) can =
-    let x = Acknowledgement ack connected tells is in
-    record {
-      reads = ap (λ (e : Emission). read e.datagram.bytes) is ∙ read-spelling (packet_of s emission x) (packet-in_range s emission x can);
-      sent_to = ap (λ (e : Emission). e.datagram.addr) is;
-    }
-emission-spelled s emission (SendsKeepAlive connected is) can =
-    let x = SendsKeepAlive connected is in
-    record {
-      reads = ap (λ (e : Emission). read e.datagram.bytes) is ∙ read-spelling (packet_of s emission x) (packet-in_range s emission x can);
-      sent_to = ap (λ (e : Emission). e.datagram.addr) is;
-    }
-emission-spelled s emission (TheEnd closing is) can =
-    let x = TheEnd closing is in
-    record {
-      reads = ap (λ (e : Emission). read e.datagram.bytes) is ∙ read-spelling (packet_of s emission x) (packet-in_range s emission x can);
-      sent_to = ap (λ (e : Emission). e.datagram.addr) is;
-    }
+  packet-in_range : (s : State C) (act : Act) (reply : Reply) (emission : Emission) (x : Emitting w s act reply emission) → CanSpell s
+      → IsInRange (packet_of s act reply emission x)
+  packet-in_range s act reply emission (NewBlock block connected packs is) can =
+      let at = kept_at-is s.sending.blocks s.sending.next block (packing-sends w s.sending s.last block packs) in
+      (omega arith, MessagesFit-at s.sending.blocks.kept _ block can.messages at.found, omega arith, can.id)
+  packet-in_range s act reply emission (LostBlock offset block connected packs is) can =
+      let at = kept_at-is s.sending.blocks offset block (packing-again w s.sending s.last offset block packs).kept in
+      (omega arith, MessagesFit-at s.sending.blocks.kept _ block can.messages at.found, omega arith, can.id)
+  packet-in_range s act reply emission (FullAck ack connected tells is) can =
+      let told = ack_outcome-tells s.receiving s.last s.rtt ack tells in
+      let number : ack.number < 2 ^ 32 = omega (arith, told.number, can.reports.number) in
+      let room = can.reports.capacity in
+      let rtt = can.rtt.rtt in
+      let var = can.rtt.var in (
+        (omega arith, omega (arith, rtt), omega (arith, var), omega (arith, room), speed-fits s.receiving.arrivals can.reports.arrivals, capacity-fits s.receiving.pairs),
+        number,
+        omega arith,
+        can.id,
+      )
+  packet-in_range s act reply emission (LightAck from raw number flags stamp bytes connected arrives carries sender replies is) can =
+      (omega arith, omega arith, omega arith, can.id)
+  packet-in_range s act reply emission (Reports range ranges connected reports is) can =
+      let ends = subst (λ l. EndsMeet (IsBetween s.receiving) l) reports (nak-ends s.receiving s.last s.rtt can.reports) in
+      (omega arith, All-from_recursion IsRange (map (numbers_of s) (range ∷ ranges)) (numbers-are s s (range ∷ ranges) can.reports ends), omega arith, can.id)
+  packet-in_range s act reply emission (ReportsGap from raw number flags stamp bytes ends connected arrives carries sender gap is) can =
+      let t = record s { receiving = after_block s.receiving s.last number flags bytes } in
+      let one : AllByRecursion IsRange (numbers_of t (record { first = ends.0; last = ends.1 }) ∷ []) =
+      (gap-number s t ends can.reports (block-gap s.receiving number ends gap), tt) in
+      (omega arith, All-from_recursion IsRange (numbers_of t (record { first = ends.0; last = ends.1 }) ∷ []) one, omega arith, can.id)
+  packet-in_range s act reply emission (AnswersAck number connected is) can = (omega arith, omega arith, can.id)
+  packet-in_range s act reply emission (SendsKeepAlive connected is) can = (omega arith, can.id)
+  packet-in_range s act reply emission (TheEnd closing is) can = (omega arith, can.id)
+
+  -- an emission spells its packet, and goes to the peer's address
+  record Spells (s : State C) (emission : Emission) (packet : Packet) : Type 0 where
+    bytes : emission.datagram.bytes ≡ spelling packet
+    sent_to : emission.datagram.addr ≡ s.peer.addr
+
+  spells-by : (s : State C) (emission : Emission) (packet : Packet) (offsets : List ℕ) → emission ≡ emits s packet offsets → Spells s emission packet
+  spells-by s emission packet offsets is =
+      record { bytes = ap (λ (e : Emission). e.datagram.bytes) is; sent_to = ap (λ (e : Emission). e.datagram.addr) is }
+
+  spells : (s : State C) (act : Act) (reply : Reply) (emission : Emission) (x : Emitting w s act reply emission) → Spells s emission (packet_of s act reply emission x)
+  spells s act reply emission (NewBlock block connected packs is) = spells-by s emission _ _ is
+  spells s act reply emission (LostBlock offset block connected packs is) = spells-by s emission _ _ is
+  spells s act reply emission (FullAck ack connected tells is) = spells-by s emission _ _ is
+  spells s act reply emission (LightAck from raw number flags stamp bytes connected arrives carries sender replies is) = spells-by s emission _ _ is
+  spells s act reply emission (Reports range ranges connected reports is) = spells-by s emission _ _ is
+  spells s act reply emission (ReportsGap from raw number flags stamp bytes ends connected arrives carries sender gap is) = spells-by s emission _ _ is
+  spells s act reply emission (AnswersAck number connected is) =
+      let by = spells-by s emission (Ack2 number (stamp_of s) s.peer.id) [] is in
+      record { bytes = by.bytes ∙ ack2-spelling number (stamp_of s) s.peer.id; sent_to = by.sent_to }
+  spells s act reply emission (SendsKeepAlive connected is) = spells-by s emission _ _ is
+  spells s act reply emission (TheEnd closing is) = spells-by s emission _ _ is
+
+  -- an emission reads as its packet, and goes to the peer's address
+  pub record IsSpelled (s : State C) (act : Act) (reply : Reply) (emission : Emission) (x : Emitting w s act reply emission) : Type 0 where
+    pub reads : read emission.datagram.bytes ≡ Ok (packet_of s act reply emission x)
+    pub sent_to : emission.datagram.addr ≡ s.peer.addr
+
+  pub emission-spelled : (s : State C) (act : Act) (reply : Reply) (emission : Emission) (x : Emitting w s act reply emission) → CanSpell s → IsSpelled s act reply emission x
+  emission-spelled s act reply emission x can =
+      let by = spells s act reply emission x in
+      record {
+        reads = ap read by.bytes ∙ read-spelling (packet_of s act reply emission x) (packet-in_range s act reply emission x can);
+        sent_to = by.sent_to;
+      }

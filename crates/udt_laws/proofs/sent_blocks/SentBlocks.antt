@@ -1,70 +1,31 @@
 -- What a socket emits over a history: packets to its peer, of which data packets carry the blocks of what it accepted,
 -- each with the offset that it names.
-use Rattle.std.proofs.Common.{◌≡◌, ℕ, zero, suc, ◌-◌, ◌^◌, ◌<◌, ◌≤◌, true, List, [], ◌∷◌, ◌++◌, drop, Some, Ok, refl, ap, ◌∙◌, sym, subst, arith}
-use Rattle.std.specs.Prelude.{slice_get, ◌||◌}
+use Rattle.std.proofs.Common.{◌≡◌, ℕ, zero, suc, ◌-◌, ◌^◌, ◌<◌, ◌≤◌, List, [], ◌∷◌, ◌++◌, drop, Some, Ok, refl, ap, ◌∙◌, sym, subst, arith}
+use Rattle.std.specs.Prelude.{slice_get}
 use Rattle.std.specs.List.{Contains}
 use Rattle.std.proofs.lemmas.List.{drop_all}
 use Rattle.udt_model.specs.declared.answers.Peer.{Peer}
-use Rattle.udt_model.specs.declared.answers.Phase.{Phase}
-use Rattle.udt_model.specs.declared.answers.Phase.TheVariants as phase
 use Rattle.udt_model.specs.declared.packets.Config.{Config}
 use Rattle.udt_model.specs.declared.packets.Flags.{Flags}
-use Rattle.udt_model.specs.Numbers.{sequence_number}
-use Rattle.udt_model.specs.Wire.{Packet, Block, destination, read}
-use Rattle.udt_model.specs.State.{Sending, State}
-use Rattle.udt_model.specs.Readiness.{is_connected, is_broken}
-use Rattle.udt_model.specs.Events.{at_moment}
-use Rattle.udt_model.specs.Opening.{opening, IsOpening}
+use Rattle.udt_model.specs.Emissions.{emitted}
+use Rattle.udt_model.specs.Events.{Act, Reply, at_moment}
 use Rattle.udt_model.specs.History.{Item, History, after_items, state_of, start_of, IsLegal}
+use Rattle.udt_model.specs.Numbers.{sequence_number}
+use Rattle.udt_model.specs.Opening.{opening, IsOpening}
+use Rattle.udt_model.specs.Rate.{Ways}
 use Rattle.udt_model.specs.Records.{Way, PairedAt, opened_by, IsWay}
-use Rattle.udt_model.specs.Emissions.{Emission, emitted}
-use Rattle.udt_model.proofs.SendingLemmas.{bytes_of, IsCut, cut-next, cut-kept_at, packing-sends, packing-again, lost-within}
+use Rattle.udt_model.specs.State.{State, Emission}
+use Rattle.udt_model.specs.Step.{step}
+use Rattle.udt_model.specs.Wire.{Packet, Block, destination, read}
+use Rattle.udt_model.proofs.EmissionLemmas.{Emitting, NewBlock, LostBlock, FullAck, LightAck, Reports, ReportsGap, AnswersAck, SendsKeepAlive, TheEnd, IsEmittedAt, emitted-at}
+use Rattle.udt_model.proofs.InOrder.{none_in_order}
+use Rattle.udt_model.proofs.SendingLemmas.{IsCut, cut-kept_at, packing-sends, packing-again, lost-within}
 use Rattle.udt_model.proofs.StepLemmas.{after_items-keeps}
-use Rattle.udt_model.proofs.EmissionLemmas.{Emitting, NewBlock, LostBlock, Acknowledgement, SendsKeepAlive, TheEnd, IsEmittedAt, emitted-at}
 use Rattle.udt_laws.specs.Laws.{CarriesBlock, HasBlocks, EmittedBlocks}
 use Rattle.udt_laws.proofs.sockets.Opened.{opened_start}
-use Rattle.udt_laws.proofs.sent_blocks.AcceptedIsCut.{blocks_by, blocks_by-append, blocks_by-joined, CutIn, items-cut}
-use Rattle.udt_laws.proofs.sent_blocks.EmissionsRead.{AcksFit, items-fit, CanSpell, packet_of, packet-dest, IsSpelled, emission-spelled}
-
--- ---- a moment of a history
-
--- what is known of the state in which a history that began so emits something: its halves stand to the blocks so far as
--- they should, and its packets can be spelled
-pub record IsMoment (opening : State) (start : ℕ) (blocks : List (List ℕ)) (s : State) : Type 0 where
-  pub peer : s.peer ≡ opening.peer
-  pub sending_isn : s.sending.isn ≡ opening.sending.isn
-  pub receiving_isn : s.receiving.isn ≡ opening.receiving.isn
-  pub can : CanSpell s
-  pub cut : CutIn s.phase s.sending start blocks
-
--- a half that begins is cut into no blocks, and its packets can be spelled
-pub record BeginsWell (s : State) (start : ℕ) : Type 0 where
-  pub connected : s.phase ≡ phase.Connected
-  pub id_fits : s.peer.id < 2 ^ 32
-  pub acks : AcksFit s.receiving
-  pub cut : IsCut s.sending start []
-
-kept-messages : (s : State) (start : ℕ) (blocks : List (List ℕ)) → CutIn s.phase s.sending start blocks → s.phase ≡ phase.Connected
-    → IsCut s.sending start blocks
-kept-messages s start blocks is_cut connected = rw connected at is_cut
-
--- after each of its items a history is at such a moment
-pub moment-after : (s : State) (start : ℕ) (items : List Item) (now : ℕ) → BeginsWell s start
-    → IsMoment s start (blocks_by s items) (at_moment (after_items s items) now)
-moment-after s start items now well =
-    let same = after_items-keeps s items in
-    let is_cut = items-cut s start [] items (rw well.connected well.cut) in
-    record {
-      peer = same.peer;
-      sending_isn = same.sending.isn;
-      receiving_isn = same.receiving.isn;
-      can = record {
-        id = subst (λ (p : Peer). p.id < 2 ^ 32) (sym same.peer) well.id_fits;
-        acks = items-fit s items well.acks;
-        messages = λ connected. (kept-messages (after_items s items) start (blocks_by s items) is_cut connected).messages;
-      };
-      cut = is_cut;
-    }
+use Rattle.udt_laws.proofs.sent_blocks.AcceptedIsCut.{blocks_by, blocks_by-append, blocks_by-joined, items-cut}
+use Rattle.udt_laws.proofs.sent_blocks.EmissionsRead.{CanSpell, packet_of, packet-dest, IsSpelled, emission-spelled}
+use Rattle.udt_laws.proofs.sent_blocks.ReportsFit.{RoundTripFits, ReportsFit, items-fit, items-round}
 
 -- ---- what carries a block
 
@@ -86,127 +47,172 @@ slice_get-longer (first ∷ others) more (suc n) block found = slice_get-longer 
 pub same-packet : (bytes : List ℕ) (first second : Packet) → read bytes ≡ Ok first → read bytes ≡ Ok second → first ≡ second
 same-packet bytes first second one two = cc
 
-module _ (s : State) (start : ℕ) (blocks : List (List ℕ)) (emission : Emission) (number : ℕ) (flags : Flags) (stamp dest : ℕ) (payload : List ℕ) where
-  -- an emission that is a data packet sends a block of these
-  block-of : (x : Emitting s emission) → CutIn s.phase s.sending start blocks → packet_of s emission x ≡ Block number flags stamp dest payload
-      → IsBlockOf s.sending.isn start blocks emission number payload
-  block-of (NewBlock block connected packs is) is_cut same =
-      let cut = kept-messages s start blocks is_cut connected in
-      let bytes_are : block.bytes ≡ payload = cc in
+module _ {C : Type 0} where
+  -- ---- a moment of a history
+
+  -- what is known of the state in which a history that began so emits something: its halves stand to the blocks so far as
+  -- they should, and its packets can be spelled
+  pub record IsMoment (opening : State C) (start : ℕ) (blocks : List (List ℕ)) (s : State C) : Type 0 where
+    pub peer : s.peer ≡ opening.peer
+    pub sending_isn : s.sending.isn ≡ opening.sending.isn
+    pub receiving_isn : s.receiving.isn ≡ opening.receiving.isn
+    pub can : CanSpell s
+    pub cut : IsCut s.sending start blocks
+
+  -- a half that begins is cut into no blocks, and its packets can be spelled
+  pub record BeginsWell (s : State C) (start : ℕ) : Type 0 where
+    pub id_fits : s.peer.id < 2 ^ 32
+    pub rtt : RoundTripFits s.rtt
+    pub reports : ReportsFit s.receiving
+    pub cut : IsCut s.sending start []
+
+module _ {C : Type 0} (w : Ways C) where
+  -- after each of its items a history is at such a moment
+  pub moment-after : (s : State C) (start : ℕ) (items : List Item) (now : ℕ) → BeginsWell s start
+      → IsMoment s start (blocks_by w s items) (at_moment (after_items w s items) now)
+  moment-after s start items now well =
+      let same = after_items-keeps w s items in
+      let is_cut = items-cut w s start [] items well.cut in
       record {
-        offset = s.sending.next;
-        names = ap (λ (e : Emission). e.offsets) is;
-        not_before = omega (arith, cut.not_before, cut.sent_from);
-        carries = cut-next s.sending start blocks block cut (packing-sends s.sending s.last block packs) ∙ ap (λ (b : List ℕ). Some b) bytes_are;
-        numbered = cc;
-      }
-  block-of (LostBlock offset block connected packs is) is_cut same =
-      let cut = kept-messages s start blocks is_cut connected in
-      let least = packing-again s.sending s.last offset block packs in
-      let within = lost-within s.sending start blocks offset block cut least in
-      let bytes_are : block.bytes ≡ payload = cc in
-      record {
-        offset = offset;
-        names = ap (λ (e : Emission). e.offsets) is;
-        not_before = omega (arith, cut.not_before, within.0);
-        carries = cut-kept_at s.sending start blocks offset block cut within.0 least.kept ∙ ap (λ (b : List ℕ). Some b) bytes_are;
-        numbered = cc;
-      }
-  block-of (Acknowledgement ack connected tells is) is_cut same = absurd (cc)
-  block-of (SendsKeepAlive connected is) is_cut same = absurd (cc)
-  block-of (TheEnd closing is) is_cut same = absurd (cc)
-
--- a data packet is for the peer
-packet-destined : (s : State) (emission : Emission) (x : Emitting s emission) (number : ℕ) (flags : Flags) (stamp dest : ℕ) (payload : List ℕ)
-    → packet_of s emission x ≡ Block number flags stamp dest payload → dest ≡ s.peer.id
-packet-destined s emission x number flags stamp dest payload same = sym (ap destination same) ∙ packet-dest s emission x
-
--- the kept blocks are the last of all as long as the socket is open
-kept-last : (phase : Phase) (s : Sending) (start : ℕ) (blocks : List (List ℕ)) → CutIn phase s start blocks
-    → (is_connected phase || is_broken phase) ≡ true → bytes_of s.kept ≡ drop (s.acked - start) blocks
-kept-last phase.Connected s start blocks is_cut opened = is_cut.kept
-kept-last (phase.Broken why) s start blocks is_cut opened = is_cut.kept
-kept-last phase.Closing s start blocks is_cut opened = absurd (cc)
-kept-last phase.Closed s start blocks is_cut opened = absurd (cc)
-
--- ---- histories
-
--- a socket begins well
-half-begins : (own : ℕ) (config : Config) (peer : Peer) (now start : ℕ) → IsOpening own config peer start → BeginsWell (opening own config peer now start) start
-unfolding opening
-half-begins own config peer now start in_range = record {
-  connected = refl;
-  id_fits = in_range.id_fits;
-  acks = record { blocks = omega (arith, in_range.values.most_rcv_blocks); number = omega arith };
-  cut = record {
-    not_before = omega arith;
-    count = refl;
-    kept = sym (drop_all (start - start) [] (omega arith));
-    sent_from = omega arith;
-    sent_to = omega arith;
-    lost = tt;
-    messages = tt;
-    message = omega arith;
-    payload = omega (arith, in_range.values.payload, in_range.values.peer_payload);
-  };
-}
-
--- so does each history that was so opened
-pub way-begins : (own : ℕ) (way : Way) (h : History) → IsWay own way → h.opening ≡ opened_by own way → BeginsWell h.opening (start_of h)
-way-begins own (PairedAt config peer now start) h in_range opened =
-    subst (BeginsWell h.opening) (sym (opened_start own config peer now start h opened))
-    (subst (λ (s : State). BeginsWell s start) (sym opened) (half-begins own config peer now start in_range))
-
-module _ (own : ℕ) (way : Way) (h : History) (in_range : IsWay own way) (opened : h.opening ≡ opened_by own way) (legal : IsLegal h) where
-  -- an emission with the state at its moment
-  pub emission-at : (emission : Emission) → Contains (emitted h) emission → IsEmittedAt h.opening h.items emission
-  emission-at emission among = emitted-at h.opening h.items emission legal among
-
-  -- it reads as its packet, to the peer
-  pub emission-reads : (emission : Emission) (is : IsEmittedAt h.opening h.items emission)
-      → IsSpelled (at_moment (after_items h.opening is.front) is.item.event.now) emission is.emitting
-  emission-reads emission is =
-      emission-spelled _ emission is.emitting (moment-after h.opening (start_of h) is.front is.item.event.now (way-begins own way h in_range opened)).can
-
-  blocks-longer : (front rest : List Item) → h.items ≡ front ++ rest
-      → blocks_by h.opening h.items ≡ blocks_by h.opening front ++ blocks_by (after_items h.opening front) rest
-  blocks-longer front rest joined = ap (blocks_by h.opening) joined ∙ blocks_by-append h.opening front rest
-
-  carries-block : (emission : Emission) (number : ℕ) (flags : Flags) (stamp dest : ℕ) (payload : List ℕ) → Contains (emitted h) emission
-      → read emission.datagram.bytes ≡ Ok (Block number flags stamp dest payload)
-      → CarriesBlock h (blocks_by h.opening h.items) emission number dest payload
-  carries-block emission number flags stamp dest payload among reads =
-      let at = emission-at emission among in
-      let spelled = emission-reads emission at in
-      let moment = moment-after h.opening (start_of h) at.front at.item.event.now (way-begins own way h in_range opened) in
-      let same = same-packet emission.datagram.bytes _ _ spelled.reads reads in
-      let block = block-of (at_moment (after_items h.opening at.front) at.item.event.now) (start_of h) (blocks_by h.opening at.front) emission
-      number flags stamp dest payload at.emitting moment.cut same in
-      let last = after_items-keeps h.opening h.items in
-      let peer_is = moment.peer ∙ sym last.peer in
-      let isn_is = moment.sending_isn ∙ sym last.sending.isn in
-      record {
-        offset = block.offset;
-        names = block.names;
-        not_before = block.not_before;
-        carries = subst (λ (all : List (List ℕ)). slice_get all (block.offset - start_of h) ≡ Some payload)
-            (sym (blocks-longer at.front (at.item ∷ at.rest) at.joined)) (slice_get-longer (blocks_by h.opening at.front) (blocks_by (after_items h.opening at.front) (at.item ∷ at.rest)) (block.offset - start_of h) payload block.carries);
-        numbered = block.numbered ∙ ap (λ (isn : ℕ). sequence_number isn block.offset) isn_is;
-        sent_to = spelled.sent_to ∙ ap (λ (p : Peer). p.addr) peer_is;
-        destined = packet-destined _ emission at.emitting number flags stamp dest payload same ∙ ap (λ (p : Peer). p.id) peer_is;
+        peer = same.peer;
+        sending_isn = same.sending.isn;
+        receiving_isn = same.receiving.isn;
+        can = record {
+          id = subst (λ (p : Peer). p.id < 2 ^ 32) (sym same.peer) well.id_fits;
+          rtt = items-round w s items well.rtt;
+          reports = items-fit w s items well.reports;
+          messages = is_cut.messages;
+        };
+        cut = is_cut;
       }
 
-  -- how the half stands to all blocks in the end
-  pub last-cut : CutIn (state_of h).phase (state_of h).sending (start_of h) (blocks_by h.opening h.items)
-  last-cut = (moment-after h.opening (start_of h) h.items 0 (way-begins own way h in_range opened)).cut
+  module _ (s : State C) (act : Act) (reply : Reply) (start : ℕ) (blocks : List (List ℕ)) (emission : Emission) (number : ℕ) (flags : Flags) (stamp dest : ℕ)
+      (payload : List ℕ) (cut : IsCut s.sending start blocks) where
+    -- an emission that is a data packet sends a block of these
+    block-of : (x : Emitting w s act reply emission) → packet_of w s act reply emission x ≡ Block number flags stamp dest payload
+        → IsBlockOf s.sending.isn start blocks emission number payload
+    block-of (NewBlock block connected packs is) same =
+        let bytes_are : block.bytes ≡ payload = cc in
+        record {
+          offset = s.sending.next;
+          names = ap (λ (e : Emission). e.offsets) is;
+          not_before = omega (arith, cut.not_before, cut.sent_from);
+          carries = cut-kept_at s.sending start blocks s.sending.next block cut (packing-sends w s.sending s.last block packs)
+              ∙ ap (λ (b : List ℕ). Some b) bytes_are;
+          numbered = cc;
+        }
+    block-of (LostBlock offset block connected packs is) same =
+        let least = packing-again w s.sending s.last offset block packs in
+        let within = lost-within s.sending start blocks offset block cut least in
+        let bytes_are : block.bytes ≡ payload = cc in
+        record {
+          offset = offset;
+          names = ap (λ (e : Emission). e.offsets) is;
+          not_before = omega (arith, cut.not_before, within.0);
+          carries = cut-kept_at s.sending start blocks offset block cut least.kept ∙ ap (λ (b : List ℕ). Some b) bytes_are;
+          numbered = cc;
+        }
+    block-of (FullAck ack connected tells is) same = absurd (cc)
+    block-of (LightAck from raw number' flags' stamp' bytes connected arrives carries sender replies is) same = absurd (cc)
+    block-of (Reports range ranges connected reports is) same = absurd (cc)
+    block-of (ReportsGap from raw number' flags' stamp' bytes ends connected arrives carries sender gap is) same = absurd (cc)
+    block-of (AnswersAck number' connected is) same = absurd (cc)
+    block-of (SendsKeepAlive connected is) same = absurd (cc)
+    block-of (TheEnd closing is) same = absurd (cc)
 
-  pub has_blocks : HasBlocks h
-  has_blocks = record {
-    blocks = blocks_by h.opening h.items;
-    joined = blocks_by-joined h.opening h.items legal (way-begins own way h in_range opened).cut.payload;
-    kept = λ opened. kept-last (state_of h).phase (state_of h).sending (start_of h) (blocks_by h.opening h.items) last-cut opened;
-    emits = carries-block;
+  -- a data packet is for the peer
+  packet-destined : (s : State C) (act : Act) (reply : Reply) (emission : Emission) (x : Emitting w s act reply emission) (number : ℕ) (flags : Flags) (stamp dest : ℕ) (payload : List ℕ)
+      → packet_of w s act reply emission x ≡ Block number flags stamp dest payload → dest ≡ s.peer.id
+  packet-destined s act reply emission x number flags stamp dest payload same = sym (ap destination same) ∙ packet-dest w s act reply emission x
+
+  -- ---- histories
+
+  -- a socket begins well
+  half-begins : (own : ℕ) (config : Config) (peer : Peer) (now start : ℕ) → IsOpening own config peer start → BeginsWell (opening w own config peer now start) start
+  unfolding opening
+  half-begins own config peer now start in_range = record {
+    id_fits = in_range.id_fits;
+    rtt = record { rtt = omega arith; var = omega arith };
+    reports = record {
+      capacity = in_range.values.most_rcv_blocks;
+      number = omega arith;
+      order = none_in_order config.payload config.rcv_blocks start;
+      rising = tt;
+      arrivals = omega arith;
+    };
+    cut = record {
+      not_before = omega arith;
+      count = refl;
+      kept = sym (drop_all (start - start) [] (omega arith));
+      sent_from = omega arith;
+      sent_to = omega arith;
+      lost = tt;
+      messages = tt;
+      message = omega arith;
+      payload = omega (arith, in_range.values.payload, in_range.values.peer_payload);
+    };
   }
 
-pub emitted_blocks : EmittedBlocks
-emitted_blocks socket is_socket stream = has_blocks socket.own socket.way socket.history is_socket.in_range is_socket.opened is_socket.legal
+  -- so does each history that was so opened
+  pub way-begins : (own : ℕ) (way : Way) (h : History C) → IsWay own way → h.opening ≡ opened_by w own way → BeginsWell h.opening (start_of h)
+  way-begins own (PairedAt config peer now start) h in_range opened =
+      subst (BeginsWell h.opening) (sym (opened_start w own config peer now start h opened))
+      (subst (λ (s : State C). BeginsWell s start) (sym opened) (half-begins own config peer now start in_range))
+
+  module _ (own : ℕ) (way : Way) (h : History C) (in_range : IsWay own way) (opened : h.opening ≡ opened_by w own way) (legal : IsLegal w h) where
+    -- an emission with the state at its moment
+    pub emission-at : (emission : Emission) → Contains (emitted w h) emission → IsEmittedAt w h.opening h.items emission
+    emission-at emission among = emitted-at w h.opening h.items emission among
+
+    -- the state at that moment
+    pub moment-at : (emission : Emission) (is : IsEmittedAt w h.opening h.items emission)
+        → IsMoment h.opening (start_of h) (blocks_by w h.opening is.front) (at_moment (after_items w h.opening is.front) is.item.event.now)
+    moment-at emission is = moment-after h.opening (start_of h) is.front is.item.event.now (way-begins own way h in_range opened)
+
+    -- it reads as its packet, to the peer
+    pub emission-reads : (emission : Emission) (is : IsEmittedAt w h.opening h.items emission)
+        → IsSpelled w (at_moment (after_items w h.opening is.front) is.item.event.now) is.item.event.act _ emission is.emitting
+    emission-reads emission is = emission-spelled w _ _ _ emission is.emitting (moment-at emission is).can
+
+    blocks-longer : (front rest : List Item) → h.items ≡ front ++ rest
+        → blocks_by w h.opening h.items ≡ blocks_by w h.opening front ++ blocks_by w (after_items w h.opening front) rest
+    blocks-longer front rest joined = ap (blocks_by w h.opening) joined ∙ blocks_by-append w h.opening front rest
+
+    carries-block : (emission : Emission) (number : ℕ) (flags : Flags) (stamp dest : ℕ) (payload : List ℕ) → Contains (emitted w h) emission
+        → read emission.datagram.bytes ≡ Ok (Block number flags stamp dest payload)
+        → CarriesBlock w h (blocks_by w h.opening h.items) emission number dest payload
+    carries-block emission number flags stamp dest payload among reads =
+        let at = emission-at emission among in
+        let spelled = emission-reads emission at in
+        let moment = moment-at emission at in
+        let same = same-packet emission.datagram.bytes _ _ spelled.reads reads in
+        let block = block-of (at_moment (after_items w h.opening at.front) at.item.event.now) at.item.event.act _ (start_of h) (blocks_by w h.opening at.front) emission
+        number flags stamp dest payload moment.cut at.emitting same in
+        let last = after_items-keeps w h.opening h.items in
+        let peer_is = moment.peer ∙ sym last.peer in
+        let isn_is = moment.sending_isn ∙ sym last.sending.isn in
+        record {
+          offset = block.offset;
+          names = block.names;
+          not_before = block.not_before;
+          carries = subst (λ (all : List (List ℕ)). slice_get all (block.offset - start_of h) ≡ Some payload)
+              (sym (blocks-longer at.front (at.item ∷ at.rest) at.joined)) (slice_get-longer (blocks_by w h.opening at.front) (blocks_by w (after_items w h.opening at.front) (at.item ∷ at.rest)) (block.offset - start_of h) payload block.carries);
+          numbered = block.numbered ∙ ap (λ (isn : ℕ). sequence_number isn block.offset) isn_is;
+          sent_to = spelled.sent_to ∙ ap (λ (p : Peer). p.addr) peer_is;
+          destined = packet-destined _ _ _ emission at.emitting number flags stamp dest payload same ∙ ap (λ (p : Peer). p.id) peer_is;
+        }
+
+    -- how the half stands to all blocks in the end
+    pub last-cut : IsCut (state_of w h).sending (start_of h) (blocks_by w h.opening h.items)
+    last-cut = (moment-after h.opening (start_of h) h.items 0 (way-begins own way h in_range opened)).cut
+
+    pub has_blocks : HasBlocks w h
+    has_blocks = record {
+      blocks = blocks_by w h.opening h.items;
+      joined = blocks_by-joined w h.opening h.items legal (way-begins own way h in_range opened).cut.payload;
+      kept = last-cut.kept;
+      emits = carries-block;
+    }
+
+  pub emitted_blocks : EmittedBlocks w
+  emitted_blocks socket is_socket stream = has_blocks socket.own socket.way socket.history is_socket.in_range is_socket.opened is_socket.legal

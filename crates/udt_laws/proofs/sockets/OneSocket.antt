@@ -5,34 +5,35 @@ use Rattle.std.proofs.lemmas.Option.{same_Some}
 use Rattle.udt_model.specs.declared.addresses.Addr.{Addr}
 use Rattle.udt_model.specs.Wire.{Packet, is_handshake, destination, read}
 use Rattle.udt_model.specs.State.{State, Datagram}
+use Rattle.udt_model.specs.Rate.{Ways}
 use Rattle.udt_model.specs.Records.{Enrolled, EndpointRecord, StandsAt, PeerPair, own_peer, AreLawful}
 use Rattle.udt_model.specs.Honest.{WasEmitted}
 use Rattle.udt_laws.proofs.sockets.Opened.{names}
 
-module _ (net : List EndpointRecord) (lawful : AreLawful net) where
+module _ {C : Type 0} (w : Ways C) (net : List (EndpointRecord C)) (lawful : AreLawful w net) where
   -- the records have one endpoint of an address
-  one-endpoint : (addr : Addr) (socket other : Enrolled) (here : StandsAt net addr socket) → (there : StandsAt net addr other)
+  one-endpoint : (addr : Addr) (socket other : Enrolled C) (here : StandsAt net addr socket) → (there : StandsAt net addr other)
       → Contains here.endpoint.sockets other
   one-endpoint addr socket other here there =
       let same = lawful.addresses there.endpoint here.endpoint there.among here.among (there.addr_is ∙ sym here.addr_is) in
-      subst (λ (endpoint : EndpointRecord). Contains endpoint.sockets other) same there.enrolled
+      subst (λ (endpoint : EndpointRecord C). Contains endpoint.sockets other) same there.enrolled
 
   -- so an address and an ID name one socket
-  pub same-socket : (addr : Addr) (socket other : Enrolled) → StandsAt net addr socket → StandsAt net addr other → socket.own ≡ other.own
+  pub same-socket : (addr : Addr) (socket other : Enrolled C) → StandsAt net addr socket → StandsAt net addr other → socket.own ≡ other.own
       → socket ≡ other
   same-socket addr socket other here there own =
       (lawful.each here.endpoint here.among).ids socket other here.enrolled (one-endpoint addr socket other here there) own
 
   -- and an address and a peer do
-  pub same-peer : (addr : Addr) (socket other : Enrolled) (peer : PeerPair) → StandsAt net addr socket → StandsAt net addr other
-      → own_peer socket.history ≡ Some peer → own_peer other.history ≡ Some peer → socket ≡ other
+  pub same-peer : (addr : Addr) (socket other : Enrolled C) (peer : PeerPair) → StandsAt net addr socket → StandsAt net addr other
+      → own_peer w socket.history ≡ Some peer → own_peer w other.history ≡ Some peer → socket ≡ other
   same-peer addr socket other peer here there first second =
       (lawful.each here.endpoint here.among).peers socket other peer here.enrolled (one-endpoint addr socket other here there) first second
 
   -- what came from an address for an ID there, and is no handshake, was emitted by the socket that has these as its peer
-  pub emitter-is : (addr sender_addr : Addr) (own : ℕ) (sender : Enrolled) → StandsAt net sender_addr sender
-      → own_peer sender.history ≡ Some (record { addr = addr; id = own })
-      → (s : State) (from : Addr) (bytes : List ℕ) (packet : Packet) → from ≡ sender_addr → (was : WasEmitted net s from addr bytes)
+  pub emitter-is : (addr sender_addr : Addr) (own : ℕ) (sender : Enrolled C) → StandsAt net sender_addr sender
+      → own_peer w sender.history ≡ Some (record { addr = addr; id = own })
+      → (s : State C) (from : Addr) (bytes : List ℕ) (packet : Packet) → from ≡ sender_addr → (was : WasEmitted w net s from addr bytes)
       → read bytes ≡ Ok packet → is_handshake packet ≡ false → destination packet ≡ own → was.socket ≡ sender
   emitter-is addr sender_addr own sender stands names_back s from bytes packet from_is was reads handshake own_is =
       let there = subst (λ (a : Addr). StandsAt net a was.socket) from_is was.stands in
@@ -41,5 +42,5 @@ module _ (net : List EndpointRecord) (lawful : AreLawful net) where
       let addressed = (lawful.each there.endpoint there.among).addressed was.socket was.emission packet
       there.enrolled was.emits (ap read bytes_are ∙ reads) handshake in
       let peer = same_Some _ _ addressed in
-      let named = names was.socket.history addr own (ap (λ (p : PeerPair). p.addr) peer ∙ goes_to) (ap (λ (p : PeerPair). p.id) peer ∙ own_is) in
+      let named = names w was.socket.history addr own (ap (λ (p : PeerPair). p.addr) peer ∙ goes_to) (ap (λ (p : PeerPair). p.id) peer ∙ own_is) in
       same-peer sender_addr was.socket sender _ there stands named names_back

@@ -3,64 +3,65 @@ use Rattle.std.proofs.Common.{◌≡◌, ℕ, [], Some, sym, ap, ◌∙◌}
 use Rattle.udt_model.specs.declared.answers.Peer.{Peer}
 use Rattle.udt_model.specs.declared.answers.Phase.TheVariants as phase
 use Rattle.udt_model.specs.declared.packets.Config.{Config}
-use Rattle.udt_model.specs.State.{State}
-use Rattle.udt_model.specs.Opening.{opening}
-use Rattle.udt_model.specs.History.{History, state_of, start_of}
 use Rattle.udt_model.specs.declared.addresses.Addr.{Addr}
+use Rattle.udt_model.specs.History.{History, state_of, start_of}
+use Rattle.udt_model.specs.Opening.{opening}
+use Rattle.udt_model.specs.Rate.{Ways}
 use Rattle.udt_model.specs.Records.{Way, PairedAt, opened_by, PeerPair, own_peer}
+use Rattle.udt_model.specs.State.{State}
 use Rattle.udt_model.proofs.StepLemmas.{after_items-keeps}
 
-module _ (own : ℕ) (config : Config) (peer : Peer) (now start : ℕ) (h : History) (opened : h.opening ≡ opening own config peer now start) where
+module _ {C : Type 0} (w : Ways C) (own : ℕ) (config : Config) (peer : Peer) (now start : ℕ) (h : History C)
+    (opened : h.opening ≡ opening w own config peer now start) where
   pub opened_own : h.opening.own ≡ own
   unfolding opening
-  opened_own = ap (λ (s : State). s.own) opened
+  opened_own = ap (λ (s : State C). s.own) opened
 
   pub opened_peer : h.opening.peer ≡ peer
   unfolding opening
-  opened_peer = ap (λ (s : State). s.peer) opened
+  opened_peer = ap (λ (s : State C). s.peer) opened
 
   pub opened_phase : h.opening.phase ≡ phase.Connected
   unfolding opening
-  opened_phase = ap (λ (s : State). s.phase) opened
+  opened_phase = ap (λ (s : State C). s.phase) opened
 
   pub opened_receiving : h.opening.receiving.isn ≡ peer.isn
   unfolding opening
-  opened_receiving = ap (λ (s : State). s.receiving.isn) opened
+  opened_receiving = ap (λ (s : State C). s.receiving.isn) opened
 
   pub opened_sending : h.opening.sending.isn ≡ peer.isn
   unfolding opening
-  opened_sending = ap (λ (s : State). s.sending.isn) opened
+  opened_sending = ap (λ (s : State C). s.sending.isn) opened
 
   pub opened_start : start_of h ≡ start
   unfolding opening
-  opened_start = ap (λ (s : State). s.sending.acked) opened
+  opened_start = ap (λ (s : State C). s.sending.blocks.first) opened
 
   pub opened_next : h.opening.sending.next ≡ start
   unfolding opening
-  opened_next = ap (λ (s : State). s.sending.next) opened
+  opened_next = ap (λ (s : State C). s.sending.next) opened
 
   pub opened_top : h.opening.receiving.top ≡ start
   unfolding opening
-  opened_top = ap (λ (s : State). s.receiving.top) opened
+  opened_top = ap (λ (s : State C). s.receiving.top) opened
 
-  pub opened_base : h.opening.receiving.base ≡ start
+  pub opened_base : h.opening.receiving.blocks.base ≡ start
   unfolding opening
-  opened_base = ap (λ (s : State). s.receiving.base) opened
+  opened_base = ap (λ (s : State C). s.receiving.blocks.base) opened
 
-  pub opened_placed : h.opening.receiving.placed ≡ []
+  pub opened_placed : h.opening.receiving.blocks.placed ≡ []
   unfolding opening
-  opened_placed = ap (λ (s : State). s.receiving.placed) opened
+  opened_placed = ap (λ (s : State C). s.receiving.blocks.placed) opened
 
-  pub last_peer : (state_of h).peer ≡ peer
-  last_peer = (after_items-keeps h.opening h.items).peer ∙ opened_peer
+  pub opened_missing : h.opening.receiving.missing ≡ []
+  unfolding opening
+  opened_missing = ap (λ (s : State C). s.receiving.missing) opened
 
-  pub last_isn : (state_of h).sending.isn ≡ peer.isn
-  last_isn = (after_items-keeps h.opening h.items).sending.isn ∙ opened_sending
+  pub last_peer : (state_of w h).peer ≡ peer
+  last_peer = (after_items-keeps w h.opening h.items).peer ∙ opened_peer
 
--- the first block that a socket sends has the offset at which it begins
-pub way-next : (own : ℕ) (way : Way) (h : History) → h.opening ≡ opened_by own way → h.opening.sending.next ≡ start_of h
-way-next own (PairedAt config peer now start) h opened =
-    opened_next own config peer now start h opened ∙ sym (opened_start own config peer now start h opened)
+  pub last_isn : (state_of w h).sending.isn ≡ peer.isn
+  last_isn = (after_items-keeps w h.opening h.items).sending.isn ∙ opened_sending
 
 pair_from : Addr → ℕ → PeerPair
 pair_from addr id = record { addr = addr; id = id }
@@ -68,8 +69,15 @@ pair_from addr id = record { addr = addr; id = id }
 pair_from-same : (a b : Addr) (m n : ℕ) → a ≡ b → m ≡ n → pair_from a m ≡ pair_from b n
 pair_from-same a b m n addr id = cc
 
--- a history that ends with this peer names it
-pub names : (h : History) (addr : Addr) (id : ℕ) → (state_of h).peer.addr ≡ addr → (state_of h).peer.id ≡ id
-    → own_peer h ≡ Some (record { addr = addr; id = id })
-unfolding pair_from
-names h addr id addr_is id_is = ap (λ (p : PeerPair). Some p) (pair_from-same (state_of h).peer.addr addr (state_of h).peer.id id addr_is id_is)
+module _ {C : Type 0} (w : Ways C) where
+  -- the first block that a socket sends has the offset at which it begins
+  pub way-next : (own : ℕ) (way : Way) (h : History C) → h.opening ≡ opened_by w own way → h.opening.sending.next ≡ start_of h
+  way-next own (PairedAt config peer now start) h opened =
+      opened_next w own config peer now start h opened ∙ sym (opened_start w own config peer now start h opened)
+
+  -- a history that ends with this peer names it
+  pub names : (h : History C) (addr : Addr) (id : ℕ) → (state_of w h).peer.addr ≡ addr → (state_of w h).peer.id ≡ id
+      → own_peer w h ≡ Some (record { addr = addr; id = id })
+  unfolding pair_from
+  names h addr id addr_is id_is =
+      ap (λ (p : PeerPair). Some p) (pair_from-same (state_of w h).peer.addr addr (state_of w h).peer.id id addr_is id_is)

@@ -1,19 +1,12 @@
-use Rattle.std.proofs.Common.{◌≡◌, true, length}
+use Rattle.std.proofs.Common.{◌≡◌, ℕ, true, Some}
 use Rattle.udt_model.specs.ReceiveBlocks.{message_from}
-use Rattle.udt_ranges.specs.Cursors.{IsCursor, following}
+use Rattle.udt_rcv_buffer.specs.declared.messages.Begun.{Begun}
 use Rattle.udt_rcv_buffer.specs.PlacedParts.{placed_from}
-use Rattle.udt_rcv_buffer.proofs.AheadLemmas.{IsAhead}
-use Rattle.udt_rcv_buffer.specs.Messages.{sought, MayHaveBegun}
+use Rattle.udt_rcv_buffer.specs.Messages.{sought, IsBegun}
 use Rattle.udt_rcv_buffer.proofs.messages.next_message.Given as goal
 
--- the ranges after the cursor are ahead, and the search goes on at their parts
-abbrev pub invariant-loop-range : goal.invariant-loop-range
-invariant-loop-range l = record {
-  cursor : IsCursor l.cursor l.taken.ranges;
-  ahead : IsAhead (following l.cursor l.taken.ranges) l.base l.at l.ring.list;
-  begun : MayHaveBegun l.begun l.at l.ring.list;
-  next : message_from l.base true (placed_from l.base l.ring.list) ≡ sought l.base l.at l.gapless l.begun l.ring.list;
+abbrev pub invariant-loop-i : goal.invariant-loop-i
+invariant-loop-i l = record {
+  begun : (b : Begun) → l.begun ≡ Some b → IsBegun l.i l.ring.list b;
+  next : (base : ℕ) → message_from base true (placed_from base l.ring.list) ≡ sought base l.i l.gapless l.begun l.ring.list;
 }
-
-abbrev pub decreases-loop-range : goal.decreases-loop-range
-decreases-loop-range l = length (following l.cursor l.taken.ranges)

@@ -6,16 +6,16 @@ use Rattle.udt_world.proofs.world.play_line.Goals as goal
 
 -- the line can't be read
 pub returns-in-None-clause-done : goal.returns-in-None-clause-done
-returns-in-None-clause-done c = λ n shows.
-    let e : played_line n c.args.line.now ≡ None = played_none n c.args.line.now line_of c.in_ok-read_line.field-0 c.in_ok-read_line.ensures.value c.in-None.is in
+returns-in-None-clause-done g c = λ n shows.
+    let e : played_line g.C.Control.ways n c.args.line.now ≡ None = played_none g.C.Control.ways n c.args.line.now line_of c.in_ok-read_line.field-0 c.in_ok-read_line.ensures.value c.in-None.is in
     rw e (shows, refl)
 
 -- it does what it says
 pub returns-in-Some-clause-done : goal.returns-in-Some-clause-done
-returns-in-Some-clause-done c =
+returns-in-Some-clause-done g c =
     if_ok_weaker c.do_line.result
     (λ did does n shows.
-    let e : played_line n c.args.line.now ≡ on_line n (line_of c.in-Some.read) =
-    played_some n c.args.line.now line_of c.in_ok-read_line.field-0 c.in-Some.read c.in_ok-read_line.ensures.value c.in-Some.is in
+    let e : played_line g.C.Control.ways n c.args.line.now ≡ on_line g.C.Control.ways n (line_of c.in-Some.read) =
+    played_some g.C.Control.ways n c.args.line.now line_of c.in_ok-read_line.field-0 c.in-Some.read c.in_ok-read_line.ensures.value c.in-Some.is in
     rw e (does n shows))
     c.do_line.ensures.done

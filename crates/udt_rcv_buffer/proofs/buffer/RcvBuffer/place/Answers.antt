@@ -1,39 +1,38 @@
-use Rattle.std.proofs.Common.{◌≡◌, ℕ, List, length, set, ◌+◌, ◌-◌, ◌≤◌, true, false, Some, refl, ap, ◌∙◌, sym, arith}
+use Rattle.std.proofs.Common.{◌≡◌, ℕ, List, ◌+◌, ◌-◌, ◌≤◌, true, false, Some, refl, ap, ◌∙◌, sym, arith}
 use Rattle.std.proofs.lemmas.List.{length-set}
 use Rattle.std.proofs.lemmas.Option.{slice_get_within}
-use Rattle.udt_model.specs.ReceiveBlocks.{is_taken, IsNew, IsBelow, IsAbove, IsDouble, placing_of}
+use Rattle.udt_model.specs.declared.answers.Placed.TheVariants as placing
+use Rattle.udt_model.specs.ReceiveBlocks.{is_taken, placing_of}
 use Rattle.udt_rcv_buffer.specs.declared.head.Head.{Head}
 use Rattle.udt_ring.specs.Parts.{Part, Parts}
 use Rattle.std.specs.Prelude.{slice_get}
-use Rattle.udt_rcv_buffer.specs.PlacedParts.{block_in, placed_from}
+use Rattle.udt_rcv_buffer.specs.PlacedParts.{placed_from}
 use Rattle.udt_rcv_buffer.specs.Buffers.{received_of}
 use Rattle.udt_rcv_buffer.proofs.PlacedLemmas.{is_taken-part, put_block-part}
 use Rattle.udt_rcv_buffer.proofs.ReceivedLemmas.{placing-below, placing-above, placing-within, after_place-is}
 use Rattle.udt_rcv_buffer.proofs.BufferLemmas.{placed_marked, placed_settled}
-use Rattle.udt_rcv_buffer.proofs.TakenLemmas.{Rising-taken, put_taken, holds_more, near}
-use Rattle.udt_rcv_buffer.specs.Taken.{taken_of}
 use Rattle.udt_rcv_buffer.proofs.buffer.RcvBuffer.place.Goals as goal
 use Rattle.udt_rcv_buffer.proofs.buffer.RcvBuffer.place.Goals.{Then-offset-self, Then-offset-self-2, Then-head, Else-head}
 
 -- ---- outside
 
-below : (c : Then-offset-self) → placing_of c.args.self.now c.args.offset ≡ IsBelow
+below : (c : Then-offset-self) → placing_of c.args.self.now c.args.offset ≡ placing.Below
 below c = rw (← c.self.view_is) (placing-below (received_of c.self.inside) c.args.offset c.if-offset-self.true)
 
 pub returns-then-offset-self-clause-value : goal.returns-then-offset-self-clause-value
 returns-then-offset-self-clause-value c = rw (below c) refl
 
 pub returns-then-offset-self-clause-next : goal.returns-then-offset-self-clause-next
-returns-then-offset-self-clause-next c = sym (after_place-is c.args.self.now c.args.offset c.args.flags c.args.bytes.now IsBelow (below c))
+returns-then-offset-self-clause-next c = sym (after_place-is c.args.self.now c.args.offset c.args.flags c.args.bytes.now placing.Below (below c))
 
-above : (c : Then-offset-self-2) → placing_of c.args.self.now c.args.offset ≡ IsAbove
+above : (c : Then-offset-self-2) → placing_of c.args.self.now c.args.offset ≡ placing.Above
 above c = rw (← c.self.view_is) (placing-above (received_of c.self.inside) c.args.offset c.if-offset-self.false (omega (arith, c.if-offset-self.false, c.if-offset-self-2.true, c.count.ensures.value)))
 
 pub returns-then-offset-self-2-clause-value : goal.returns-then-offset-self-2-clause-value
 returns-then-offset-self-2-clause-value c = rw (above c) refl
 
 pub returns-then-offset-self-2-clause-next : goal.returns-then-offset-self-2-clause-next
-returns-then-offset-self-2-clause-next c = sym (after_place-is c.args.self.now c.args.offset c.args.flags c.args.bytes.now IsAbove (above c))
+returns-then-offset-self-2-clause-next c = sym (after_place-is c.args.self.now c.args.offset c.args.flags c.args.bytes.now placing.Above (above c))
 
 -- ---- where there is one already
 
@@ -43,7 +42,7 @@ taken base offset parts part from found =
     let again : base + (offset - base) ≡ offset = omega (arith, from) in
     rw again at (is_taken-part parts base (offset - base) part found)
 
-double : (c : Then-head) → placing_of c.args.self.now c.args.offset ≡ IsDouble
+double : (c : Then-head) → placing_of c.args.self.now c.args.offset ≡ placing.Double
 double c =
     let b = c.self.inside in
     let is = taken b.base c.args.offset b.ring.list _ c.if-offset-self.false c.part.ensures.value ∙ c.if-head.true in
@@ -53,11 +52,11 @@ pub returns-then-head-clause-value : goal.returns-then-head-clause-value
 returns-then-head-clause-value c = rw (double c) refl
 
 pub returns-then-head-clause-next : goal.returns-then-head-clause-next
-returns-then-head-clause-next c = sym (after_place-is c.args.self.now c.args.offset c.args.flags c.args.bytes.now IsDouble (double c))
+returns-then-head-clause-next c = sym (after_place-is c.args.self.now c.args.offset c.args.flags c.args.bytes.now placing.Double (double c))
 
 -- ---- new
 
-new : (c : Else-head) → placing_of c.args.self.now c.args.offset ≡ IsNew
+new : (c : Else-head) → placing_of c.args.self.now c.args.offset ≡ placing.New
 new c =
     let b = c.self.inside in
     let is = taken b.base c.args.offset b.ring.list _ c.if-offset-self.false c.part.ensures.value ∙ c.if-head.false in
@@ -66,13 +65,7 @@ new c =
 pub extend-requires : goal.extend-requires
 extend-requires c =
     let list = ap (λ (ps : Parts Head). ps.list) c.put.ensures in
-    rw list (placed_marked c.self.inside.marks _ c.self.inside.ring.list (c.args.offset - c.self.inside.base) _ _ c.self.invariant.marked c.part.ensures.value c.if-head.false refl refl)
-
--- its offset is held then
-pub insert-requires-clause-near : goal.insert-requires-clause-near
-insert-requires-clause-near c =
-    let b = c.self.inside in
-    near b.taken b.base c.args.offset c.args.offset b.ring.list c.self.invariant.taken c.if-offset-self.false (omega (arith, c.if-offset-self.false, c.if-offset-self-2.false, c.count.ensures.value))
+    rw list (placed_marked c.self.inside.marks _ c.self.inside.ring.list (c.args.offset - c.self.inside.base) _ _ c.self.invariant.marked c.part.ensures.value c.if-head.false refl refl c.max-self-inside.ensures)
 
 pub invariant_of-self : goal.invariant_of-self
 invariant_of-self c =
@@ -82,18 +75,12 @@ invariant_of-self c =
     let part : Part Head = record { head = record { used = true; consumed = false; flags = c.args.flags }; bytes = c.args.bytes.now } in
     let list = ap (λ (ps : Parts Head). ps.list) c.put.ensures in
     let len = length-set b.ring.list place part in
-    let again : b.base + place ≡ c.args.offset = omega (arith, c.if-offset-self.false) in
-    let put = rw again at (put_block-part b.ring.list b.base place part (slice_get_within b.ring.list place _ c.part.ensures.value) refl) in
-    let placed = put_taken (block_in c.args.offset part) (placed_from b.base b.ring.list) b.base (b.base + length b.ring.list) (Rising-taken b.ring.list b.base) in
-    let e = c.insert.ensures in
     record {
       few = rw (list, len) i.few;
       marked = c.extend.ensures.marked;
       run = c.extend.ensures.run;
-      settled = rw (list, c.extend.ensures.kept) (placed_settled b.marks.given b.ring.list place _ part i.settled c.part.ensures.value c.if-head.false refl c.requires.some);
-      taken = rw list (holds_more b.taken c.insert.new.self b.base c.args.offset c.args.offset b.ring.list (set b.ring.list place part) i.taken e.kept e.maximal c.if-offset-self.false
-          (omega (arith, c.if-offset-self.false, c.if-offset-self-2.false, c.count.ensures.value)) c.requires.limit len e.within e.next (ap taken_of (sym put) ∙ placed));
-      limit = i.limit;
+      settled = rw (list, c.extend.ensures.given) (placed_settled b.marks.given b.ring.list place _ part i.settled c.part.ensures.value c.if-head.false refl c.requires.some);
+      limit = omega (arith, i.limit, c.extend.ensures.top, c.max-self-inside.ensures, c.requires.limit, c.if-offset-self.false);
     }
 
 pub returns-clause-value : goal.returns-clause-value
@@ -109,4 +96,4 @@ returns-clause-next c =
     let again : b.base + place ≡ c.args.offset = omega (arith, c.if-offset-self.false) in
     let put = rw again at (put_block-part b.ring.list b.base place part (slice_get_within b.ring.list place _ c.part.ensures.value) refl) in
     let len = length-set b.ring.list place part in
-    rw (after_place-is c.args.self.now c.args.offset c.args.flags c.args.bytes.now IsNew (new ((goal.at.returns-clause-next c).Else-head)), list, room, len, c.extend.ensures.kept, ← put, ← c.self.view_is) refl
+    rw (after_place-is c.args.self.now c.args.offset c.args.flags c.args.bytes.now placing.New (new ((goal.at.returns-clause-next c).Else-head)), list, room, len, c.extend.ensures.given, ← put, ← c.self.view_is) refl

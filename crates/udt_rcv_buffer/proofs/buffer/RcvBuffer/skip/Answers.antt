@@ -5,6 +5,7 @@ use Rattle.udt_ring.specs.Parts.{Part}
 use Rattle.udt_rcv_buffer.specs.Buffers.{received_of}
 use Rattle.udt_rcv_buffer.proofs.PlacedLemmas.{length-consume_parts}
 use Rattle.udt_rcv_buffer.proofs.BufferLemmas.{consumed_given, consumed_beginning, nothing_consumed}
+use Rattle.udt_rcv_buffer.proofs.MoveLemmas.{skip_moves}
 use Rattle.udt_rcv_buffer.proofs.buffer.RcvBuffer.skip.Goals as goal
 use Rattle.udt_rcv_buffer.proofs.buffer.RcvBuffer.skip.Goals.{After-extend, After-settle}
 
@@ -19,7 +20,7 @@ returns-then-last-from-clause-next c =
 pub settle-requires-clause-given : goal.settle-requires-clause-given
 settle-requires-clause-given c =
     let b = c.self.inside in
-    let given = c.extend.ensures.kept ∙ c.consume.ensures.given in
+    let given = c.extend.ensures.given ∙ c.consume.ensures.given in
     let list = c.consume.ensures.list in
     consumed_given b.marks.given _ _ b.ring.list c.extend.new.self c.self.invariant.settled given (rw list at c.extend.ensures.marked) (rw list at c.extend.ensures.run)
 
@@ -33,7 +34,7 @@ pub invariant_of-self : goal.invariant_of-self
 invariant_of-self c =
     let s = c.settle.ensures in
     let same = len ((goal.at.invariant_of-self c).After-settle) in
-    record { few = omega (arith, same, c.self.invariant.few); marked = s.marked; run = s.run; settled = s.settled; taken = s.held; limit = s.limit }
+    record { few = omega (arith, same, c.self.invariant.few); marked = s.marked; run = s.run; settled = s.settled; limit = s.limit }
 
 pub returns-clause-next : goal.returns-clause-next
 returns-clause-next c =
@@ -46,7 +47,7 @@ returns-clause-next c =
     let capacity : c.args.self.now.capacity ≡ length b.ring.list = ap (λ (r : ReceiveBlocks). r.capacity) (sym c.self.view_is) in
     let base : c.args.self.now.base ≡ b.base = ap (λ (r : ReceiveBlocks). r.base) (sym c.self.view_is) in
     let within : at + count ≤ length b.ring.list = omega (arith, c.requires.within, capacity, base, c.max-from.ensures, c.if-last-from.false) in
-    let given = c.extend.ensures.kept ∙ c.consume.ensures.given in
+    let given = c.extend.ensures.given ∙ c.consume.ensures.given in
     let step = consumed_beginning (received_of b) at count b.ring.list c.extend.new.self.given refl (omega arith) within given in
     rw (← c.self.view_is, from, many, step, ← c.consume.ensures.list, c.settle.ensures.front, same, c.settle.ensures.room ∙ c.consume.ensures.room) refl
 
@@ -54,3 +55,6 @@ pub returns-clause-kept : goal.returns-clause-kept
 returns-clause-kept c =
     let same = len ((goal.at.returns-clause-kept c).After-settle) in
     rw (← c.self.view_is) (record { payload = c.settle.ensures.room ∙ c.consume.ensures.room; capacity = same })
+
+pub returns-clause-base : goal.returns-clause-base
+returns-clause-base c = rw (returns-clause-next c) (skip_moves c.args.self.now c.args.first c.args.last)

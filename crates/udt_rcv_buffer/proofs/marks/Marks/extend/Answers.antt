@@ -1,7 +1,6 @@
 use Rattle.std.proofs.Common.{◌+◌, refl, arith}
-use Rattle.std.proofs.lemmas.Option.{slice_get_within}
 use Rattle.udt_ring.proofs.JoinedLemmas.{joined-take_le, joined_more_len}
-use Rattle.udt_rcv_buffer.proofs.MarkLemmas.{grown, is_true}
+use Rattle.udt_rcv_buffer.proofs.MarkLemmas.{grown, unused_at, is_true}
 use Rattle.udt_rcv_buffer.proofs.marks.Marks.extend.Goals as goal
 
 pub overflow_add-self-in-loop-self : goal.overflow_add-self-in-loop-self
@@ -14,9 +13,11 @@ pub loop-self-preserved : goal.loop-self-preserved
 loop-self-preserved c =
     let i = c.loop-self.invariant in
     record {
-      marked = grown c.loop-self.self _ c.args.ring.now.list _ i.marked c.part.ensures.value (is_true c.part.result.0.used c.if-not-head.false) refl refl;
-      kept = i.kept;
+      marked = grown c.loop-self.self _ c.args.ring.now.list _ i.marked c.part.ensures.value (is_true c.part.result.0.used c.if-not-head.false) refl refl refl;
+      given = i.given;
+      top = i.top;
     }
 
+-- at the top no part is used
 pub returns-after-loop-self-clause-run : goal.returns-after-loop-self-clause-run
-returns-after-loop-self-clause-run c = λ part found. absurd (omega (arith, slice_get_within c.args.ring.now.list c.loop-self.self.run part found, c.loop-self-test.false, c.count.ensures.value))
+returns-after-loop-self-clause-run c = λ part found. unused_at c.args.ring.now.list c.loop-self.self.top c.loop-self.self.run part c.loop-self.invariant.marked.unused c.loop-self-test.false found

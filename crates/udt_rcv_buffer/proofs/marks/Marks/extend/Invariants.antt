@@ -1,12 +1,13 @@
-use Rattle.std.proofs.Common.{◌≡◌, ◌-◌, length}
+use Rattle.std.proofs.Common.{◌≡◌, ◌-◌}
 use Rattle.udt_rcv_buffer.specs.Marked.{IsMarked}
 use Rattle.udt_rcv_buffer.proofs.marks.Marks.extend.Given as goal
 
 abbrev pub invariant-loop-self : goal.invariant-loop-self
 invariant-loop-self l = record {
   marked : IsMarked l.self l.ring.list;
-  kept : l.self.given ≡ l.fn.self.given;
+  given : l.self.given ≡ l.fn.self.given;
+  top : l.self.top ≡ l.fn.self.top;
 }
 
 abbrev pub decreases-loop-self : goal.decreases-loop-self
-decreases-loop-self l = length l.ring.list - l.self.run
+decreases-loop-self l = l.self.top - l.self.run

@@ -7,15 +7,14 @@ use Rattle.udt_rcv_buffer.proofs.marks.Marks.settle.Given as goal
 abbrev pub invariant-loop-len : goal.invariant-loop-len
 invariant-loop-len l = record {
   front : beginning l.fn.base l.fn.self.given (placed_from l.fn.base l.fn.ring.list)
-      ≡ beginning l.base l.self.given (placed_from l.base l.ring.list);
-  marked : IsMarked l.self l.ring.list;
-  run : EndsRun l.self.run l.ring.list;
-  given : l.self.given ≤ l.self.bytes;
-  limit : l.base + l.self.run ≤ 2 ^ 62;
-  later : l.fn.base ≤ l.base;
+      ≡ beginning l.first l.marks.given (placed_from l.first l.ring.list);
+  marked : IsMarked l.marks l.ring.list;
+  run : EndsRun l.marks.run l.ring.list;
+  given : l.marks.given ≤ l.marks.bytes;
+  limit : l.first + l.marks.top ≤ 2 ^ 62;
   len : length l.ring.list ≡ length l.fn.ring.list;
   room : l.ring.room ≡ l.fn.ring.room;
 }
 
 abbrev pub decreases-loop-len : goal.decreases-loop-len
-decreases-loop-len l = l.self.run
+decreases-loop-len l = l.marks.run

@@ -1,8 +1,10 @@
-use Rattle.std.proofs.Common.{◌≡◌, ◌-◌, ◌*◌, ◌≤◌, map, length, take, ap, refl, ◌∙◌, sym, arith}
+use Rattle.std.proofs.Common.{◌≡◌, ◌+◌, ◌-◌, ◌*◌, ◌<◌, ◌≤◌, map, length, take, ap, refl, ◌∙◌, sym, arith}
+use Rattle.std.proofs.lemmas.Grind.{div_ceil_times}
 use Rattle.std.proofs.lemmas.List.{length-take-le, length-map}
-use Rattle.udt_model.specs.SendBlocks.{SendBlocks, accepted_of, count_for}
-use Rattle.udt_snd_buffer.specs.KeptParts.{kept_block_of}
-use Rattle.udt_snd_buffer.proofs.KeptLemmas.{count_within, count_fits, joined_more, count_is}
+use Rattle.std.proofs.lemmas.List.Elements.{All-append}
+use Rattle.udt_model.specs.SendBlocks.{SendBlocks, accepted_of, count_for, blocks_of}
+use Rattle.udt_snd_buffer.specs.KeptParts.{kept_block_of, IsCut}
+use Rattle.udt_snd_buffer.proofs.KeptLemmas.{blocks_of-cut, count_within, count_fits, joined_more, count_is}
 use Rattle.udt_snd_buffer.proofs.buffer.SndBuffer.accept.Goals as goal
 use Rattle.udt_snd_buffer.proofs.buffer.SndBuffer.accept.Goals.{After-keep, After-div_ceil-count}
 
@@ -41,8 +43,13 @@ invariant_of-self c =
     let blocks = few here in
     let left = free here in
     let g = c.keep.ensures in
+    let payload = c.self.inside.payload in
+    let bytes = take c.min-taken.result c.args.bytes.now in
+    let len : length bytes ≡ c.min-taken.result = length-take-le c.min-taken.result c.args.bytes.now (omega (arith, c.min-taken.ensures)) in
+    let all : c.div_ceil-count.result * payload < length bytes + payload = rw (c.div_ceil-count.ensures, len) (div_ceil_times c.min-taken.result payload b.some).1 in
     record {
       kept = omega (arith, blocks, left, c.min-blocks.ensures, g.len, b.kept);
+      cut = rw g.kept (All-append (IsCut payload) (map kept_block_of (take c.self.inside.kept c.self.inside.ring.list)) (blocks_of _ payload _ c.div_ceil-count.result bytes) b.cut (blocks_of-cut _ payload _ c.div_ceil-count.result bytes b.some all));
       few = omega (arith, g.len, b.few);
       some = b.some;
       room = omega (arith, g.same, b.room);

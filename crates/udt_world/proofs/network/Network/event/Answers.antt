@@ -7,7 +7,7 @@ use Rattle.udt_world.proofs.network.Network.event.Goals as goal
 
 -- the socket answered and left what the step says, and what it emitted was kept and printed
 pub returns-clause-ok : goal.returns-clause-ok
-returns-clause-ok c =
+returns-clause-ok g c =
     let network = c.args.self.now in
     let socket = c.index_mut-socket.result.now in
     let read = slice_get_read network.sockets.items (length network.sockets.items) c.args.place socket refl (omega (arith, network.sockets.ok.0, c.requires)) c.index_mut-socket.ensures.value in

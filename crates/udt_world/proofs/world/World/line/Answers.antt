@@ -12,72 +12,72 @@ use Rattle.udt_world.proofs.world.World.line.Goals as goal
 
 -- the line doesn't fit
 pub returns-then-not-fits-clause-answer : goal.returns-then-not-fits-clause-answer
-returns-then-not-fits-clause-answer c =
+returns-then-not-fits-clause-answer g c =
     let here : Some (lines_in c.self.inside) ≡ c.args.self.now = rw c.if-self.false at c.self.view_is in
     let not_in : fits_after (lines_in c.self.inside) c.args.line.now ≡ false =
     sym (c.fits.ensures.value (lines_in c.self.inside) (c.self.invariant.size_is c.if-self.false)) ∙ c.if-not-fits.true in
-    let refuses : Refuses (printed_after (lines_in c.self.inside) c.args.line.now) (lines_in c.self.inside) (Some (lines_in c.self.inside)) c.args.out.now.items c.args.out.now.items =
-    record { refused = printed-none (lines_in c.self.inside) c.args.line.now not_in; same = refl; output = refl } in
+    let refuses : Refuses (printed_after g.C.Control.ways (lines_in c.self.inside) c.args.line.now) (lines_in c.self.inside) (Some (lines_in c.self.inside)) c.args.out.now.items c.args.out.now.items =
+    record { refused = printed-none g.C.Control.ways (lines_in c.self.inside) c.args.line.now not_in; same = refl; output = refl } in
     rw (sym here) refuses
 
 pub returns-then-not-fits-clause-in_step : goal.returns-then-not-fits-clause-in_step
-returns-then-not-fits-clause-in_step c = rw (sym c.self.view_is) (steps c.self.inside c.self.invariant)
+returns-then-not-fits-clause-in_step g c = rw (sym c.self.view_is) (steps g.C.Control.ways c.self.inside c.self.invariant)
 
-was_accepted : (c : goal.After-self-1)
-    → Accepted (lines_in c.self.inside) (map items_of c.keep_line.new.lines.items) c.args.line.now (view_of c.keep_line.new.network) c.args.out.now.items c.keep_line.new.out.items
-was_accepted c =
+was_accepted : (g : _) (c : goal.After-self-1 g)
+    → Accepted g.C.Control.ways (lines_in c.self.inside) (map items_of c.keep_line.new.lines.items) c.args.line.now (view_of c.keep_line.new.network) c.args.out.now.items c.keep_line.new.out.items
+was_accepted g c =
     let fits = sym (c.fits.ensures.value (lines_in c.self.inside) (c.self.invariant.size_is c.if-self.false)) ∙ c.if-not-fits.false in
-    accepted c.in-Ok-true.field-0 (lines_in c.self.inside) (map items_of c.keep_line.new.lines.items) c.args.line.now
+    accepted g.C.Control.ways c.in-Ok-true.field-0 (lines_in c.self.inside) (map items_of c.keep_line.new.lines.items) c.args.line.now
     (view_of c.self.inside.network) (view_of c.keep_line.new.network) c.args.out.now.items c.keep_line.new.out.items
     c.in-Ok-true.field-0-test (c.self.invariant.shown c.if-self.false) fits c.in-Ok-true.ensures.lines c.in-Ok-true.ensures.done
 
 -- one more line was accepted
 pub invariant_of-self : goal.invariant_of-self
-invariant_of-self c =
+invariant_of-self g c =
     let size = c.self.invariant.size_is c.if-self.false in
-    let more = was_accepted c in
+    let more = was_accepted g c in
     let kept = same_Some _ _ more.answer.kept in
     record {
       shown = λ _. more.shown;
       size_is = λ _. omega (arith, size, more.size);
       bound = omega (arith, c.fits.ensures.bound c.if-not-fits.false);
-      accepted = λ _. rw kept (accepted-more [] (lines_in c.self.inside) c.args.line.now more.answer.text (c.self.invariant.accepted c.if-self.false) more.answer.printed);
+      accepted = λ _. rw kept (accepted-more g.C.Control.ways [] (lines_in c.self.inside) c.args.line.now more.answer.text (c.self.invariant.accepted c.if-self.false) more.answer.printed);
     }
 
 pub returns-in-Ok-true-clause-answer : goal.returns-in-Ok-true-clause-answer
-returns-in-Ok-true-clause-answer c =
+returns-in-Ok-true-clause-answer g c =
     let here : Some (lines_in c.self.inside) ≡ c.args.self.now = rw c.if-self.false at c.self.view_is in
-    rw (sym here, c.if-self.false) (was_accepted c).answer
+    rw (sym here, c.if-self.false) (was_accepted g c).answer
 
 pub returns-in-Ok-true-clause-in_step : goal.returns-in-Ok-true-clause-in_step
-returns-in-Ok-true-clause-in_step c = steps _ (invariant_of-self c)
+returns-in-Ok-true-clause-in_step g c = steps g.C.Control.ways _ (invariant_of-self g c)
 
 pub returns-in-Ok-true-clause-prefix : goal.returns-in-Ok-true-clause-prefix
-returns-in-Ok-true-clause-prefix c =
+returns-in-Ok-true-clause-prefix g c =
     let here : Some (lines_in c.self.inside) ≡ c.args.self.now = rw c.if-self.false at c.self.view_is in
     let size = c.self.invariant.size_is c.if-self.false in
-    let more = was_accepted c in
+    let more = was_accepted g c in
     let kept = same_Some _ _ more.answer.kept in
     let small : size_of (map items_of c.keep_line.new.lines.items) ≤ 67108865 = omega (arith, size, more.size, c.fits.ensures.bound c.if-not-fits.false) in
     let few : length (lines_in c.self.inside ++ c.args.line.now ∷ []) < 1073741824 = rw kept at (few_lines (map items_of c.keep_line.new.lines.items) small) in
-    let told : TellsLine (lines_in c.self.inside) c.args.line.now c.args.out.now.items c.keep_line.new.out.items =
-    tells (lines_in c.self.inside) c.args.line.now _ _ _ (c.self.invariant.accepted c.if-self.false) few more.answer in
+    let told : TellsLine g.C.Control.ways (lines_in c.self.inside) c.args.line.now c.args.out.now.items c.keep_line.new.out.items =
+    tells g.C.Control.ways (lines_in c.self.inside) c.args.line.now _ _ _ (c.self.invariant.accepted c.if-self.false) few more.answer in
     rw (sym here) told
 
-was_refused : (c : goal.In-Ok-false)
-    → Refused (lines_in c.self.inside) (map items_of c.keep_line.new.lines.items) c.args.line.now (view_of c.keep_line.new.network) c.args.out.now.items c.keep_line.new.out.items
-was_refused c =
+was_refused : (g : _) (c : goal.In-Ok-false g)
+    → Refused g.C.Control.ways (lines_in c.self.inside) (map items_of c.keep_line.new.lines.items) c.args.line.now (view_of c.keep_line.new.network) c.args.out.now.items c.keep_line.new.out.items
+was_refused g c =
     let fits = sym (c.fits.ensures.value (lines_in c.self.inside) (c.self.invariant.size_is c.if-self.false)) ∙ c.if-not-fits.false in
-    refused c.in-Ok-false.field-0 (lines_in c.self.inside) (map items_of c.keep_line.new.lines.items) c.args.line.now
+    refused g.C.Control.ways c.in-Ok-false.field-0 (lines_in c.self.inside) (map items_of c.keep_line.new.lines.items) c.args.line.now
     (view_of c.self.inside.network) (view_of c.keep_line.new.network) c.args.out.now.items c.keep_line.new.out.items
     c.in-Ok-false.field-0-test (c.self.invariant.shown c.if-self.false) fits c.in-Ok-false.ensures.lines c.in-Ok-false.ensures.done
 
 -- the line was refused
 pub returns-in-Ok-false-clause-answer : goal.returns-in-Ok-false-clause-answer
-returns-in-Ok-false-clause-answer c =
+returns-in-Ok-false-clause-answer g c =
     let here : Some (lines_in c.self.inside) ≡ c.args.self.now = rw c.if-self.false at c.self.view_is in
-    rw (sym here, c.if-self.false) (was_refused c).answer
+    rw (sym here, c.if-self.false) (was_refused g c).answer
 
 pub returns-in-Ok-false-clause-in_step : goal.returns-in-Ok-false-clause-in_step
-returns-in-Ok-false-clause-in_step c = steps_few c.self.inside.lost (map items_of c.keep_line.new.lines.items) (λ kept.
-    few_lines (map items_of c.keep_line.new.lines.items) (omega (arith, ap size_of (was_refused c).same, c.self.invariant.size_is kept, c.self.invariant.bound)))
+returns-in-Ok-false-clause-in_step g c = steps_few g.C.Control.ways c.self.inside.lost (map items_of c.keep_line.new.lines.items) (λ kept.
+    few_lines (map items_of c.keep_line.new.lines.items) (omega (arith, ap size_of (was_refused g c).same, c.self.invariant.size_is kept, c.self.invariant.bound)))

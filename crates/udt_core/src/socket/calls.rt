@@ -1,0 +1,253 @@
+// The calls of the application, and what the owner of the port asks.
+
+ghost use Rattle.std.specs.Prelude.{◌≡◌, ◌+◌, ◌<◌, ◌≤◌, [], length, drop, Ok, IfOk, OnErr};
+ghost use Rattle.udt_model.specs.Step.{step};
+ghost use Rattle.udt_model.specs.Events.{Send, Recv, Pack, Close, Measure, Sent, Received, DidPack, DidMeasure, at_moment, event, outs_of};
+ghost use Rattle.udt_model.specs.Calls.{packed_so, gives, perf_of, refusal_of as why_of, closed_from as after_closing};
+ghost use Rattle.udt_model.specs.Moments as moments;
+ghost use Rattle.udt_model.specs.Readiness.{ready_bits};
+ghost use Rattle.udt_model.specs.SendHalf.{packing, pack_moment};
+ghost use Rattle.udt_model.specs.Wire.{bit as one_if};
+ghost use Rattle.udt_core.specs.Received.{received_in};
+
+use super::Socket;
+use crate::counts::risen;
+use crate::outs::Outs;
+use std::marker::Model;
+use udt_model::{LAST_MOMENT, Packed, Perf, Phase, Refusal, SendNo};
+use udt_rate::Control;
+
+impl<C: Control> Socket<C> {
+    /// Takes as many of the bytes as fit into the free blocks. ConnLost comes once the connection was
+    /// lost and NotConnected once the socket is closed, Spent where the direction has carried all the
+    /// packets that it may, AgainSend where no block is free.
+    #[tactic(auto, unfolding(udt_model::specs::Step::step))]
+    pub fn send(&mut self, now: u64, bytes: &[u8]) -> Result<usize, Refusal>
+        ensures reply { Sent result ≡ (step C.ways self.old (event now (Send bytes.now))).reply }
+        ensures after { self.new ≡ (step C.ways self.old (event now (Send bytes.now))).after }
+        ensures refused { OnErr result (self.new ≡ at_moment self.old now) }
+    {
+        self.at(now);
+        match self.phase {
+            Phase::Connected => match self.sending.send(self.last, bytes) {
+                Ok(count) => Ok(count),
+                Err(why) => Err(refusal_of(why)),
+            },
+            Phase::Broken(why) => Err(Refusal::ConnLost(why)),
+            Phase::Closing | Phase::Closed => Err(Refusal::NotConnected),
+        }
+    }
+
+    /// Gives the first bytes that wait, as far as there is room. Where none waits, AgainRecv comes
+    /// while the socket is connected, and ConnLost once the connection was lost. NotConnected comes
+    /// once the socket is closed.
+    #[tactic(auto, unfolding(udt_model::specs::Step::step))]
+    pub fn recv(&mut self, now: u64, into: &mut [u8]) -> Result<usize, Refusal>
+        ensures reply { Received (received_in result into.new)
+            ≡ (step C.ways self.old (event now (Recv (length into.old)))).reply }
+        ensures after { self.new ≡ (step C.ways self.old (event now (Recv (length into.old)))).after }
+        ensures within { IfOk result (λ count. count ≤ length into.old) }
+        ensures rest { IfOk result (λ count. drop count into.new ≡ drop count into.old) }
+        ensures err { OnErr result (into.new ≡ into.old) }
+        ensures refused { OnErr result (self.new ≡ at_moment self.old now) }
+    {
+        self.at(now);
+        match self.phase {
+            Phase::Connected => self.give(into, Refusal::AgainRecv),
+            Phase::Broken(why) => self.give(into, Refusal::ConnLost(why)),
+            Phase::Closing | Phase::Closed => Err(Refusal::NotConnected),
+        }
+    }
+
+    // Gives what waits, or refuses for this reason where nothing does.
+    fn give(&mut self, into: &mut [u8], why: Refusal) -> Result<usize, Refusal>
+        ensures reply { Received (received_in result into.new) ≡ (gives self.old (length into.old) why).reply }
+        ensures after { self.new ≡ (gives self.old (length into.old) why).after }
+        ensures within { IfOk result (λ count. count ≤ length into.old) }
+        ensures rest { IfOk result (λ count. drop count into.new ≡ drop count into.old) }
+        ensures err { OnErr result (into.new ≡ into.old) }
+        ensures refused { OnErr result (self.new ≡ self.old) }
+    {
+        let count = self.receiving.recv(into);
+        if count == 0 && !into.is_empty() {
+            return Err(why);
+        }
+        Ok(count)
+    }
+
+    /// Drops what was not sent and what was not read. A connected socket is closed once a tick has
+    /// told its peer.
+    #[tactic(auto, unfolding(udt_model::specs::Step::step))]
+    pub fn close(&mut self, now: u64)
+        ensures { self.new ≡ (step C.ways self.old (event now Close)).after }
+    {
+        self.at(now);
+        self.phase = closed_from(self.phase);
+    }
+
+    /// Emits the least lost block or else the next one, where the time has come and the socket is
+    /// connected. Both windows must allow a block that was never sent.
+    #[tactic(auto, unfolding(udt_model::specs::Step::step))]
+    pub fn pack(&mut self, now: u64, outs: &mut Outs) -> Packed
+        ensures reply { DidPack result ≡ (step C.ways self.old (event now Pack)).reply }
+        ensures after { self.new ≡ (step C.ways self.old (event now Pack)).after }
+        ensures outs { outs.new ≡ outs_of (step C.ways self.old (event now Pack)) }
+    {
+        outs.clear();
+        self.at(now);
+        match self.phase {
+            Phase::Connected => self.pack_next(outs),
+            Phase::Broken(_) | Phase::Closing | Phase::Closed => Packed::Nothing,
+        }
+    }
+
+    // Emits the block that is sent next by a connected socket.
+    #[tactic(auto, unfolding(udt_model::specs::SendHalf::after_pack))]
+    fn pack_next(&mut self, outs: &mut Outs) -> Packed
+        requires empty { outs.old ≡ [] }
+        ensures reply { DidPack result
+            ≡ (packed_so C.ways self.old (packing C.ways self.old.sending self.old.last)).reply }
+        ensures after { self.new
+            ≡ (packed_so C.ways self.old (packing C.ways self.old.sending self.old.last)).after }
+        ensures outs { outs.new
+            ≡ outs_of (packed_so C.ways self.old (packing C.ways self.old.sending self.old.last)) }
+    {
+        let stamp = self.stamp();
+        let next = self.sending.next();
+        let packed = outs.emit_block(&mut self.sending, self.last, stamp, &self.peer);
+        if let Packed::Block(_) = packed {
+            if next < self.sending.next() {
+                self.counters.sent = risen(self.counters.sent);
+            } else {
+                self.counters.resent = risen(self.counters.resent);
+            }
+        }
+        packed
+    }
+
+    /// What was measured and counted so far.
+    #[tactic(auto, unfolding(udt_model::specs::Step::step))]
+    pub fn perf(&mut self, now: u64) -> Perf
+        ensures reply { DidMeasure result ≡ (step C.ways self.old (event now Measure)).reply }
+        ensures after { self.new ≡ (step C.ways self.old (event now Measure)).after }
+    {
+        self.at(now);
+        Perf {
+            rtt: self.rtt.rtt,
+            var: self.rtt.var,
+            window: self.sending.window() as u64,
+            period: self.sending.period(),
+            sent: self.counters.sent,
+            resent: self.counters.resent,
+            placed: self.counters.placed,
+            double: self.counters.double,
+            below: self.counters.below,
+            above: self.counters.above,
+            control: self.counters.control,
+            stale: self.counters.stale,
+            foreign: self.counters.foreign,
+            malformed: self.counters.malformed,
+            acked: self.sending.acked(),
+        }
+    }
+
+    /// The first moment, not before the last one, at which `tick` or `pack` would do something, in
+    /// microseconds. None comes where there is none.
+    #[tactic(auto, unfolding(udt_model::specs::Moments::next_moment))]
+    pub fn next_moment(&self) -> Option<u64>
+        ensures value { result ≡ moments.next_moment C.ways self.now }
+        ensures is { moments.IsNextMoment C.ways self.now result }
+    {
+        match self.phase {
+            Phase::Connected => {
+                let ack = not_before(self.last, self.receiving.ack_due());
+                let nak = not_before(self.last, self.receiving.nak_due());
+                let exp = not_before(self.last, self.exp_from + self.exp_interval());
+                sooner(sooner(ack, nak), sooner(exp, self.leaving_moment()))
+            }
+            Phase::Closing => Some(self.last),
+            Phase::Broken(_) | Phase::Closed => None,
+        }
+    }
+
+    // The first moment, not before the last one, at which packing sends a block.
+    fn leaving_moment(&self) -> Option<u64>
+        ensures { result
+            ≡ moments.not_before_any self.now.last (pack_moment C.ways self.now.sending) }
+    {
+        not_before(self.last, self.sending.pack_moment()?)
+    }
+
+    /// How many events there were.
+    pub fn count(&self) -> u64
+        ensures { result ≡ self.now.count }
+    {
+        self.count
+    }
+
+    /// What the socket is ready for, as bits: 1 that bytes can be read, 2 that some can be written, 4
+    /// that it is cut off or closed, 16 that it is connected, 32 that it is closed.
+    #[tactic(auto, unfolding(udt_model::specs::Readiness::ready_bits))]
+    pub fn bits(&self) -> u8
+        ensures { result ≡ ready_bits self.now }
+    {
+        match self.phase {
+            Phase::Connected => {
+                16 + bit(self.receiving.waiting() > 0) + 2 * bit(self.sending.free() > 0)
+            }
+            Phase::Broken(_) => 4 + bit(self.receiving.waiting() > 0),
+            Phase::Closing => 0,
+            Phase::Closed => 36,
+        }
+    }
+}
+
+// A moment, not before the last one. There is none after 2^53 - 1.
+fn not_before(last: u64, moment: u64) -> Option<u64>
+    ensures { result ≡ moments.not_before last moment }
+{
+    if moment <= LAST_MOMENT {
+        Some(last.max(moment))
+    } else {
+        None
+    }
+}
+
+// The lesser of two moments, where both are there.
+fn sooner(first: Option<u64>, second: Option<u64>) -> Option<u64>
+    ensures { result ≡ moments.sooner first second }
+{
+    match (first, second) {
+        (None, other) => other,
+        (Some(moment), None) => Some(moment),
+        (Some(moment), Some(other)) => Some(moment.min(other)),
+    }
+}
+
+// Why a socket takes no bytes.
+fn refusal_of(why: SendNo) -> Refusal
+    ensures { result ≡ why_of why }
+{
+    match why {
+        SendNo::Again => Refusal::AgainSend,
+        SendNo::Spent => Refusal::Spent,
+        SendNo::TooLarge => Refusal::TooLarge,
+    }
+}
+
+// What closing makes of a phase.
+fn closed_from(phase: Phase) -> Phase
+    ensures { result ≡ after_closing phase }
+{
+    match phase {
+        Phase::Connected | Phase::Closing => Phase::Closing,
+        Phase::Broken(_) | Phase::Closed => Phase::Closed,
+    }
+}
+
+// A bit as a number.
+fn bit(set: bool) -> u8
+    ensures { result ≡ one_if set }
+{
+    if set { 1 } else { 0 }
+}

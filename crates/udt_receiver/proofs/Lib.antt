@@ -1,0 +1,3 @@
+mod ListedOffsets
+mod FirstGap
+mod Blocks

@@ -1,0 +1,4 @@
+pub mod BlockLemmas
+pub mod LostLemmas
+pub mod PackLemmas
+pub mod ReportLemmas

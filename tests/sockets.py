@@ -1,0 +1,453 @@
+"""The socket of a script's pair: a stream each way, connected from its opening on.
+
+It is told of calls, arrivals and ticks, and answers each with words and the datagrams that it emits.
+"""
+import struct
+from collections import Counter
+from dataclasses import dataclass
+
+from read import NEAR, NUMBERS, TYPES, read
+from timing import SYN, Path, Window
+
+PACKETS = 1 << 60               # the packets that a direction may ever have
+LAST_MESSAGE = (1 << 29) - 1    # 1 comes after it
+LAST_ACK_NUMBER = NUMBERS - 1   # 1 comes after it
+FIRST, LAST = 1 << 31, 1 << 30  # the flags of a message's first and last block
+HEADERS = 44                    # bytes of a packet besides its payload
+LEAST_FLOW, GREATEST_FLOW = 2, 65_536
+PROBE = 16                      # after a sequence number that this divides the next packet follows at once
+LIGHT_ACK_BLOCKS = 64           # a light ACK comes after so many placed blocks
+ACK_HISTORY = 1_024             # full ACKs that are remembered
+FIRST_TRIPS = 2                 # round trips from the first report of a loss to the second
+MOST_TRIPS = (1 << 32) - 1
+LEAST_NAK_WORDS = 2
+LEAST_EXP_INTERVAL = 500_000    # microseconds, like all times here
+MOST_EXP_COUNT, LEAST_SILENCE, GREATEST_SILENCE = 16, 3_000_000, 180_000_000
+
+TYPE_NUMBERS = {name: number for number, name in TYPES.items()}
+COUNTERS = ("placed", "double", "below", "above", "control", "stale", "foreign", "malformed")
+
+
+def near(isn, base, number):
+    """The offset near the base that has this sequence number, or None."""
+    ahead = (number - isn - base) % NUMBERS
+    found = [n for n in (base + ahead, base + ahead - NUMBERS) if n >= 0 and abs(n - base) < NEAR]
+    return found[0] if found else None
+
+
+def words(*numbers):
+    return struct.pack(">%dI" % len(numbers), *numbers)
+
+
+def clamped(blocks):
+    """A flow window."""
+    return max(LEAST_FLOW, min(GREATEST_FLOW, blocks))
+
+
+def runs(offsets):
+    """The longest ranges of consecutive offsets, in rising order."""
+    found = []
+    for offset in sorted(offsets):
+        if found and found[-1][1] == offset - 1:
+            found[-1] = (found[-1][0], offset)
+        else:
+            found.append((offset, offset))
+    return found
+
+
+def words_of(run):
+    """How many words of a NAK a range takes."""
+    return 1 if run[0] == run[1] else 2
+
+
+class Refused(Exception):
+    """Why a call is refused, in the words that are printed."""
+
+
+@dataclass
+class Opening:
+    """With what both sockets of a pair are opened."""
+
+    payload: int    # the most bytes of a block
+    isn: int        # the initial sequence number both ways
+    blocks: int     # the room for blocks each way
+    start: int      # the offset at which both directions begin
+    control: type
+
+
+class Sender:
+    """The sending half: accepted blocks, which are sent and kept until they are acknowledged."""
+
+    def __init__(self, opening, path):
+        self.opening, self.path = opening, path
+        self.acked = self.next = self.end = opening.start   # (each block below these: acknowledged, sent, accepted)
+        self.kept = {}                                      # flags and bytes, by offset
+        self.lost = set()
+        self.flow = clamped(opening.blocks)
+        self.control = opening.control(opening.payload + HEADERS, self.flow)
+        self.message = 1
+        self.due = 0                                        # when the next packet may go out, in nanoseconds
+        self.sent = self.resent = 0
+
+    def accept(self, given):
+        """Takes the bytes that fit, as blocks of one message, and says how many."""
+        left, free, payload = PACKETS - self.end, self.opening.blocks - len(self.kept), self.opening.payload
+        if given and left == 0:
+            raise Refused("refused 9001")
+        if given and free == 0:
+            raise Refused("again")
+        taken = given[: min(free, left) * payload]
+        if not taken:
+            return 0
+        for at in range(0, len(taken), payload):
+            flags = (FIRST if at == 0 else 0) + (LAST if at + payload >= len(taken) else 0) + self.message
+            self.kept[self.end] = flags, taken[at : at + payload]
+            self.end += 1
+        self.message = self.message % LAST_MESSAGE + 1
+        return len(taken)
+
+    def choose(self, now):
+        """The offset of the block that goes out: the least lost one, or the next one where both windows allow it."""
+        if self.lost:
+            offset = min(self.lost)
+            self.lost.remove(offset)
+            self.resent += 1
+        elif self.next < self.end and self.next - self.acked < min(self.flow, self.control.window):
+            offset = self.next
+            self.next += 1
+            self.sent += 1
+        else:
+            return None
+        begins_pair = (self.opening.isn + offset) % NUMBERS % PROBE == 0
+        self.due = 1000 * now + (0 if begins_pair else self.control.period)
+        return offset
+
+    def on_ack(self, body):
+        """Whether an ACK names an offset from the first kept one to the next. All blocks below it are released."""
+        offset = near(self.opening.isn, self.acked, body["ack"])
+        if offset is None or not self.acked <= offset <= self.next:
+            return False
+        newly = offset - self.acked
+        for released in range(self.acked, offset):
+            del self.kept[released]
+            self.lost.discard(released)
+        self.acked = offset
+        if body["form"] == "light":
+            self.flow = max(LEAST_FLOW, self.flow - newly)
+            return True
+        self.path.take_sample(body["rtt"])
+        self.flow = clamped(body["buffer"])
+        if body["form"] == "full":
+            self.path.take_rates(body["rate"], body["capacity"])
+            self.control.on_ack(newly, self.path)
+        return True
+
+    def sent_range(self, first, last):
+        """The offsets in flight that a range of a NAK names, or None where it names others."""
+        isn, acked = self.opening.isn, self.acked
+        first, last = near(isn, acked, first), near(isn, acked, last)
+        if last is None or not acked <= last < self.next or (first is not None and first > last):
+            return None
+        return range(acked if first is None else max(first, acked), last + 1)
+
+    def on_nak(self, ranges):
+        """Whether a NAK names a packet in flight. What it names is lost."""
+        named = [it for it in (self.sent_range(*ends) for ends in ranges) if it]
+        if not named:
+            return False
+        self.lost.update(*named)
+        self.control.on_nak(min(it[0] for it in named), self.next, self.path)
+        return True
+
+    def on_timeout(self):
+        """Whether packets are in flight. All of them are lost."""
+        if self.next == self.acked:
+            return False
+        self.lost.update(range(self.acked, self.next))
+        self.control.on_timeout(self.path)
+        return True
+
+
+@dataclass
+class Report:
+    """When a loss was reported last, and how many round trips later it is reported again."""
+
+    moment: int
+    trips: int = FIRST_TRIPS
+
+
+class Receiver:
+    """The receiving half: placed blocks, which are kept until they are read."""
+
+    def __init__(self, opening, path):
+        self.opening, self.path = opening, path
+        self.base = self.top = self.confirmed = opening.start   # (not read yet; highest that arrived, plus one)
+        self.placed = {}                                        # bytes, by offset
+        self.given = 0                                          # bytes of the base's block that were read already
+        self.lost = {}                                          # reports, by offset
+        self.arrivals, self.pairs = Window(), Window()
+        self.last_data = None                                   # the moment of the last data packet
+        self.fresh = 0                                          # blocks placed since the last ACK
+        self.history = {}                                       # offset and moment of full ACKs, by their numbers
+        self.last_ack = None                                    # number, offset and moment of the last full ACK
+        self.ack_due, self.nak_due = SYN, path.interval()
+
+    def read(self, room):
+        """The first bytes that wait, as many as there is room for. A block whose bytes are all read is consumed."""
+        given = []
+        while room and self.base in self.placed:
+            block = self.placed[self.base]
+            given.append(block[self.given : self.given + room])
+            room -= len(given[-1])
+            self.given += len(given[-1])
+            if self.given == len(block):
+                del self.placed[self.base]
+                self.base, self.given = self.base + 1, 0
+        return b"".join(given)
+
+    def ack_offset(self):
+        """The first offset that has not arrived."""
+        return min(self.lost, default=self.top)
+
+    def measure(self, number, now):
+        """A data packet arrived, whatever becomes of it."""
+        if self.last_data is not None:
+            self.arrivals.push(now - self.last_data)
+            if number % PROBE == 1:
+                self.pairs.push(now - self.last_data)
+        self.last_data = now
+
+    def placing(self, offset):
+        """What becomes of a block at this offset."""
+        if offset is None or offset >= PACKETS:
+            return "above"
+        if offset < self.base:
+            return "below"
+        if offset >= self.base + self.opening.blocks:
+            return "above"
+        return "double" if offset in self.placed else "placed"
+
+    def on_block(self, number, block, now):
+        """What becomes of a block; the range that is lost by it, or None; and whether a light ACK is due."""
+        self.measure(number, now)
+        offset = near(self.opening.isn, self.top, number)
+        outcome, gap = self.placing(offset), None
+        if outcome != "placed":
+            return outcome, None, False
+        self.placed[offset] = block
+        self.lost.pop(offset, None)
+        if offset > self.top:
+            gap = self.top, offset - 1
+            self.lost.update({lost: Report(now) for lost in range(self.top, offset)})
+        self.top = max(self.top, offset + 1)
+        self.fresh = (self.fresh + 1) % LIGHT_ACK_BLOCKS
+        return outcome, gap, self.fresh == 0
+
+    def on_ack2(self, number, now):
+        """Whether an ACK2 answers an ACK that is remembered. It measures the round trip and confirms the offset."""
+        if number not in self.history:
+            return False
+        offset, moment = self.history.pop(number)
+        self.path.take_sample(now - moment)
+        self.confirmed = max(self.confirmed, offset)
+        return True
+
+    def is_known(self, offset, now):
+        """Whether the peer knows this ACK offset, or was told of it not long ago."""
+        if offset == self.confirmed:
+            return True
+        return self.last_ack is not None and offset == self.last_ack[1] and now - self.last_ack[2] < 2 * self.path.rtt
+
+    def tick_ack(self, now):
+        """Number, offset and free blocks of a full ACK, where one is due."""
+        if now < self.ack_due:
+            return None
+        self.ack_due, offset = now + SYN, self.ack_offset()
+        if self.is_known(offset, now):
+            return None
+        number = self.last_ack[0] % LAST_ACK_NUMBER + 1 if self.last_ack else 1
+        self.last_ack, self.fresh = (number, offset, now), 0
+        self.history[number] = offset, now
+        if len(self.history) > ACK_HISTORY:
+            del self.history[next(iter(self.history))]
+        return number, offset, max(LEAST_FLOW, self.opening.blocks - (offset - self.base))
+
+    def tick_nak(self, now):
+        """The ranges that are to be reported now."""
+        if now < self.nak_due:
+            return []
+        self.nak_due = now + self.path.interval()
+        room, told = max(LEAST_NAK_WORDS, self.opening.payload // 4), []
+        for run in runs(n for n, it in self.lost.items() if now - it.moment >= it.trips * self.path.rtt):
+            room -= words_of(run)
+            if room < 0:
+                break
+            told.append(run)
+            for offset in range(run[0], run[1] + 1):
+                self.lost[offset] = Report(now, min(self.lost[offset].trips + 1, MOST_TRIPS))
+        return told
+
+
+class Socket:
+    """One socket of a pair: its two halves, and the timers and counters of both."""
+
+    def __init__(self, name, own, host, peer_host, peer, opening):
+        self.name, self.own, self.host, self.peer_host, self.peer = name, own, host, peer_host, peer
+        self.opening, self.path = opening, Path()
+        self.sender, self.receiver = Sender(opening, self.path), Receiver(opening, self.path)
+        self.phase, self.cause, self.now = "connected", None, 0
+        self.heard, self.exp_from, self.exp_count = 0, 0, 1
+        self.counts = Counter()
+
+    def at(self, moment):
+        """A moment never goes back."""
+        self.now = max(self.now, moment)
+
+    def cut_off(self):
+        """Why a call is refused, where the socket isn't connected."""
+        return Refused(f"refused 2001 {self.cause}" if self.phase == "broken" else "refused 2002")
+
+    # ---- calls
+
+    def send(self, given):
+        """How many of these bytes are accepted."""
+        if self.phase != "connected":
+            raise self.cut_off()
+        return self.sender.accept(given)
+
+    def recv(self, room):
+        """The first bytes that wait."""
+        if self.phase not in ("connected", "broken"):
+            raise self.cut_off()
+        given = self.receiver.read(room)
+        if room and not given:
+            raise Refused("again") if self.phase == "connected" else self.cut_off()
+        return given
+
+    def close(self):
+        self.phase = "closing" if self.phase in ("connected", "closing") else "closed"
+
+    def perf(self):
+        """What was measured and counted."""
+        control, sender = self.sender.control, self.sender
+        told = {"rtt": self.path.rtt, "var": self.path.rtt_var, "window": control.window, "period": control.period,
+                "sent": sender.sent, "resent": sender.resent, **{it: self.counts[it] for it in COUNTERS},
+                "acked": sender.acked}
+        return " ".join(f"{name} {value}" for name, value in told.items())
+
+    # ---- packets that go out
+
+    def number_of(self, offset):
+        """The sequence number of an offset."""
+        return (self.opening.isn + offset) % NUMBERS
+
+    def packet(self, first, second, *field):
+        return words(first, second, self.now % (1 << 32), self.peer, *field)
+
+    def control_packet(self, kind, info, *field):
+        return self.packet((1 << 31) + (TYPE_NUMBERS[kind] << 16), info, *field)
+
+    def nak(self, ranges):
+        """A loss report: one word for one offset, and two for more, the first of them with its first bit set."""
+        field = []
+        for run in ranges:
+            first, last = self.number_of(run[0]), self.number_of(run[1])
+            field += [first] if words_of(run) == 1 else [(1 << 31) + first, last]
+        return self.control_packet("nak", 0, *field)
+
+    def pack(self):
+        """What goes out next, and its datagram."""
+        if self.phase != "connected":
+            return "nothing", []
+        if 1000 * self.now < self.sender.due:
+            # (rounded up to microseconds)
+            return f"notyet {(self.sender.due + 999) // 1000}", []
+        offset = self.sender.choose(self.now)
+        if offset is None:
+            return "nothing", []
+        flags, block = self.sender.kept[offset]
+        return "data", [self.packet(self.number_of(offset), flags) + block]
+
+    # ---- timers
+
+    def tick(self):
+        """What the timers emit: the ACK timer, the NAK timer, and then the EXP timer."""
+        if self.phase == "closing":
+            self.phase = "closed"
+            return [self.control_packet("shutdown", 0)]
+        if self.phase != "connected":
+            return []
+        return self.acknowledge() + self.report() + self.watch()
+
+    def acknowledge(self):
+        due = self.receiver.tick_ack(self.now)
+        if due is None:
+            return []
+        number, offset, free = due
+        path, receiver = self.path, self.receiver
+        told = path.rtt, path.rtt_var, free, receiver.arrivals.speed(), receiver.pairs.capacity()
+        return [self.control_packet("ack", number, self.number_of(offset), *told)]
+
+    def report(self):
+        ranges = self.receiver.tick_nak(self.now)
+        return [self.nak(ranges)] if ranges else []
+
+    def exp_due(self):
+        """When the EXP timer fires."""
+        return self.exp_from + max(self.exp_count * self.path.interval(), LEAST_EXP_INTERVAL)
+
+    def watch(self):
+        if self.now < self.exp_due():
+            return []
+        silence = self.now - self.heard
+        if silence >= GREATEST_SILENCE or (self.exp_count > MOST_EXP_COUNT and silence >= LEAST_SILENCE):
+            self.phase, self.cause = "broken", "expired"
+            return []
+        self.exp_count, self.exp_from = self.exp_count + 1, self.now
+        return [] if self.sender.on_timeout() else [self.control_packet("keepalive", 0)]
+
+    # ---- packets that come in
+
+    def arrive(self, sender, data):
+        """What a datagram that reaches the socket is answered, and what is emitted. Each is counted once."""
+        word, outs = self.take(sender, read(data))
+        kind = {"badlength": "stale"}.get(word, word.split()[0])
+        self.counts[kind if kind in COUNTERS else "control"] += 1
+        return word, outs
+
+    def take(self, sender, packet):
+        if "malformed" in packet:
+            return f"malformed {packet['malformed']}", []
+        if self.phase != "connected":
+            return "stale", []
+        kind = packet["packet"]
+        if sender != self.peer_host or (kind != "handshake" and packet["dest"] != self.own):
+            return "foreign", []
+        self.heard = self.exp_from = self.now
+        self.exp_count = 1
+        if kind == "block":
+            return self.take_block(packet["seq"], bytes.fromhex(packet["bytes"]))
+        if kind == "ack":
+            return self.take_ack(packet["number"], packet["body"])
+        if kind == "nak":
+            return "nak" if self.sender.on_nak(packet["ranges"]) else "stale", []
+        if kind == "ack2":
+            return "ack2" if self.receiver.on_ack2(packet["number"], self.now) else "stale", []
+        if kind == "shutdown":
+            self.phase, self.cause = "broken", "shutdown"
+        return {"keepalive": "alive", "shutdown": "shutdown"}.get(kind, "stale"), []
+
+    def take_block(self, number, block):
+        """A block is placed or not. A gap is reported at once, and a light ACK follows where it is due."""
+        if not 1 <= len(block) <= self.opening.payload:
+            return "badlength", []
+        outcome, gap, is_light = self.receiver.on_block(number, block, self.now)
+        report = [self.nak([gap])] if gap else []
+        ack = [self.control_packet("ack", 0, self.number_of(self.receiver.ack_offset()))] if is_light else []
+        return outcome, report + ack
+
+    def take_ack(self, number, body):
+        """An ACK releases blocks or not. One that isn't light is answered by an ACK2."""
+        if not self.sender.on_ack(body):
+            return "stale", []
+        return "ack", [] if body["form"] == "light" else [self.control_packet("ack2", number)]
