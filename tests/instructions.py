@@ -3,20 +3,24 @@
 
 usage: instructions.py [PACKETS [PROGRAM]]     PACKETS is 14000, and PROGRAM crates/udt_bench/out/udt_bench, where absent
 
-It runs `PROGRAM socket PACKETS` and `PROGRAM socket` with twice as many under `valgrind --tool=callgrind`. What a
+It runs `PROGRAM socket PACKETS` and with twice as many under `valgrind --tool=callgrind`. What a
 packet costs is the difference of the two runs, so that openings and the program's start don't count. It is split by the
 calls of a socket, each with all that it calls: those that give packets (send, pack), those that take them (arrive,
 recv), and the ticks. In the program each call stands in a function of its own, `socket::call_send` and so on. ACKs,
 ACK2s and NAKs arrive too, so they count as arriving. What all heap blocks of one packet's run take tells the memory of
-the two sockets. It prints
+the two sockets. `PROGRAM flood PACKETS` has one NAK arrive so often, and then one block that its socket has already. It
+prints
 
     send and pack N instructions a packet
     arrive and recv N instructions a packet
     tick N instructions a packet
     allocations N more with twice as many packets
     two sockets N bytes
+    a NAK that came before N instructions
+    a block that came before N instructions
+    allocations N more with a flood of twice as many
 
-and then what the program itself prints.
+and ends with status 1 where a flood wasn't taken as it should be.
 """
 import os
 import re
@@ -27,6 +31,7 @@ import tempfile
 PACKETS = 14_000
 PROGRAM = os.path.join(os.path.dirname(os.path.abspath(__file__)), "..", "crates", "udt_bench", "out", "udt_bench")
 LINES = {"send and pack": ["send", "pack"], "arrive and recv": ["arrive", "recv"], "tick": ["tick"]}
+FLOODS = {"a NAK": "flood::report_again", "a block": "flood::arrive_again"}
 ALLOCATORS = ["rattle_alloc", "rattle_realloc"]
 
 
@@ -67,22 +72,32 @@ class Profile:
         return [it for it in self.inclusive if it and re.fullmatch(pattern + r"(::<.*>)?('\d+)?", it)]
 
 
-def profile(program, packets, folder):
-    """The profile of one run, and what the program printed."""
-    path = os.path.join(folder, str(packets))
-    words = ["valgrind", "--tool=callgrind", f"--callgrind-out-file={path}", program, "socket", str(packets)]
+def profile(program, command, packets, printed, folder):
+    """The profile of one run, which must print this."""
+    path = os.path.join(folder, f"{command}{packets}")
+    words = ["valgrind", "--tool=callgrind", f"--callgrind-out-file={path}", program, command, str(packets)]
     ran = subprocess.run(words, capture_output=True, text=True)
-    if ran.returncode != 0 or not ran.stdout.startswith(f"{packets} packets"):
+    if ran.returncode != 0 or not re.fullmatch(printed, ran.stdout.strip()):
         sys.exit(f"{' '.join(words)}: status {ran.returncode}, '{ran.stdout}'\n{ran.stderr}")
-    return Profile(path), ran.stdout
+    return Profile(path)
 
 
-def counted(call, small, large):
-    """By how much the instructions of a call grew from one profile to the other."""
-    found = large.of(rf"(\w+::)*socket::call_{call}")
+def profiles(program, command, packets, printed, folder):
+    """The profiles of a run and of one with twice as many, which print this with the number in place of N."""
+    return [profile(program, command, it, printed.replace("N", str(it)), folder) for it in (packets, 2 * packets)]
+
+
+def counted(name, small, large):
+    """By how much the instructions of a function grew from one profile to the other."""
+    found = large.of(rf"(\w+::)*{name}")
     if not found:
-        sys.exit(f"no function call_{call} was run")
+        sys.exit(f"no function {name} was run")
     return sum(large.inclusive[it] - small.inclusive.get(it, 0) for it in found)
+
+
+def allocations(small, large):
+    """How many more were made in the second run."""
+    return sum(large.called.get(it, 0) - small.called.get(it, 0) for it in ALLOCATORS)
 
 
 def heap(program):
@@ -100,15 +115,16 @@ def main(given):
     if not os.access(program, os.X_OK):
         sys.exit(f"{program} isn't built")
     with tempfile.TemporaryDirectory() as folder:
-        small, _ = profile(program, packets, folder)
-        large, printed = profile(program, 2 * packets, folder)
+        pushed = profiles(program, "socket", packets, r"N packets, \d+ bytes received", folder)
+        flooded = profiles(program, "flood", packets, "N reports, N blocks again", folder)
     for line, calls in LINES.items():
-        cost = sum(counted(it, small, large) for it in calls)
+        cost = sum(counted(f"socket::call_{it}", *pushed) for it in calls)
         print(f"{line} {cost // packets} instructions a packet")
-    grown = sum(large.called.get(it, 0) - small.called.get(it, 0) for it in ALLOCATORS)
-    print(f"allocations {grown} more with twice as many packets")
+    print(f"allocations {allocations(*pushed)} more with twice as many packets")
     print(f"two sockets {heap(program)} bytes")
-    print(printed, end="")
+    for line, name in FLOODS.items():
+        print(f"{line} that came before {counted(name, *flooded) // packets} instructions")
+    print(f"allocations {allocations(*flooded)} more with a flood of twice as many")
 
 
 if __name__ == "__main__":

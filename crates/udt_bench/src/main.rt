@@ -1,7 +1,8 @@
-//! A program that measures: `udt_bench turn` counts the turns that several threads take in a second, beside a lock of the standard library, `udt_bench loss` times the calls of the loss lists, `udt_bench buffers` what a block costs in the buffers of a socket, and `udt_bench queues` how many entries go through the outbox in a second.
+//! A program that measures: `udt_bench turn` counts the turns that several threads take in a second, beside a lock of the standard library, `udt_bench loss` times the calls of the loss lists, `udt_bench buffers` what a block costs in the buffers of a socket, `udt_bench queues` how many entries go through the outbox in a second, and `udt_bench socket` and `udt_bench flood` have datagrams go between two sockets.
 #![tactic(auto)]
 
 mod buffers;
+mod flood;
 mod locks;
 mod loss;
 mod queues;
@@ -21,6 +22,9 @@ use udt_turn::Turn;
 // This many events each thread makes.
 const EVENTS: u32 = 100_000;
 
+// This many datagrams are a flood.
+const FLOOD: u32 = 1_000_000;
+
 // 20 million bytes in blocks of 1,456 bytes.
 const PACKETS: u32 = 13_737;
 
@@ -37,8 +41,14 @@ fn main(rt: HostRuntime) -> io::Result<()> {
                 .and_then(|word| word.as_str().parse::<u32>().ok());
             socket::bench_socket(&rt, rt.alloc(), packets.unwrap_or(PACKETS))
         }
+        Some(word) if word.as_str() == "flood" => {
+            let count = words
+                .next()
+                .and_then(|word| word.as_str().parse::<u32>().ok());
+            flood::bench_flood(&rt, rt.alloc(), count.unwrap_or(FLOOD))
+        }
         _ => {
-            println!(rt; "usage: udt_bench turn|loss|buffers|queues|socket")?;
+            println!(rt; "usage: udt_bench turn|loss|buffers|queues|socket|flood")?;
             Ok(())
         }
     }

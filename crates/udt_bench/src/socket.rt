@@ -25,22 +25,24 @@ const PIECE_BLOCKS: u32 = 32;
 // Their bytes.
 const PIECE: usize = 46_592;
 
-const HERE: Addr = Addr {
+/// The address of the first socket.
+pub const HERE: Addr = Addr {
     ip: Ip::V4(167_772_161),
     port: 9000,
 };
 
-const THERE: Addr = Addr {
+/// The address of the other.
+pub const THERE: Addr = Addr {
     ip: Ip::V4(167_772_162),
     port: 9000,
 };
 
-// What two sockets emit: one there, the other back, and the first one again.
+/// What two sockets emit: one there, the other back, and the first one again.
 #[derive(Drop)]
-struct Wires {
-    there: Outs,
-    back: Outs,
-    again: Outs,
+pub struct Wires {
+    pub there: Outs,
+    pub back: Outs,
+    pub again: Outs,
 }
 
 // The bytes that one is given, and room for those that the other gives.
@@ -62,8 +64,8 @@ struct Pair<C> {
     came: u64,
 }
 
-// One of two sockets, the other of which has this address and ID.
-fn open<C: Control + Drop>(
+/// One of two sockets, the other of which has this address and ID.
+pub fn open<C: Control + Drop>(
     alloc: Global,
     own: u32,
     addr: Addr,
@@ -90,7 +92,8 @@ fn outs(alloc: Global) -> Result<Outs, AllocError> {
     Outs::new(alloc).map_err(|_| AllocError)
 }
 
-fn open_wires(alloc: Global) -> Result<Wires, AllocError> {
+/// Room for what they emit.
+pub fn open_wires(alloc: Global) -> Result<Wires, AllocError> {
     let there = outs(alloc)?;
     let back = outs(alloc)?;
     let again = outs(alloc)?;
@@ -120,8 +123,10 @@ fn open_pair<C: Control + Drop>(alloc: Global) -> Result<Pair<C>, AllocError> {
 }
 
 // Each call that is measured stands alone, so that what it takes shows under its name.
+
+/// Gives a socket bytes.
 #[inline(never)]
-fn call_send<C: Control>(socket: &mut Socket<C>, now: u64, bytes: &[u8]) {
+pub fn call_send<C: Control>(socket: &mut Socket<C>, now: u64, bytes: &[u8]) {
     let _ = socket.send(now, bytes);
 }
 
@@ -133,8 +138,9 @@ fn call_recv<C: Control>(socket: &mut Socket<C>, now: u64, into: &mut [u8]) -> u
     }
 }
 
+/// Has a socket write its next packet.
 #[inline(never)]
-fn call_pack<C: Control>(socket: &mut Socket<C>, now: u64, outs: &mut Outs) -> Packed {
+pub fn call_pack<C: Control>(socket: &mut Socket<C>, now: u64, outs: &mut Outs) -> Packed {
     socket.pack(now, outs)
 }
 
@@ -154,8 +160,14 @@ fn call_tick<C: Control>(socket: &mut Socket<C>, now: u64, outs: &mut Outs) {
     socket.tick(now, outs);
 }
 
-// Gives a socket all datagrams that the other emitted.
-fn deliver<C: Control>(outs: &Outs, to: &mut Socket<C>, from: Addr, now: u64, answers: &mut Outs) {
+/// Gives a socket all datagrams that the other emitted.
+pub fn deliver<C: Control>(
+    outs: &Outs,
+    to: &mut Socket<C>,
+    from: Addr,
+    now: u64,
+    answers: &mut Outs,
+) {
     for i in 0..outs.len() {
         let (_, bytes) = outs.get(i);
         call_arrive(to, now, from, bytes, answers);

@@ -1,5 +1,5 @@
 -- What was received, by the parts that hold it.
-use Rattle.std.proofs.Common.{◌≡◌, ℕ, zero, suc, ◌+◌, ◌-◌, ◌<◌, ◌≤◌, max, Bool, true, false, cond, ◌&&◌, eqb, ltb, leb, List, [], ◌∷◌, ◌++◌, length, take, drop, set, Some, refl, ap, ◌∙◌, sym, arith, inl, inr}
+use Rattle.std.proofs.Common.{◌≡◌, ◌≢◌, ℕ, zero, suc, ◌+◌, ◌-◌, ◌<◌, ◌≤◌, max, Bool, true, false, cond, ◌&&◌, eqb, ltb, leb, List, [], ◌∷◌, ◌++◌, length, take, drop, set, Some, refl, ap, ◌∙◌, sym, arith, inl, inr}
 use Rattle.std.specs.Prelude.{All, slice_get}
 use Rattle.std.proofs.lemmas.Bool.{cases_lt, false≢true, lt-ltb, le-ltb, le-leb, lt-leb, ne_eqb}
 use Rattle.std.proofs.lemmas.Option.{slice_get_within}
@@ -86,6 +86,23 @@ placed_marked marks new parts place part with m found unused run bytes top =
       top = omega (arith, length-set parts place with, above.top);
       unused = rw (drop-set-lt new.top parts place with (omega (arith, top))) above.unused;
     }
+
+-- the part is there
+pub get-set : (parts : List (Part Head)) (place : ℕ) (with : Part Head) → place < length parts → slice_get (set parts place with) place ≡ Some with
+get-set [] place with within = absurd (omega (arith, within))
+get-set (first ∷ parts) zero with within = refl
+get-set (first ∷ parts) (suc place) with within = get-set parts place with (omega (arith, within))
+
+-- and no other has changed, so that what ended the run still ends it
+get-set_other : (parts : List (Part Head)) (i place : ℕ) (with : Part Head) → i ≢ place → slice_get (set parts place with) i ≡ slice_get parts i
+get-set_other [] i place with other = refl
+get-set_other (first ∷ parts) zero zero with other = absurd (other refl)
+get-set_other (first ∷ parts) zero (suc place) with other = refl
+get-set_other (first ∷ parts) (suc i) zero with other = refl
+get-set_other (first ∷ parts) (suc i) (suc place) with other = get-set_other parts i place with (λ same. other (ap suc same))
+
+pub ends-set : (run : ℕ) (parts : List (Part Head)) (place : ℕ) (with : Part Head) → run ≢ place → EndsRun run parts → EndsRun run (set parts place with)
+ends-set run parts place with other ends part found = ends part (sym (get-set_other parts run place with other) ∙ found)
 
 -- what was given stays so
 pub placed_settled : (given : ℕ) (parts : List (Part Head)) (place : ℕ) (part with : Part Head) → IsSettled given parts → slice_get parts place ≡ Some part → part.head.used ≡ false

@@ -1,6 +1,7 @@
 -- Bytes that are copied piece by piece.
-use Rattle.std.proofs.Common.{◌≡◌, ℕ, zero, suc, ◌+◌, ◌-◌, ◌≤◌, min, List, [], ◌∷◌, ◌++◌, length, take, drop, Some, refl, ap, ◌∙◌, sym, arith, append_assoc}
+use Rattle.std.proofs.Common.{◌≡◌, ℕ, zero, suc, ◌+◌, ◌-◌, ◌<◌, ◌≤◌, min, List, [], ◌∷◌, ◌++◌, length, take, drop, Some, refl, ap, ◌∙◌, sym, arith, append_assoc, inl, inr}
 use Rattle.std.specs.Prelude.{slice_get}
+use Rattle.std.proofs.lemmas.Bool.{cases_lt}
 use Rattle.std.proofs.lemmas.List.{take_at, drop_at, drop-drop, length-append, length-take, drop_all}
 use Rattle.udt_rcv_buffer.specs.declared.head.Head.{Head}
 use Rattle.udt_ring.specs.Parts.{Part, joined}
@@ -29,31 +30,39 @@ drop_at_part [] i part found = absurd cc
 drop_at_part (first ∷ parts) zero part found = let same : first ≡ part = cc in ap (λ (p : Part Head). p ∷ parts) same
 drop_at_part (first ∷ parts) (suc i) part found = let e : suc i + 1 ≡ suc (i + 1) = omega arith in rw e (drop_at_part parts i part found)
 
--- the bytes that are still to come are those of this part and of the others
-pub coming : (parts : List (Part Head)) (i skip left : ℕ) (part : Part Head) (unread : List ℕ) → slice_get parts i ≡ Some part → unread ≡ drop (min skip (length part.bytes)) part.bytes
+-- where bytes are to come, there is a part that has them
+pub part_there : (parts : List (Part Head)) (i : ℕ) → 0 < length (joined (drop i parts)) → i < length parts
+part_there parts i more = elim (cases_lt i (length parts)) [
+  | inl lt ↦ lt
+  | inr past ↦
+      let none : length (joined (drop i parts)) ≡ 0 = rw (drop_all i parts past) refl in
+      absurd (omega (arith, more, none))
+]
+
+-- the bytes from a part on are those of this part and of the others
+joined_at : (parts : List (Part Head)) (i : ℕ) (part : Part Head) → slice_get parts i ≡ Some part → joined (drop i parts) ≡ part.bytes ++ joined (drop (i + 1) parts)
+joined_at parts i part found = ap joined (drop_at_part parts i part found)
+
+pub joined_at_len : (parts : List (Part Head)) (i : ℕ) (part : Part Head) → slice_get parts i ≡ Some part → length (joined (drop i parts)) ≡ length part.bytes + length (joined (drop (i + 1) parts))
+joined_at_len parts i part found =
+    ap (λ (bs : List ℕ). length bs) (joined_at parts i part found) ∙ length-append part.bytes (joined (drop (i + 1) parts))
+
+-- so are those that are still to come ..
+pub coming : (parts : List (Part Head)) (i left : ℕ) (part : Part Head) → slice_get parts i ≡ Some part
+    → take left (joined (drop i parts)) ≡ take (min (length part.bytes) left) part.bytes ++ take (left - min (length part.bytes) left) (joined (drop (i + 1) parts))
+coming parts i left part found =
+    ap (take left) (joined_at parts i part found) ∙ take_parts left part.bytes (joined (drop (i + 1) parts))
+
+-- .. also where some are skipped
+pub coming_skipped : (parts : List (Part Head)) (i skip left : ℕ) (part : Part Head) (unread : List ℕ) → slice_get parts i ≡ Some part → unread ≡ drop (min skip (length part.bytes)) part.bytes
     → take left (drop skip (joined (drop i parts)))
     ≡ take (min (length unread) left) unread ++ take (left - min (length unread) left) (drop (skip - min skip (length part.bytes)) (joined (drop (i + 1) parts)))
-coming parts i skip left part unread found is =
+coming_skipped parts i skip left part unread found is =
     let others = joined (drop (i + 1) parts) in
     let later = drop (skip - min skip (length part.bytes)) others in
-    let all : joined (drop i parts) ≡ part.bytes ++ others = ap joined (drop_at_part parts i part found) in
     let rest : drop skip (joined (drop i parts)) ≡ unread ++ later =
-    rw all (drop_parts skip part.bytes others ∙ ap (λ (bs : List ℕ). bs ++ later) (sym is)) in
+    rw (joined_at parts i part found) (drop_parts skip part.bytes others ∙ ap (λ (bs : List ℕ). bs ++ later) (sym is)) in
     ap (take left) rest ∙ take_parts left unread later
-
--- after the last part nothing comes
-pub none_coming : (parts : List (Part Head)) (i skip left : ℕ) → length parts ≤ i → take left (drop skip (joined (drop i parts))) ≡ []
-none_coming parts i skip left past =
-    let none : drop i parts ≡ [] = drop_all i parts past in
-    rw (none, drop_nil skip) (take_nil left)
-  where
-    drop_nil : (n : ℕ) → drop {A = ℕ} n [] ≡ []
-    drop_nil zero = refl
-    drop_nil (suc n) = refl
-
-    take_nil : (n : ℕ) → take {A = ℕ} n [] ≡ []
-    take_nil zero = refl
-    take_nil (suc n) = refl
 
 -- the room after one more piece
 pub filled_take : (into new piece : List ℕ) (filled n : ℕ) → filled ≤ length into → length piece ≡ n → new ≡ take filled into ++ piece ++ drop (filled + n) into
@@ -73,3 +82,9 @@ pub filled_more : (into new piece coming_now later goal : List ℕ) (filled n : 
     → take filled into ++ coming_now ≡ goal → take (filled + n) new ++ later ≡ goal
 filled_more into new piece coming_now later goal filled n front now is =
     rw front (append_assoc (take filled into) piece later ∙ ap (λ (bs : List ℕ). take filled into ++ bs) (sym now) ∙ is)
+
+-- what isn't filled yet stays as it was
+pub later_same : (into before : List ℕ) (filled count : ℕ) → filled ≤ count → drop filled into ≡ drop filled before → drop count into ≡ drop count before
+later_same into before filled count le same =
+    let more : filled + (count - filled) ≡ count = omega (arith, le) in
+    ap (λ (n : ℕ). drop n into) (sym more) ∙ (sym (drop-drop (count - filled) filled into) ∙ (ap (drop (count - filled)) same ∙ (drop-drop (count - filled) filled before ∙ ap (λ (n : ℕ). drop n before) more)))

@@ -1,17 +1,17 @@
 -- What is kept in mind of parts, when parts change.
-use Rattle.std.proofs.Common.{◌≡◌, ℕ, zero, suc, ◌+◌, ◌-◌, ◌<◌, ◌≤◌, Bool, not, true, false, cond, List, [], ◌∷◌, ◌++◌, length, take, drop, set, get_or, ltb, Some, refl, ap, ◌∙◌, sym, arith, inl, inr}
+use Rattle.std.proofs.Common.{◌≡◌, ℕ, zero, suc, ◌+◌, ◌-◌, ◌<◌, ◌≤◌, Bool, not, true, false, cond, List, [], ◌∷◌, ◌++◌, length, take, drop, set, replicate, get_or, ltb, Some, refl, ap, ◌∙◌, sym, arith, inl, inr}
 use Rattle.std.specs.Prelude.{All, slice_get}
 use Rattle.std.proofs.lemmas.Bool.{cases_lt, lt-ltb, le-ltb, false≢true}
-use Rattle.std.proofs.lemmas.List.{length-set, length-append, take-set-le, drop-set-lt, drop-drop, drop-append-le, take-append-le}
-use Rattle.std.proofs.lemmas.List.Elements.{All-tail, All-get_or, All-more, All-set, All-drop, All-push}
+use Rattle.std.proofs.lemmas.List.{length-set, length-append, length-drop, take-set-le, take-take, take-append-drop, take-append-le, drop-set-lt, drop-drop, drop-append-le, drop-take}
+use Rattle.std.proofs.lemmas.List.Elements.{All-get_or, All-more, All-set, All-drop, All-append, All-replicate}
 use Rattle.std.proofs.lemmas.Option.{slice_get_within, get_or_from_slice_get}
 use Rattle.udt_rcv_buffer.specs.declared.marks.Marks.{Marks}
 use Rattle.udt_rcv_buffer.specs.declared.head.Head.{Head}
 use Rattle.udt_ring.specs.Parts.{Part, joined}
 use Rattle.udt_rcv_buffer.specs.PlacedParts.{consumed_part, IsUsed, IsUnused, IsSettled}
 use Rattle.udt_rcv_buffer.specs.Marked.{IsMarked, EndsRun}
-use Rattle.udt_ring.proofs.JoinedLemmas.{joined_more, joined-set}
-use Rattle.udt_ring.proofs.TurnLemmas.{slice_get-drop, slice_get-take}
+use Rattle.udt_ring.proofs.JoinedLemmas.{joined-append, joined_more, joined-set}
+use Rattle.udt_ring.proofs.TurnLemmas.{slice_get-drop, slice_get-take, slice_get-append_left, length-passed}
 
 -- a part of the run is used
 pub used_at : (parts : List (Part Head)) (run i : ℕ) (part : Part Head) → All IsUsed (take run parts) → i < run → slice_get parts i ≡ Some part → part.head.used ≡ true
@@ -105,40 +105,50 @@ consumed marks new parts i part m found below run bytes top =
       unused = rw (top, drop-set-lt marks.top parts i consumed_part below) m.unused;
     }
 
--- ---- the first part is freed
+-- ---- the first parts are freed
 
-pub freed : (marks new : Marks) (part empty : Part Head) (parts : List (Part Head)) → IsMarked marks (part ∷ parts) → 0 < marks.run → empty.head.used ≡ false
-    → new.run ≡ marks.run - 1 → new.bytes ≡ marks.bytes - length part.bytes → new.top ≡ marks.top - 1 → IsMarked new (parts ++ empty ∷ [])
-freed marks new part empty parts m some unused run bytes top = freed_at new.run new.top (omega (arith, run, some)) (omega (arith, top, some, m.within)) (refl, refl)
-  where
-    freed_at : (r t : ℕ) → marks.run ≡ suc r → marks.top ≡ suc t → (new.run ≡ r) × (new.top ≡ t) → IsMarked new (parts ++ empty ∷ [])
-    freed_at r t is_run is_top same =
-        let len : length (parts ++ empty ∷ []) ≡ length parts + 1 = length-append parts (empty ∷ []) in
-        let top_within : t ≤ length parts = omega (arith, m.top, is_top) in
-        let within : r ≤ length parts = omega (arith, m.within, is_run, is_top, top_within) in
-        let all : All IsUsed (part ∷ take r parts) = rw is_run at m.used in
-        let sum : marks.bytes ≡ length (joined (part ∷ take r parts)) = rw is_run at m.bytes in
-        let back : All IsUnused (drop t parts) = rw is_top at m.unused in
-        record {
-          within = omega (arith, same.0, same.1, is_run, is_top, m.within);
-          used = rw (same.0, take-append-le r parts (empty ∷ []) within) (All-tail IsUsed part (take r parts) all);
-          bytes = rw (same.0, take-append-le r parts (empty ∷ []) within) (omega (arith, bytes, sum, length-append part.bytes (joined (take r parts))));
-          top = omega (arith, same.1, top_within, len);
-          unused = rw (same.1, drop-append-le t parts (empty ∷ []) top_within) (All-push IsUnused (drop t parts) empty back unused);
-        }
+pub freed : (marks new : Marks) (count : ℕ) (empty : Part Head) (parts : List (Part Head)) → IsMarked marks parts → count ≤ marks.run → empty.head.used ≡ false
+    → new.run ≡ marks.run - count → length (joined (take count parts)) + new.bytes ≡ marks.bytes → new.top ≡ marks.top - count
+    → IsMarked new (drop count parts ++ replicate count empty)
+freed marks new count empty parts m few unused run bytes top =
+    let run_back : count + new.run ≡ marks.run = omega (arith, run, few) in
+    let top_back : count + new.top ≡ marks.top = omega (arith, top, few, m.within) in
+    let rest_len = length-drop count parts in
+    let used : take new.run (drop count parts ++ replicate count empty) ≡ drop count (take marks.run parts) =
+    take-append-le new.run (drop count parts) (replicate count empty) (omega (arith, rest_len, run_back, m.within, m.top)) ∙ (sym (drop-take count new.run parts) ∙ ap (λ (n : ℕ). drop count (take n parts)) run_back) in
+    let back : drop new.top (drop count parts ++ replicate count empty) ≡ drop marks.top parts ++ replicate count empty =
+    drop-append-le new.top (drop count parts) (replicate count empty) (omega (arith, rest_len, top_back, m.top)) ∙ ap (λ (ps : List (Part Head)). ps ++ replicate count empty) (drop-drop new.top count parts ∙ ap (λ (n : ℕ). drop n parts) top_back) in
+    let split = ap (λ (ps : List (Part Head)). length (joined ps)) (take-append-drop count (take marks.run parts)) in
+    let both = ap (λ (bs : List ℕ). length bs) (joined-append (take count (take marks.run parts)) (drop count (take marks.run parts))) in
+    let front = ap (λ (ps : List (Part Head)). length (joined ps)) (take-take count marks.run parts few) in
+    let sum = length-append (joined (take count (take marks.run parts))) (joined (drop count (take marks.run parts))) in
+    record {
+      within = omega (arith, run, top, m.within);
+      used = rw used (All-drop IsUsed count (take marks.run parts) m.used);
+      bytes = rw used (omega (arith, bytes, m.bytes, split, both, front, sum));
+      top = omega (arith, top, m.top, length-passed count parts empty (omega (arith, few, m.within, m.top)));
+      unused = rw back (All-append IsUnused (drop marks.top parts) (replicate count empty) m.unused (All-replicate IsUnused count empty unused));
+    }
 
 -- what ends the run still ends it
-pub freed_ends : (run : ℕ) (part empty : Part Head) (parts : List (Part Head)) → EndsRun run (part ∷ parts) → 0 < run → empty.head.used ≡ false → EndsRun (run - 1) (parts ++ empty ∷ [])
-freed_ends zero part empty parts ends some unused other found = absurd (omega (arith, some))
-freed_ends (suc run) part empty parts ends some unused other found =
-    let less : suc run - 1 ≡ run = omega arith in
-    at_end parts run other ends (rw less at found)
+pub freed_ends : (run count : ℕ) (empty : Part Head) (parts : List (Part Head)) → EndsRun run parts → count ≤ run → empty.head.used ≡ false
+    → EndsRun (run - count) (drop count parts ++ replicate count empty)
+freed_ends run count empty parts ends few unused other found =
+    let back : count + (run - count) ≡ run = omega (arith, few) in
+    at_end (drop count parts) (run - count) count other (λ p there. ends p (ap (slice_get parts) (sym back) ∙ (sym (slice_get-drop count (run - count) parts) ∙ there))) found
   where
-    at_end : (ps : List (Part Head)) (r : ℕ) (o : Part Head) → ((p : Part Head) → slice_get ps r ≡ Some p → IsUnused p) → slice_get (ps ++ empty ∷ []) r ≡ Some o → IsUnused o
-    at_end [] zero o ends there = let same : empty ≡ o = cc in rw (← same) unused
-    at_end [] (suc r) o ends there = absurd cc
-    at_end (p ∷ ps) zero o ends there = ends o there
-    at_end (p ∷ ps) (suc r) o ends there = at_end ps r o ends there
+    at_end : (ps : List (Part Head)) (r n : ℕ) (o : Part Head) → ((p : Part Head) → slice_get ps r ≡ Some p → IsUnused p) → slice_get (ps ++ replicate n empty) r ≡ Some o → IsUnused o
+    at_end [] r zero o ends there = absurd cc
+    at_end [] zero (suc n) o ends there = let same : empty ≡ o = cc in rw (← same) unused
+    at_end [] (suc r) (suc n) o ends there = at_end [] r n o (λ p none. absurd cc) there
+    at_end (p ∷ ps) zero n o ends there = ends o there
+    at_end (p ∷ ps) (suc r) n o ends there = at_end ps r n o ends there
+
+-- the first part then is the one after those that were freed
+pub freed_first : (count : ℕ) (empty : Part Head) (parts : List (Part Head)) → count < length parts → slice_get (drop count parts ++ replicate count empty) 0 ≡ slice_get parts count
+freed_first count empty parts more =
+    let place : count + 0 ≡ count = omega arith in
+    slice_get-append_left (drop count parts) (replicate count empty) 0 (omega (arith, more, length-drop count parts)) ∙ (slice_get-drop count 0 parts ∙ ap (slice_get parts) place)
 
 -- ---- what was given
 
@@ -177,8 +187,3 @@ settled_at marks (part ∷ parts) m ends le left = elim (cases_lt 0 marks.run) [
 pub is_true : (b : Bool) → not b ≡ false → b ≡ true
 is_true true h = refl
 is_true false h = absurd (false≢true (sym h))
-
--- the first of some parts
-pub first_of : (parts : List (Part Head)) (part : Part Head) → slice_get parts 0 ≡ Some part → parts ≡ part ∷ drop 1 parts
-first_of [] part found = absurd cc
-first_of (first ∷ parts) part found = let same : first ≡ part = cc in ap (λ (p : Part Head). p ∷ parts) same

@@ -1,10 +1,10 @@
 -- The blocks in a row of parts, as the rising list of placed blocks.
-use Rattle.std.proofs.Common.{◌≡◌, ℕ, zero, suc, ◌+◌, ◌-◌, ◌<◌, ◌≤◌, Bool, true, false, cond, List, [], ◌∷◌, ◌++◌, length, take, set, Some, refl, ap, ◌∙◌, sym, arith, inl, inr}
+use Rattle.std.proofs.Common.{◌≡◌, ℕ, zero, suc, ◌+◌, ◌-◌, ◌<◌, ◌≤◌, Bool, true, false, cond, List, [], ◌∷◌, ◌++◌, length, take, drop, set, Some, refl, ap, ◌∙◌, sym, arith, inl, inr}
 use Rattle.std.proofs.Math.Nat.{add-zero}
 use Rattle.std.specs.Prelude.{All, slice_get}
 use Rattle.std.proofs.lemmas.Bool.{eq-eqb, ne_eqb, lt-ltb, le-ltb, le-leb, lt-leb, cases_Bool}
 use Rattle.std.proofs.lemmas.List.Elements.{All-head, All-tail}
-use Rattle.std.proofs.lemmas.List.{length-set}
+use Rattle.std.proofs.lemmas.List.{length-set, length-append}
 use Rattle.udt_model.specs.ReceiveBlocks.{PlacedBlock, is_taken, put_block, bytes_from, beginning, with_consumed}
 use Rattle.udt_rcv_buffer.specs.declared.head.Head.{Head}
 use Rattle.udt_ring.specs.Parts.{Part, joined}
@@ -152,11 +152,11 @@ bytes_from-run (part ∷ parts) base (suc run) within used ends =
 
 -- ---- where it begins
 
--- a part at the end that isn't used changes nothing
-pub placed_from-append : (parts : List (Part Head)) (base : ℕ) (last : Part Head) → last.head.used ≡ false → placed_from base (parts ++ last ∷ []) ≡ placed_from base parts
+-- parts at the end that aren't used change nothing
+pub placed_from-append : (parts others : List (Part Head)) (base : ℕ) → All IsUnused others → placed_from base (parts ++ others) ≡ placed_from base parts
 unfolding placed_from
-placed_from-append [] base last unused = rw unused refl
-placed_from-append (part ∷ parts) base last unused = rw (placed_from-append parts (base + 1) last unused) refl
+placed_from-append [] others base unused = placed_from-unused others base unused
+placed_from-append (part ∷ parts) others base unused = rw (placed_from-append parts others (base + 1) unused) refl
 
 beginning-above : (blocks : List PlacedBlock) (base given : ℕ) → AreFrom (base + 1) blocks → beginning base given blocks ≡ record { base = base; given = given; placed = blocks }
 unfolding AreFrom beginning
@@ -186,11 +186,26 @@ beginning-settled (part ∷ parts) base given settled =
       | inr unused ↦ beginning-unused part parts base given unused
     ]
 
--- a block that has none left is passed
-pub beginning-passed : (part : Part Head) (parts : List (Part Head)) (base given : ℕ) → part.head.used ≡ true → length part.bytes ≤ given
+-- a block that has none left is passed ..
+beginning-first : (part : Part Head) (parts : List (Part Head)) (base given : ℕ) → part.head.used ≡ true → length part.bytes ≤ given
     → beginning base given (placed_from base (part ∷ parts)) ≡ beginning (base + 1) (given - length part.bytes) (placed_from (base + 1) parts)
 unfolding placed_from beginning
-beginning-passed part parts base given used le = rw (used, eq-eqb base base refl, le-leb (length part.bytes) given le) refl
+beginning-first part parts base given used le = rw (used, eq-eqb base base refl, le-leb (length part.bytes) given le) refl
+
+-- .. and so are all those at the front
+pub beginning-passed : (count : ℕ) (parts : List (Part Head)) (base given left : ℕ) → count ≤ length parts → All IsUsed (take count parts)
+    → length (joined (take count parts)) + left ≡ given
+    → beginning base given (placed_from base parts) ≡ beginning (base + count) left (placed_from (base + count) (drop count parts))
+beginning-passed zero parts base given left within used sum =
+    let here : base + 0 ≡ base = omega arith in
+    let same : given ≡ left = omega (arith, sum) in
+    rw (here, same) refl
+beginning-passed (suc count) [] base given left within used sum = absurd (omega (arith, within))
+beginning-passed (suc count) (part ∷ parts) base given left within used sum =
+    let len = length-append part.bytes (joined (take count parts)) in
+    let moved : base + suc count ≡ base + 1 + count = omega arith in
+    let others = beginning-passed count parts (base + 1) (given - length part.bytes) left (omega (arith, within)) (All-tail IsUsed part (take count parts) used) (omega (arith, sum, len)) in
+    beginning-first part parts base given (All-head IsUsed part (take count parts) used) (omega (arith, sum, len)) ∙ rw moved others
 
 -- ---- steps of consuming
 

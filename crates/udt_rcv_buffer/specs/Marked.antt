@@ -16,3 +16,10 @@ pub record IsMarked (marks : Marks) (parts : List (Part Head)) : Type 0 where
 -- no part that is used follows the run
 abbrev pub EndsRun : ℕ → List (Part Head) → Type 0
 EndsRun run parts = (part : Part Head) → slice_get parts run ≡ Some part → IsUnused part
+
+-- the part at this place is used, and its block has this many bytes
+pub record HasBlock (place len : ℕ) (parts : List (Part Head)) : Type 0 where
+  pub part : Part Head
+  pub found : slice_get parts place ≡ Some part
+  pub used : IsUsed part
+  pub bytes : len ≡ length part.bytes

@@ -1,9 +1,9 @@
 -- The blocks that parts of the memory hold, from the offset of the first part on.
-use Rattle.std.specs.Prelude.{◌≡◌, ℕ, zero, suc, ◌+◌, ◌<◌, ◌≤◌, true, false, List, [], ◌∷◌, length, slice_get, slice_set, Some, if◌then◌else◌}
+use Rattle.std.specs.Prelude.{◌≡◌, ℕ, zero, suc, ◌+◌, ◌<◌, ◌≤◌, true, false, List, [], ◌∷◌, length, take, slice_get, slice_set, Some, if◌then◌else◌}
 use Rattle.udt_model.specs.ReceiveBlocks.{PlacedBlock}
 use Rattle.udt_rcv_buffer.specs.declared.head.TheConstants.{CONSUMED}
 use Rattle.udt_rcv_buffer.specs.declared.head.Head.{Head}
-use Rattle.udt_ring.specs.Parts.{Part}
+use Rattle.udt_ring.specs.Parts.{Part, joined}
 
 -- a block was placed in the part, or its offset was consumed
 abbrev pub IsUsed : Part Head → Type 0
@@ -42,14 +42,9 @@ abbrev pub IsSettled : ℕ → List (Part Head) → Type 0
 IsSettled given [] = given ≡ 0
 IsSettled given (part ∷ parts) = IsGiven given part
 
--- all bytes of the first part were given, which is in the run
-pub record IsPassed (run given len : ℕ) (parts : List (Part Head)) : Type 0 where
-  pub some : 0 < run
-  pub part : Part Head
-  pub found : slice_get parts 0 ≡ Some part
-  pub bytes : len ≡ length part.bytes
-  pub passed : len ≤ given
-
--- bytes of the first part are left to give, where there is a run
-abbrev pub HasLeft : ℕ → ℕ → List (Part Head) → Type 0
-HasLeft run given parts = 0 < run → (part : Part Head) → slice_get parts 0 ≡ Some part → given < length part.bytes
+-- what was given is all bytes of this many first parts, which are in the run, and as many more as are left, fewer than
+-- the run's next part has
+pub record ArePassed (run given count left : ℕ) (parts : List (Part Head)) : Type 0 where
+  pub within : count ≤ run
+  pub bytes : length (joined (take count parts)) + left ≡ given
+  pub next : count < run → (part : Part Head) → slice_get parts count ≡ Some part → left < length part.bytes

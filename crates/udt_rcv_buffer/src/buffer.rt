@@ -101,8 +101,7 @@ impl RcvBuffer {
             flags,
         };
         self.ring.put(place, head, bytes);
-        self.marks.top = self.marks.top.max(place + 1);
-        self.marks.extend(&self.ring);
+        self.marks.add(&self.ring, place, bytes.len());
         Placed::New
     }
 

@@ -1,7 +1,7 @@
 // What is kept in mind of a ring's parts, so that no call has to look for it.
 
-ghost use Rattle.std.specs.Prelude.{◌≤◌, length, IfSome, IfNone};
-ghost use Rattle.udt_rcv_buffer.specs.PlacedParts.{IsPassed, HasLeft};
+ghost use Rattle.std.specs.Prelude.{◌≤◌, length};
+ghost use Rattle.udt_rcv_buffer.specs.PlacedParts.{ArePassed};
 
 use crate::head::{CONSUMED, Head, MISSING};
 use udt_ring::Ring;
@@ -16,27 +16,50 @@ pub struct Marks {
     pub top: usize,
 }
 
-// The bytes of the first part, where it is in the run and all of them were given.
-fn passed(ring: &Ring<Head>, run: usize, given: usize) -> Option<usize>
+// How many of the first parts, within the run, have all their bytes among these many that were given,
+// and how many of the given ones are left then.
+fn passed(ring: &Ring<Head>, run: usize, given: usize) -> (usize, usize)
     requires { run ≤ length ring.now.list }
-    ensures some { IfSome result (λ len. IsPassed run given len ring.now.list) }
-    ensures none { IfNone result (HasLeft run given ring.now.list) }
+    ensures { ArePassed run given result.0 result.1 ring.now.list }
 {
-    if run == 0 {
-        return None;
+    let mut left = given;
+    for count in 0..run {
+        let (_, bytes) = ring.part(count);
+        if bytes.len() > left {
+            return (count, left);
+        }
+        left -= bytes.len();
     }
-    let (_, bytes) = ring.part(0);
-    if bytes.len() > given {
-        return None;
-    }
-    Some(bytes.len())
+    (run, left)
 }
 
 impl Marks {
-    ghost use Rattle.std.specs.Prelude.{◌≡◌, ◌+◌, ◌^◌, ◌<◌, ◌≤◌, max, length, if◌then◌else◌, nat_eq};
+    ghost use Rattle.std.specs.Prelude.{◌≡◌, ◌≢◌, ◌+◌, ◌^◌, ◌<◌, ◌≤◌, max, length, if◌then◌else◌, nat_eq};
     ghost use Rattle.udt_model.specs.ReceiveBlocks.{beginning};
     ghost use Rattle.udt_rcv_buffer.specs.PlacedParts.{placed_from, consume_parts, IsSettled};
-    ghost use Rattle.udt_rcv_buffer.specs.Marked.{IsMarked, EndsRun};
+    ghost use Rattle.udt_rcv_buffer.specs.Marked.{IsMarked, EndsRun, HasBlock};
+    ghost use Rattle.udt_ring.specs.Parts.{joined};
+
+    /// Takes in that the part at this place, which wasn't used, has a block of this many bytes now. Where
+    /// it follows the run, as most do, it is counted without another look at it.
+    pub fn add(&mut self, ring: &Ring<Head>, place: usize, len: usize)
+        requires marked { IsMarked (record self.old { top = max self.old.top (place + 1) }) ring.now.list }
+        requires block { HasBlock place len ring.now.list }
+        requires run { self.old.run ≢ place → EndsRun self.old.run ring.now.list }
+        requires few { length ring.now.list ≤ 2 ^ 32 }
+        requires fits { length (joined ring.now.list) < 2 ^ 64 }
+        ensures marked { IsMarked self.new ring.now.list }
+        ensures run { EndsRun self.new.run ring.now.list }
+        ensures given { self.new.given ≡ self.old.given }
+        ensures top { self.new.top ≡ max self.old.top (place + 1) }
+    {
+        self.top = self.top.max(place + 1);
+        if self.run == place {
+            self.run += 1;
+            self.bytes += len;
+            self.extend(ring);
+        }
+    }
 
     /// Goes on with the run, where it has become longer.
     pub fn extend(&mut self, ring: &Ring<Head>)
@@ -100,18 +123,12 @@ impl Marks {
         ensures len { length ring.new.list ≡ length ring.old.list }
         ensures room { ring.new.room ≡ ring.old.room }
     {
-        // (copies, which stay in registers from part to part)
-        let mut marks = *self;
-        let mut first = *base;
-        while let Some(len) = passed(ring, marks.run, marks.given) {
-            ring.turn(1, MISSING);
-            first += 1;
-            marks.given -= len;
-            marks.run -= 1;
-            marks.bytes -= len;
-            marks.top -= 1;
-        }
-        *self = marks;
-        *base = first;
+        let (count, left) = passed(ring, self.run, self.given);
+        ring.turn(count, MISSING);
+        *base += count as u64;
+        self.run -= count;
+        self.bytes -= self.given - left;
+        self.top -= count;
+        self.given = left;
     }
 }

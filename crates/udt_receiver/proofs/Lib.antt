@@ -1,3 +1,4 @@
 mod ListedOffsets
 mod FirstGap
 mod Blocks
+mod Expected

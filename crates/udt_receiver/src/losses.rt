@@ -1,6 +1,7 @@
 // What a block changes of the packets that are missing, and which of them is the first.
 
-ghost use Rattle.std.specs.Prelude.{◌≡◌, ◌+◌, ◌<◌, ◌≤◌};
+ghost use Rattle.std.specs.Prelude.{◌≡◌, ◌+◌, ◌<◌, ◌≤◌, max};
+ghost use Rattle.udt_model.specs.declared.limits.TheConstants.{PACKET_LIMIT};
 ghost use Rattle.udt_model.specs.ReceiveHalf.{gap_before};
 ghost use Rattle.udt_model.specs.ReceiveReports.{least_missing};
 ghost use Rattle.udt_rcv_loss.specs.Absent.{AllBelow, IsInWindow, first_or};
@@ -9,21 +10,32 @@ ghost use Rattle.udt_model.specs.ReceiveOrder.{missing_then};
 use udt_rcv_loss::RcvLoss;
 
 /// Takes the offset of a block that was placed out of the missing ones, or adds those that it shows to
-/// be missing. Gives the first and the last offset that were added.
-pub(crate) fn note_placed(lost: &mut RcvLoss, top: u64, offset: u64, now: u64) -> Option<(u64, u64)>
-    requires above { AllBelow top lost.old.missing }
-    requires room { offset < first_or top lost.old.missing + lost.old.window }
-    ensures value { result ≡ gap_before top offset }
-    ensures next { lost.new ≡ record lost.old { missing = missing_then top now offset lost.old.missing } }
+/// be missing, and moves the top past it. Gives the first and the last offset that were added.
+pub(crate) fn note_placed(
+    lost: &mut RcvLoss,
+    top: &mut u64,
+    offset: u64,
+    now: u64,
+) -> Option<(u64, u64)>
+    requires above { AllBelow top.old lost.old.missing }
+    requires room { offset < first_or top.old lost.old.missing + lost.old.window }
+    requires limit { offset < PACKET_LIMIT }
+    ensures value { result ≡ gap_before top.old offset }
+    ensures next { lost.new ≡ record lost.old { missing = missing_then top.old now offset lost.old.missing } }
+    ensures top { top.new ≡ max top.old (offset + 1) }
 {
-    if top < offset {
-        lost.add(top, offset - 1, now);
-        return Some((top, offset - 1));
-    }
-    if offset < top {
+    let from = *top;
+    if offset < from {
         lost.remove(offset);
+        return None;
     }
-    None
+    *top = offset + 1;
+    // it came in order, as most do
+    if offset == from {
+        return None;
+    }
+    lost.add(from, offset - 1, now);
+    Some((from, offset - 1))
 }
 
 /// The least offset that is missing, or the top.

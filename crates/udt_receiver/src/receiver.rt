@@ -208,8 +208,7 @@ impl Receiver {
             Placed::New => {}
             placed => return unplaced(placed),
         }
-        let gap = note_placed(&mut self.lost, self.top, offset, now);
-        self.top = self.top.max(offset + 1);
+        let gap = note_placed(&mut self.lost, &mut self.top, offset, now);
         let light = self.fresh + 1 == LIGHT_ACK_COUNT;
         self.fresh = if light { 0 } else { self.fresh + 1 };
         Arrived {
@@ -317,12 +316,24 @@ impl Receiver {
 }
 
 // The offset that a data packet has, unless it is past the limit of packets.
+#[tactic(auto, using(crate::proofs::Expected::near_top))]
 fn offset_of(isn: u32, top: u64, seq: u32) -> Option<u64>
     requires { top ≤ PACKET_LIMIT }
     ensures value { result ≡ within_limit (near_in isn top seq) }
     ensures limit { IfSome result (λ offset. offset < PACKET_LIMIT) }
 {
-    let offset = near(isn, top, seq)?;
+    // packets mostly come in order
+    if seq == seq_of(isn, top) {
+        return below_limit(top);
+    }
+    below_limit(near(isn, top, seq)?)
+}
+
+// The offset, unless it is past the limit of packets.
+fn below_limit(offset: u64) -> Option<u64>
+    ensures value { result ≡ within_limit (Some offset) }
+    ensures limit { IfSome result (λ offset. offset < PACKET_LIMIT) }
+{
     if offset < PACKET_LIMIT {
         Some(offset)
     } else {

@@ -1,17 +1,17 @@
 -- What a ring's parts are, by where they lie.
-use Rattle.std.proofs.Common.{◌≡◌, ℕ, ◌+◌, ◌*◌, ◌^◌, ◌<◌, ◌≤◌, List, ◌++◌, ◌∷◌, length, take, drop, set, [], Some, refl, ap, ◌∙◌, arith, inl, inr}
+use Rattle.std.proofs.Common.{◌≡◌, ℕ, ◌+◌, ◌*◌, ◌^◌, ◌<◌, ◌≤◌, List, ◌++◌, ◌∷◌, length, take, drop, set, [], Some, refl, ap, ◌∙◌, sym, arith, inl, inr}
 use Rattle.std.specs.Prelude.{slice_get, All, option_map}
 use Rattle.std.proofs.lemmas.Bool.{cases_lt, lt-ltb, le-ltb}
-use Rattle.std.proofs.lemmas.List.{length-take, length-drop, length-append, length-map, length-set, map-set}
-use Rattle.std.proofs.lemmas.List.Elements.{All-append, All-take, All-drop, All-get_or}
+use Rattle.std.proofs.lemmas.List.{append-nil, length-take, length-drop, length-append, length-map, length-set, map-set}
+use Rattle.std.proofs.lemmas.List.Elements.{All-set, All-append, All-take, All-drop, All-get_or}
 use Rattle.std.proofs.lemmas.Option.{slice_get-map, get_or_from_slice_get, slice_get_within}
 use Rattle.udt_ring.specs.declared.ring.Place.{Place}
 use Rattle.udt_ring.specs.declared.ring.Ring.TheInside.{Inside}
 use Rattle.udt_ring.specs.Parts.{Part, turned, joined, empty_part}
-use Rattle.udt_ring.specs.Rings.{following, part_in, parts_in, parts_of, slots_of, AreShort, AreSlots, IsRing}
-use Rattle.udt_ring.proofs.TurnLemmas.{get-turned-before, get-turned-following, set-turned-before, set-turned-following, turned-before, turned-following, turned_first}
+use Rattle.udt_ring.specs.Rings.{following, part_in, parts_in, parts_of, slots_of, AreShort, AreSlots, Empties, IsRing}
+use Rattle.udt_ring.proofs.TurnLemmas.{get-turned-before, get-turned-following, set-turned-before, set-turned-following, turned-before, turned-following, turned_first, passed_more}
 use Rattle.udt_ring.proofs.PartLemmas.{slot_before, written-parts_in, parts_in-short}
-use Rattle.udt_ring.proofs.SlotLemmas.{slot_below, slots_apart}
+use Rattle.udt_ring.proofs.SlotLemmas.{slot_below, slots_apart, slots_of-set}
 use Rattle.udt_ring.proofs.JoinedLemmas.{joined_fits}
 
 -- a list that begins later is as long
@@ -63,7 +63,7 @@ put_is {H = H} room memory places first i head bytes place is short slots begin 
     ap (turned first) written ∙ rw len at changed
 
 -- emptying the first part, and turning past it
-pub pass_is : {H : Type 0} (room : ℕ) (memory : List ℕ) (places : List (Place H)) (first : ℕ) (head : H) (slot : ℕ) → first < length places
+pass_is : {H : Type 0} (room : ℕ) (memory : List ℕ) (places : List (Place H)) (first : ℕ) (head : H) (slot : ℕ) → first < length places
     → turned (following first 1 (length places)) (parts_in room memory (set places first (record { head = head; len = 0; slot = slot })))
     ≡ drop 1 (turned first (parts_in room memory places)) ++ empty_part head ∷ []
 pass_is {H = H} room memory places first head slot lt =
@@ -81,6 +81,40 @@ pass_is {H = H} room memory places first head slot lt =
   where
     following_none : (at count : ℕ) → at < count → following at 0 count ≡ at
     following_none at count below = let e : at + 0 ≡ at = omega arith in rw (e, lt-ltb at count below) refl
+
+-- no part is emptied yet
+pub empties_none : {H : Type 0} (head : H) (first : ℕ) (places : List (Place H)) → first < length places → Empties 0 head first first places places
+empties_none {H = H} head first places lt = record {
+  parts = λ room memory. let all : List (Part H) = turned first (parts_in room memory places) in sym (append-nil all);
+  short = λ room short. short;
+  slots = λ slots. slots;
+  within = lt;
+}
+
+-- the part of the next place is emptied too
+pub empties_more : {H : Type 0} (i : ℕ) (head : H) (first next : ℕ) (old new : List (Place H)) (place : Place H) → i < length old → first < length old
+    → slice_get new next ≡ Some place → Empties i head first next old new
+    → Empties (i + 1) head first (following next 1 (length new)) old (set new next (record { head = head; len = 0; slot = place.slot }))
+empties_more {H = H} i head first next old new place lt begin found emptied =
+    let with : Place H = record { head = head; len = 0; slot = place.slot } in
+    let len = length-set new next with in
+    record {
+      parts = λ room memory.
+          let all = parts_in room memory old in
+          let within : i < length (turned first all) = omega (arith, lt, begin, length-turned first all (omega (arith, begin, length-map old (part_in room memory))), length-map old (part_in room memory)) in
+          pass_is room memory new next head place.slot emptied.within
+          ∙ ap (λ (ps : List (Part H)). drop 1 ps ++ empty_part head ∷ []) (emptied.parts room memory)
+          ∙ passed_more i (turned first all) (empty_part head) within;
+      short = λ room short. All-set (λ (p : Place H). p.len ≤ room) new next with (omega arith) (emptied.short room short);
+      slots = λ are. rw (slots_of-set new next place head 0 found) (emptied.slots are);
+      within = omega (arith, len, following_within next (length new) emptied.within);
+    }
+  where
+    following_within : (at count : ℕ) → at < count → following at 1 count < count
+    following_within at count below = elim (cases_lt (at + 1) count) [
+      | inl before ↦ rw (lt-ltb (at + 1) count before) before
+      | inr past ↦ rw (le-ltb (at + 1) count past) (omega (arith, past, below))
+    ]
 
 module _ {H : Type 0} (r : Inside H) (ring : IsRing r) where
   -- there are as many parts as places

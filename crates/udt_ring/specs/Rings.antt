@@ -1,8 +1,8 @@
 -- How parts lie in memory.
-use Rattle.std.specs.Prelude.{◌≡◌, ◌≢◌, ℕ, ◌+◌, ◌-◌, ◌*◌, ◌^◌, ◌<◌, ◌≤◌, max, nat_lt, List, map, take, drop, length, All, AllPairs, if◌then◌else◌}
+use Rattle.std.specs.Prelude.{◌≡◌, ◌≢◌, ℕ, ◌+◌, ◌-◌, ◌*◌, ◌^◌, ◌<◌, ◌≤◌, max, nat_lt, List, ◌++◌, map, take, drop, replicate, length, All, AllPairs, if◌then◌else◌}
 use Rattle.udt_ring.specs.declared.ring.Place.{Place}
 use Rattle.udt_ring.specs.declared.ring.Ring.TheInside.{Inside}
-use Rattle.udt_ring.specs.Parts.{Part, Parts, turned}
+use Rattle.udt_ring.specs.Parts.{Part, Parts, turned, empty_part}
 
 -- the place that is this many after this one, of this many, where the first comes again after the last
 abbrev pub following : ℕ → ℕ → ℕ → ℕ
@@ -35,6 +35,13 @@ module _ {H : Type 0} where
     pub parts : (room : ℕ) (memory : List ℕ) → parts_in room memory new ≡ parts_in room memory old
     pub short : (room : ℕ) → AreShort room old → AreShort room new
     pub slots : AreSlots (slots_of old) → AreSlots (slots_of new)
+
+  -- this many parts from one place on are emptied and have this head then, and the next place is the one after them
+  pub record Empties (by : ℕ) (head : H) (first next : ℕ) (old new : List (Place H)) : Type 0 where
+    pub parts : (room : ℕ) (memory : List ℕ) → turned next (parts_in room memory new) ≡ drop by (turned first (parts_in room memory old)) ++ replicate by (empty_part head)
+    pub short : (room : ℕ) → AreShort room old → AreShort room new
+    pub slots : AreSlots (slots_of old) → AreSlots (slots_of new)
+    pub within : next < length new
 
   -- the parts of a ring, from the first one on
   abbrev pub parts_of : Inside H → Parts H

@@ -4,7 +4,7 @@
 // slot that was emptied lately, which the processor still has at hand.
 
 ghost use Rattle.std.specs.Prelude.{◌≡◌, ◌+◌, ◌*◌, ◌^◌, ◌<◌, ◌≤◌, ◌++◌, length, take, drop, slice_get, replicate, Some, IfOk};
-ghost use Rattle.udt_ring.specs.Rings.{KeepsParts};
+ghost use Rattle.udt_ring.specs.Rings.{following, KeepsParts, Empties};
 
 use std::alloc::{AllocError, Global};
 use std::marker::Model;
@@ -78,12 +78,44 @@ fn take_slot<H: Copy>(places: &mut [Place<H>], at: usize, hot: usize) -> usize
         places[at].slot = hinted.slot;
         places[hot].slot = place.slot;
     }
-    if hot == 0 { places.len() - 1 } else { hot - 1 }
+    previous_place(hot, places.len())
+}
+
+// Empties the parts of this many places from the first one on, which then have this head. The result
+// is the place after the last of them.
+fn empty<H: Copy>(places: &mut [Place<H>], first: usize, by: usize, head: H) -> usize
+    requires first { first < length places.old }
+    requires by { by ≤ length places.old }
+    ensures { Empties by head first result places.old places.new }
+{
+    let mut at = first;
+    for passed in 0..by {
+        let slot = places[at].slot;
+        places[at] = Place { head, len: 0, slot };
+        at = next_place(at, places.len());
+    }
+    at
+}
+
+// The place after this one, of this many.
+fn next_place(place: usize, places: usize) -> usize
+    requires { place < places }
+    ensures { result ≡ following place 1 places }
+{
+    let next = place + 1;
+    if next < places { next } else { 0 }
+}
+
+// The place before this one, of this many.
+fn previous_place(place: usize, places: usize) -> usize
+    requires { place < places }
+    ensures { result < places }
+{
+    if place == 0 { places - 1 } else { place - 1 }
 }
 
 impl<H: Copy> Ring<H> {
     ghost use Rattle.udt_ring.specs.Parts.{empty_part, joined, with_part, turned_by};
-    ghost use Rattle.udt_ring.specs.Rings.{following};
 
     /// This many parts with room for this many bytes each, of which each has this head and no bytes yet.
     pub fn new(alloc: Global, count: u32, room: u32, head: H) -> Result<Ring<H>, AllocError>
@@ -130,14 +162,15 @@ impl<H: Copy> Ring<H> {
     pub fn put(&mut self, i: usize, head: H, bytes: &[u8])
         requires within { i < length self.old.list }
         requires room { length bytes.now ≤ self.old.room }
-        ensures { self.new ≡ with_part self.old i head bytes.now }
+        ensures next { self.new ≡ with_part self.old i head bytes.now }
+        ensures fits { length (joined self.new.list) < 2 ^ 64 }
     {
         let at = Self::place_after(self.first, i, self.places.len());
         self.hot = take_slot(&mut self.places, at, self.hot);
         let slot = self.places[at].slot;
-        write(&mut self.memory, slot as usize * self.room, bytes);
         let len = bytes.len() as u32;
         self.places[at] = Place { head, len, slot };
+        write(&mut self.memory, slot as usize * self.room, bytes);
     }
 
     /// Lets the ring begin this many parts later: those before come after all others, with this head
@@ -146,21 +179,12 @@ impl<H: Copy> Ring<H> {
         requires { by ≤ length self.old.list }
         ensures { self.new ≡ turned_by by head self.old }
     {
-        for passed in 0..by {
-            self.pass(head);
+        if by == 0 {
+            return;
         }
-    }
-
-    // Lets the ring begin one part later.
-    fn pass(&mut self, head: H)
-        requires { 0 < length self.old.list }
-        ensures { self.new ≡ turned_by 1 head self.old }
-    {
-        let at = self.first;
-        let slot = self.places[at].slot;
-        self.places[at] = Place { head, len: 0, slot };
-        self.first = Self::place_after(at, 1, self.places.len());
-        self.hot = at;
+        let next = empty(&mut self.places, self.first, by, head);
+        self.hot = previous_place(next, self.places.len());
+        self.first = next;
     }
 
     // The place that is this many after this one, of this many.

@@ -1,6 +1,7 @@
 // What a datagram that arrives does.
 
 ghost use Rattle.std.specs.Prelude.{◌≡◌, ℕ, [], ◌++◌, ◌≤◌, length, true};
+ghost use Rattle.udt_model.specs.Addresses.{same_addr};
 ghost use Rattle.udt_model.specs.Step.{step};
 ghost use Rattle.udt_model.specs.Events.{Arrive, DidHear, at_moment, event, outs_of};
 ghost use Rattle.udt_model.specs.Arrivals.{on_read, heard_now, is_own as comes_from_peer, heard_of, count_placing as count_as, count_malformed, count_foreign, packet_in, on_own as own_arrives, on_block as block_arrives, arrived_so, on_ack as ack_arrives, on_nak as nak_arrives, on_ack2 as ack2_arrives, emitted_by_ack2, emitted_by_gap, emitted_by_light, on_control as control_arrives, on_stale as stale_arrives};
@@ -31,17 +32,19 @@ impl<C: Control> Socket<C> {
         ensures stale { result ≡ Heard.Stale → ChangesExpAlone (at_moment self.old now) self.new }
         ensures bad_length { result ≡ Heard.BadLength → ChangesExpAlone (at_moment self.old now) self.new }
     {
+        let known = from.is_same(self.peer.addr);
         outs.clear();
         self.at(now);
         match read_block(bytes) {
-            Some(block) => self.on_block_packet(from, &block, outs),
-            None => self.on_other(from, bytes, outs),
+            Some(block) => self.on_block_packet(from, known, &block, outs),
+            None => self.on_other(from, known, bytes, outs),
         }
     }
 
-    // Bytes that spell no block. They go their way apart, so that a block's has no room for other packets.
-    #[inline(never)]
-    fn on_other(&mut self, from: Addr, bytes: &[u8], outs: &mut Outs) -> Heard
+    // Bytes that spell no block. Whether they come from the peer's address is known already.
+    #[inline(always)]
+    fn on_other(&mut self, from: Addr, known: bool, bytes: &[u8], outs: &mut Outs) -> Heard
+        requires known { known ≡ same_addr from self.old.peer.addr }
         requires empty { outs.old ≡ [] }
         requires no_block { ¬ SpellsBlock bytes.now }
         ensures reply { DidHear result ≡ (on_read C.ways self.old from (wire_read bytes.now)).reply }
@@ -59,12 +62,14 @@ impl<C: Control> Socket<C> {
                 self.counters.malformed = risen(self.counters.malformed);
                 Heard::Malformed(why)
             }
-            Ok(packet) => self.on_packet(from, packet, outs),
+            Ok(packet) => self.on_packet(from, known, packet, outs),
         }
     }
 
     // A packet that is no block. A socket that isn't connected takes nothing in.
-    fn on_packet(&mut self, from: Addr, packet: Packet, outs: &mut Outs) -> Heard
+    #[inline(always)]
+    fn on_packet(&mut self, from: Addr, known: bool, packet: Packet, outs: &mut Outs) -> Heard
+        requires known { known ≡ same_addr from self.old.peer.addr }
         requires empty { outs.old ≡ [] }
         requires no_block { ¬ IsBlock (packet_of packet) }
         ensures reply { DidHear result
@@ -78,7 +83,7 @@ impl<C: Control> Socket<C> {
             Phase::Connected => {}
             Phase::Broken(_) | Phase::Closing | Phase::Closed => return self.on_stale(),
         }
-        if !self.is_own(from, &packet) {
+        if !self.is_own(from, known, &packet) {
             return self.on_foreign();
         }
         self.note_arrival();
@@ -87,20 +92,27 @@ impl<C: Control> Socket<C> {
 
     // The packet of a block, which most packets are: it goes the way of `on_packet`, and no other kind is
     // looked for.
-    fn on_block_packet(&mut self, from: Addr, block: &BlockPacket, outs: &mut Outs) -> Heard
+    fn on_block_packet(
+        &mut self,
+        _from: Addr,
+        known: bool,
+        block: &BlockPacket,
+        outs: &mut Outs,
+    ) -> Heard
+        requires known { known ≡ same_addr _from self.old.peer.addr }
         requires empty { outs.old ≡ [] }
         ensures reply { DidHear result
-            ≡ (packet_in C.ways self.old from (block_packet_of block.now) self.old.phase).reply }
+            ≡ (packet_in C.ways self.old _from (block_packet_of block.now) self.old.phase).reply }
         ensures after { self.new
-            ≡ (packet_in C.ways self.old from (block_packet_of block.now) self.old.phase).after }
+            ≡ (packet_in C.ways self.old _from (block_packet_of block.now) self.old.phase).after }
         ensures outs { outs.new
-            ≡ outs_of (packet_in C.ways self.old from (block_packet_of block.now) self.old.phase) }
+            ≡ outs_of (packet_in C.ways self.old _from (block_packet_of block.now) self.old.phase) }
     {
         match self.phase {
             Phase::Connected => {}
             Phase::Broken(_) | Phase::Closing | Phase::Closed => return self.on_stale(),
         }
-        if !from.is_same(self.peer.addr) || block.dest != self.own {
+        if !known || block.dest != self.own {
             return self.on_foreign();
         }
         self.note_arrival();
@@ -118,10 +130,11 @@ impl<C: Control> Socket<C> {
 
     // The packet comes from the peer and is for this socket. A handshake may name another
     // destination.
-    fn is_own(&self, from: Addr, packet: &Packet) -> bool
-        ensures { result ≡ comes_from_peer self.now from (packet_of packet.now) }
+    fn is_own(&self, _from: Addr, known: bool, packet: &Packet) -> bool
+        requires { known ≡ same_addr _from self.now.peer.addr }
+        ensures { result ≡ comes_from_peer self.now _from (packet_of packet.now) }
     {
-        from.is_same(self.peer.addr) && (packet.is_handshake() || packet.destination() == self.own)
+        known && (packet.is_handshake() || packet.destination() == self.own)
     }
 
     // The socket has heard of its peer now.
@@ -133,7 +146,9 @@ impl<C: Control> Socket<C> {
         self.exp_count = 1;
     }
 
-    // A packet from the peer that is no block. No use is made of drop requests and handshakes yet.
+    // A packet from the peer that is no block. No use is made of drop requests and handshakes yet. It goes its
+    // way apart, so that a block's has no room for other packets.
+    #[inline(never)]
     fn on_own(&mut self, packet: Packet, outs: &mut Outs) -> Heard
         requires empty { outs.old ≡ [] }
         requires no_block { ¬ IsBlock (packet_of packet) }

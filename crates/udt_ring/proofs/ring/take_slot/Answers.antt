@@ -14,8 +14,5 @@ keeps g c = elim c.if-hinted-eq0.branch [
   | else-hinted-eq0 w ↦ rw w.places-is (kept c.args.places.now)
 ]
 
-pub returns-then-hot-eq0-clause-kept : goal.returns-then-hot-eq0-clause-kept
-returns-then-hot-eq0-clause-kept g c = keeps g ((goal.at.returns-then-hot-eq0-clause-kept g c).Joined-hinted-eq0)
-
-pub returns-else-hot-eq0-clause-kept : goal.returns-else-hot-eq0-clause-kept
-returns-else-hot-eq0-clause-kept g c = keeps g ((goal.at.returns-else-hot-eq0-clause-kept g c).Joined-hinted-eq0)
+pub returns-clause-kept : goal.returns-clause-kept
+returns-clause-kept g c = keeps g ((goal.at.returns-clause-kept g c).Joined-hinted-eq0)

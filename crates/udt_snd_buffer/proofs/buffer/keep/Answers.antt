@@ -17,7 +17,7 @@ loop-i-preserved c =
     let payload = c.args.payload in
     let front : c.split_at.result.0.now ≡ take payload rest = rw (c.split_at.ensures.front, c.min.ensures) (take_min payload rest) in
     let back : c.split_at.result.1.now ≡ drop payload rest = rw (c.split_at.ensures.back, c.min.ensures) (drop_min payload rest) in
-    let list = ap (λ (p : Parts Head). p.list) c.put.ensures in
+    let list = ap (λ (p : Parts Head). p.list) c.put.ensures.next in
     let place : c.args.kept + (c.loop-i.i + 1) ≡ c.args.kept + c.loop-i.i + 1 = omega arith in
     let offset : c.args.offset + (c.loop-i.i + 1) ≡ c.args.offset + c.loop-i.i + 1 = omega arith in
     let lt : c.args.kept + c.loop-i.i < length c.loop-i.ring.list = omega (arith, i.len, c.requires.free, c.loop-i-test.true) in
@@ -25,7 +25,7 @@ loop-i-preserved c =
     record {
       kept = rw (list, back, place, offset, front) (keeps_one _ payload (c.args.offset + c.loop-i.i) (c.args.count - c.loop-i.i) _ _ c.loop-i.ring.list _ rest lt more refl ∙ i.kept);
       len = rw list (length-set c.loop-i.ring.list (c.args.kept + c.loop-i.i) _ ∙ i.len);
-      room = ap (λ (p : Parts Head). p.room) c.put.ensures ∙ i.room;
+      room = ap (λ (p : Parts Head). p.room) c.put.ensures.next ∙ i.room;
     }
 
 -- none is left

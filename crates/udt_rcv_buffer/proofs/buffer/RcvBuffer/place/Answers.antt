@@ -10,7 +10,7 @@ use Rattle.udt_rcv_buffer.specs.PlacedParts.{placed_from}
 use Rattle.udt_rcv_buffer.specs.Buffers.{received_of}
 use Rattle.udt_rcv_buffer.proofs.PlacedLemmas.{is_taken-part, put_block-part}
 use Rattle.udt_rcv_buffer.proofs.ReceivedLemmas.{placing-below, placing-above, placing-within, after_place-is}
-use Rattle.udt_rcv_buffer.proofs.BufferLemmas.{placed_marked, placed_settled}
+use Rattle.udt_rcv_buffer.proofs.BufferLemmas.{placed_marked, placed_settled, get-set, ends-set}
 use Rattle.udt_rcv_buffer.proofs.buffer.RcvBuffer.place.Goals as goal
 use Rattle.udt_rcv_buffer.proofs.buffer.RcvBuffer.place.Goals.{Then-offset-self, Then-offset-self-2, Then-head, Else-head}
 
@@ -62,10 +62,20 @@ new c =
     let is = taken b.base c.args.offset b.ring.list _ c.if-offset-self.false c.part.ensures.value ∙ c.if-head.false in
     rw (← c.self.view_is) (placing-within (received_of b) c.args.offset false c.if-offset-self.false (omega (arith, c.if-offset-self.false, c.if-offset-self-2.false, c.count.ensures.value)) is)
 
-pub extend-requires : goal.extend-requires
-extend-requires c =
-    let list = ap (λ (ps : Parts Head). ps.list) c.put.ensures in
-    rw list (placed_marked c.self.inside.marks _ c.self.inside.ring.list (c.args.offset - c.self.inside.base) _ _ c.self.invariant.marked c.part.ensures.value c.if-head.false refl refl c.max-self-inside.ensures)
+pub add-requires : goal.add-requires
+add-requires c =
+    let b = c.self.inside in
+    let place = c.args.offset - b.base in
+    let with : Part Head = record { head = record { used = true; consumed = false; flags = c.args.flags }; bytes = c.args.bytes.now } in
+    let list = ap (λ (ps : Parts Head). ps.list) c.put.ensures.next in
+    let within = slice_get_within b.ring.list place _ c.part.ensures.value in
+    record {
+      marked = rw list (placed_marked b.marks _ b.ring.list place _ with c.self.invariant.marked c.part.ensures.value c.if-head.false refl refl refl);
+      block = record { part = with; found = rw list (get-set b.ring.list place with within); used = refl; bytes = refl };
+      run = λ other. rw list (ends-set b.marks.run b.ring.list place with other c.self.invariant.run);
+      few = rw (list, length-set b.ring.list place with) c.self.invariant.few;
+      fits = c.put.ensures.fits;
+    }
 
 pub invariant_of-self : goal.invariant_of-self
 invariant_of-self c =
@@ -73,14 +83,14 @@ invariant_of-self c =
     let i = c.self.invariant in
     let place = c.args.offset - b.base in
     let part : Part Head = record { head = record { used = true; consumed = false; flags = c.args.flags }; bytes = c.args.bytes.now } in
-    let list = ap (λ (ps : Parts Head). ps.list) c.put.ensures in
+    let list = ap (λ (ps : Parts Head). ps.list) c.put.ensures.next in
     let len = length-set b.ring.list place part in
     record {
       few = rw (list, len) i.few;
-      marked = c.extend.ensures.marked;
-      run = c.extend.ensures.run;
-      settled = rw (list, c.extend.ensures.given) (placed_settled b.marks.given b.ring.list place _ part i.settled c.part.ensures.value c.if-head.false refl c.requires.some);
-      limit = omega (arith, i.limit, c.extend.ensures.top, c.max-self-inside.ensures, c.requires.limit, c.if-offset-self.false);
+      marked = c.add.ensures.marked;
+      run = c.add.ensures.run;
+      settled = rw (list, c.add.ensures.given) (placed_settled b.marks.given b.ring.list place _ part i.settled c.part.ensures.value c.if-head.false refl c.requires.some);
+      limit = omega (arith, i.limit, c.add.ensures.top, c.requires.limit, c.if-offset-self.false);
     }
 
 pub returns-clause-value : goal.returns-clause-value
@@ -89,11 +99,11 @@ returns-clause-value c = rw (new ((goal.at.returns-clause-value c).Else-head)) r
 pub returns-clause-next : goal.returns-clause-next
 returns-clause-next c =
     let b = c.self.inside in
-    let list = ap (λ (ps : Parts Head). ps.list) c.put.ensures in
-    let room = ap (λ (ps : Parts Head). ps.room) c.put.ensures in
+    let list = ap (λ (ps : Parts Head). ps.list) c.put.ensures.next in
+    let room = ap (λ (ps : Parts Head). ps.room) c.put.ensures.next in
     let place = c.args.offset - b.base in
     let part : Part Head = record { head = record { used = true; consumed = false; flags = c.args.flags }; bytes = c.args.bytes.now } in
     let again : b.base + place ≡ c.args.offset = omega (arith, c.if-offset-self.false) in
     let put = rw again at (put_block-part b.ring.list b.base place part (slice_get_within b.ring.list place _ c.part.ensures.value) refl) in
     let len = length-set b.ring.list place part in
-    rw (after_place-is c.args.self.now c.args.offset c.args.flags c.args.bytes.now placing.New (new ((goal.at.returns-clause-next c).Else-head)), list, room, len, c.extend.ensures.given, ← put, ← c.self.view_is) refl
+    rw (after_place-is c.args.self.now c.args.offset c.args.flags c.args.bytes.now placing.New (new ((goal.at.returns-clause-next c).Else-head)), list, room, len, c.add.ensures.given, ← put, ← c.self.view_is) refl

@@ -41,13 +41,13 @@ loop-i-preserved c =
       | then-place-self w ↦ rw (w.self-is, lt-ltb at c.loop-i.self.run w.if-place-self.true) refl
       | else-place-self w ↦ rw (w.self-is, le-ltb at c.loop-i.self.run w.if-place-self.false) refl
     ] in
-    let list = ap (λ (p : Parts Head). p.list) c.put.ensures in
+    let list = ap (λ (p : Parts Head). p.list) c.put.ensures.next in
     let run = ap (λ (m : Marks). m.run) bytes in
     let len = ap (λ (m : Marks). m.bytes) bytes in
     let top = ap (λ (m : Marks). m.top) bytes in
     record {
       list = rw (list, i.list) (consume_more c.args.at c.loop-i.i c.args.ring.now.list);
-      room = ap (λ (p : Parts Head). p.room) c.put.ensures ∙ i.room;
+      room = ap (λ (p : Parts Head). p.room) c.put.ensures.next ∙ i.room;
       marked = rw list (consumed c.loop-i.self _ c.loop-i.ring.list at _ i.marked c.part.ensures.value (omega (arith, i.top, c.loop-i-test.true)) run len top);
       given = ap (λ (m : Marks). m.given) bytes ∙ i.given;
       top = top ∙ i.top;

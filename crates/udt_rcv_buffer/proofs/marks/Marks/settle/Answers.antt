@@ -1,40 +1,63 @@
-use Rattle.std.proofs.Common.{◌≡◌, ◌+◌, ◌≤◌, List, [], ◌∷◌, ◌++◌, length, drop, ap, refl, ◌∙◌, arith}
-use Rattle.std.proofs.lemmas.List.{length-append}
+use Rattle.std.proofs.Common.{◌≡◌, ◌+◌, ◌-◌, ◌<◌, ◌≤◌, ◌++◌, length, take, drop, replicate, Some, ap, ◌∙◌, sym, refl, arith}
+use Rattle.std.specs.Prelude.{slice_get}
+use Rattle.udt_model.specs.ReceiveBlocks.{beginning}
+use Rattle.std.proofs.lemmas.List.Elements.{All-replicate, All-take}
+use Rattle.std.proofs.lemmas.List.{take-take}
 use Rattle.udt_rcv_buffer.specs.declared.head.TheConstants.{MISSING}
 use Rattle.udt_rcv_buffer.specs.declared.head.Head.{Head}
-use Rattle.udt_ring.specs.Parts.{Part, Parts}
-use Rattle.udt_rcv_buffer.proofs.MarkLemmas.{first_of, used_at, freed, freed_ends, settled_at}
+use Rattle.udt_ring.specs.Parts.{Part, Parts, empty_part}
+use Rattle.udt_ring.proofs.TurnLemmas.{length-passed}
+use Rattle.udt_rcv_buffer.specs.PlacedParts.{placed_from, IsUsed, IsUnused}
+use Rattle.udt_rcv_buffer.proofs.MarkLemmas.{freed, freed_ends, freed_first, settled_at}
 use Rattle.udt_rcv_buffer.proofs.PlacedLemmas.{beginning-passed, beginning-settled, placed_from-append}
 use Rattle.udt_rcv_buffer.proofs.marks.Marks.settle.Goals as goal
+use Rattle.udt_rcv_buffer.proofs.marks.Marks.settle.Goals.{After-turn}
 
-pub loop-len-preserved : goal.loop-len-preserved
-loop-len-preserved c =
-    let i = c.loop-len.invariant in
-    let p = c.in-Some.ensures.some in
-    let parts = c.loop-len.ring.list in
-    let part : Part Head = p.part in
-    let empty : Part Head = record { head = MISSING; bytes = [] } in
-    let new : c.turn.new.self.list ≡ drop 1 parts ++ empty ∷ [] = ap (λ (ps : Parts Head). ps.list) c.turn.ensures in
-    let first = first_of parts part p.found in
-    let used = used_at parts c.loop-len.marks.run 0 part i.marked.used p.some p.found in
-    let le : length part.bytes ≤ c.loop-len.marks.given = omega (arith, p.bytes, p.passed) in
-    let passed = beginning-passed part (drop 1 parts) c.loop-len.first c.loop-len.marks.given used le in
-    let within = i.marked.within in
-    let others = placed_from-append (drop 1 parts) (c.loop-len.first + 1) empty refl in
-    record {
-      front = i.front ∙ rw first (rw (← first) (rw (new, others, p.bytes, first) passed));
-      marked = rw (new, p.bytes) (freed c.loop-len.marks _ part empty (drop 1 parts) (rw first at i.marked) p.some refl refl refl refl);
-      run = rw new (freed_ends c.loop-len.marks.run part empty (drop 1 parts) (rw first at i.run) p.some refl);
-      given = omega (arith, i.given);
-      limit = omega (arith, i.limit, within, p.some);
-      len = rw new (omega (arith, i.len, ap (λ (ps : List (Part Head)). length ps) first, length-append (drop 1 parts) (empty ∷ [])));
-      room = ap (λ (ps : Parts Head). ps.room) c.turn.ensures ∙ i.room;
-    }
+-- the parts then
+parts_then : (c : After-turn) → c.turn.new.self.list ≡ drop c.passed-count.result.0 c.args.ring.now.list ++ replicate c.passed-count.result.0 (empty_part MISSING)
+parts_then c = ap (λ (ps : Parts Head). ps.list) c.turn.ensures
+
+-- no part is passed that isn't there
+within : (c : After-turn) → c.passed-count.result.0 ≤ length c.args.ring.now.list
+within c = omega (arith, c.passed-count.ensures.within, c.requires.marked.within, c.requires.marked.top)
+
+pub returns-clause-marked : goal.returns-clause-marked
+returns-clause-marked c =
+    let p = c.passed-count.ensures in
+    rw (parts_then ((goal.at.returns-clause-marked c).After-turn)) (freed c.args.self.now _ c.passed-count.result.0 (empty_part MISSING) c.args.ring.now.list c.requires.marked p.within refl refl (omega (arith, p.bytes, c.requires.given)) refl)
+
+pub returns-clause-run : goal.returns-clause-run
+returns-clause-run c =
+    rw (parts_then ((goal.at.returns-clause-run c).After-turn)) (freed_ends c.args.self.now.run c.passed-count.result.0 (empty_part MISSING) c.args.ring.now.list c.requires.run c.passed-count.ensures.within refl)
+
+pub returns-clause-len : goal.returns-clause-len
+returns-clause-len c =
+    let here = (goal.at.returns-clause-len c).After-turn in
+    rw (parts_then here) (length-passed c.passed-count.result.0 c.args.ring.now.list (empty_part MISSING) (within here))
+
+pub returns-clause-room : goal.returns-clause-room
+returns-clause-room c = ap (λ (ps : Parts Head). ps.room) c.turn.ensures
 
 pub returns-clause-settled : goal.returns-clause-settled
-returns-clause-settled c = let i = c.loop-len.invariant in settled_at c.loop-len.marks c.loop-len.ring.list i.marked i.run i.given c.in_default.ensures.none
+returns-clause-settled c =
+    let here = (goal.at.returns-clause-settled c).After-turn in
+    let p = c.passed-count.ensures in
+    let left = λ (some : 0 < c.args.self.now.run - c.passed-count.result.0) (part : Part Head) (found : slice_get c.turn.new.self.list 0 ≡ Some part).
+    let more : c.passed-count.result.0 < c.args.self.now.run = omega (arith, some) in
+    let first = freed_first c.passed-count.result.0 (empty_part MISSING) c.args.ring.now.list (omega (arith, more, c.requires.marked.within, c.requires.marked.top)) in
+    p.next more part (sym first ∙ (rw (parts_then here) at found)) in
+    settled_at _ c.turn.new.self.list (returns-clause-marked c) (returns-clause-run c) (omega (arith, p.bytes, c.requires.given)) left
 
 pub returns-clause-front : goal.returns-clause-front
 returns-clause-front c =
-    let i = c.loop-len.invariant in
-    i.front ∙ beginning-settled c.loop-len.ring.list c.loop-len.first c.loop-len.marks.given (settled_at c.loop-len.marks c.loop-len.ring.list i.marked i.run i.given c.in_default.ensures.none)
+    let here = (goal.at.returns-clause-front c).After-turn in
+    let count = c.passed-count.result.0 in
+    let left = c.passed-count.result.1 in
+    let parts = c.args.ring.now.list in
+    let base = c.args.base.now in
+    let p = c.passed-count.ensures in
+    let used = rw (take-take count c.args.self.now.run parts p.within) at (All-take IsUsed count (take c.args.self.now.run parts) c.requires.marked.used) in
+    let passed = beginning-passed count parts base c.args.self.now.given left (within here) used p.bytes in
+    let ends = placed_from-append (drop count parts) (replicate count (empty_part MISSING)) (base + count) (All-replicate IsUnused count (empty_part MISSING) refl) in
+    let same : placed_from (base + count) c.turn.new.self.list ≡ placed_from (base + count) (drop count parts) = ap (placed_from (base + count)) (parts_then here) ∙ ends in
+    passed ∙ (ap (beginning (base + count) left) (sym same) ∙ beginning-settled c.turn.new.self.list (base + count) left (returns-clause-settled c))

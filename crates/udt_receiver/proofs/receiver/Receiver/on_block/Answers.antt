@@ -64,8 +64,8 @@ invariant_of-self-2 c =
     let order = placed_in_order r.buffer r.top c.args.now c.in-Some.offset c.args.flags c.args.bytes.now r.lost.missing i.order new in
     let kept = c.place.ensures.kept in
     record {
-      order = rw (c.place.ensures.next, c.max-self-inside.ensures, c.note_placed-gap.ensures.next) order;
-      top = omega (arith, c.max-self-inside.ensures, i.top, c.in-Some.ensures.limit);
+      order = rw (c.place.ensures.next, c.note_placed-gap.ensures.top, c.note_placed-gap.ensures.next) order;
+      top = omega (arith, c.note_placed-gap.ensures.top, i.top, c.in-Some.ensures.limit);
       window = rw c.note_placed-gap.ensures.next (i.window ∙ sym kept.capacity);
       few = omega (arith, kept.capacity, i.few);
       payload = omega (arith, kept.payload, i.payload);

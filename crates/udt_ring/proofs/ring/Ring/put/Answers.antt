@@ -9,7 +9,7 @@ use Rattle.udt_ring.specs.Parts.{Parts}
 use Rattle.udt_ring.specs.Rings.{AreShort, AreSlots, slots_of, parts_in}
 use Rattle.udt_ring.proofs.SlotLemmas.{slot_below, slots_of-set}
 use Rattle.udt_ring.proofs.PartLemmas.{slot_before}
-use Rattle.udt_ring.proofs.RingLemmas.{count_is, put_is}
+use Rattle.udt_ring.proofs.RingLemmas.{count_is, put_is, all_fit}
 use Rattle.udt_ring.proofs.ring.Ring.put.Goals as goal
 use Rattle.udt_ring.proofs.ring.Ring.put.Given.{Over}
 use Rattle.udt_ring.proofs.ring.Ring.put.Goals.{After-len, After-take_slot-self-inside, After-index}
@@ -82,12 +82,12 @@ invariant_of-self g c =
       hot = rw (items g e) (omega (arith, lens, len g e, c.take_slot-self-inside.ensures.hint, c.deref_mut.ensures.len, r.places.ok.0));
     }
 
-pub returns : goal.returns
-returns g c =
+pub returns-clause-next : goal.returns-clause-next
+returns-clause-next g c =
     let r = c.self.inside in
-    let e = (goal.at.returns g c).After-take_slot-self-inside in
-    let one = some g ((goal.at.returns g c).After-len) in
-    let there = found g ((goal.at.returns g c).After-index) in
+    let e = (goal.at.returns-clause-next g c).After-take_slot-self-inside in
+    let one = some g ((goal.at.returns-clause-next g c).After-len) in
+    let there = found g ((goal.at.returns-clause-next g c).After-index) in
     let ps = c.take_slot-self-inside.new.places in
     let all : c.len.result ≡ length r.places.items = omega (arith, c.len.ensures, r.places.ok.0) in
     let at = rw all at c.place_after-at.ensures.value in
@@ -99,3 +99,7 @@ returns g c =
     let list = put_is r.room r.memory.items ps r.first c.args.i c.args.head c.args.bytes.now c.index.result.now (rw same c.self.invariant.memory) (short g e) (slots g e)
     (omega (arith, same, one, c.self.invariant.first)) (omega (arith, same, one)) (rw (same, ← at) there) (omega (arith, room, c.requires.room)) in
     rw (memory, c.write.ensures, c.deref_mut-2.ensures.value, items g e, at, rw (same, parts) at list, ← c.self.view_is) refl
+
+-- the bytes of all parts lie in memory
+pub returns-clause-fits : goal.returns-clause-fits
+returns-clause-fits g c = all_fit _ (invariant_of-self g c)
