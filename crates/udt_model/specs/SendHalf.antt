@@ -1,5 +1,5 @@
 -- The sending half of a socket: what a send takes, and which packet leaves next (draft-gg-udt-03, sections 4 and 5).
-use Rattle.std.specs.Prelude.{ℕ, zero, suc, ◌+◌, ◌-◌, ◌*◌, ◌/◌, ◌%◌, ◌==◌, min, max, Bool, false, List, [], ◌∷◌, length, take, drop, Option, Some, None, Result, Ok, Err, option_map, nat_lt, if◌then◌else◌}
+use Rattle.std.specs.Prelude.{ℕ, zero, suc, ◌+◌, ◌-◌, ◌*◌, ◌/◌, ◌%◌, ◌^◌, ◌==◌, min, max, Bool, false, List, [], ◌∷◌, length, take, drop, Option, Some, None, Result, Ok, Err, option_map, nat_lt, if◌then◌else◌}
 use Rattle.udt_model.specs.declared.limits.TheConstants.{PACKET_LIMIT, LAST_MESSAGE, FEWEST_BLOCKS, MOST_BLOCKS, FIRST_WINDOW, PROBE_INTERVAL}
 use Rattle.udt_model.specs.declared.handshakes.TheConstants.{SIZE_OVER_PAYLOAD}
 use Rattle.udt_model.specs.declared.answers.Packed.{Packed}
@@ -65,9 +65,10 @@ clamped flow = max FEWEST_BLOCKS (min flow MOST_BLOCKS)
 
 -- ---- messages
 
--- the moment after which a message isn't retransmitted, where it has a time to live
+-- the moment after which a message isn't retransmitted, where it has a time to live. One past the last 64-bit number counts
+-- as that
 abbrev pub expiry_of : ℕ → Option ℕ → Option ℕ
-expiry_of now ttl = option_map (λ time. now + time) ttl
+expiry_of now ttl = option_map (λ time. min (now + time) (2 ^ 64 - 1)) ttl
 
 -- the moment has passed, where there is one
 abbrev pub has_passed : ℕ → Option ℕ → Bool

@@ -6,12 +6,13 @@ use crate::{
 };
 use std::alloc::AllocError;
 use std::process::Abort;
-use udt_model::{Addr, Cause, Heard, Ip, Malformed, Packed, Refusal};
+use udt_model::{Addr, Cause, Heard, Ip, Kind, Malformed, Packed, Refusal};
 
 #[test]
 fn reads_each_form(rt: HostRuntime) {
     let alloc = rt.alloc();
     let pairing = Pairing {
+        kind: Kind::Stream,
         a: b"a",
         b: b"b2",
         payload: 8956,
@@ -20,6 +21,7 @@ fn reads_each_form(rt: HostRuntime) {
         start: 0,
     };
     let late = Pairing {
+        kind: Kind::Stream,
         start: 576_460_752_303_423_488,
         ..pairing
     };
@@ -215,6 +217,7 @@ fn prints_answers(rt: HostRuntime) {
 fn prints_the_other_lines(rt: HostRuntime) {
     let mut out = Vec::from_slice(rt.alloc(), b"so far\n").expect(&rt, "memory");
     let pairing = Pairing {
+        kind: Kind::Stream,
         a: b"left",
         b: b"right",
         payload: 4,

@@ -66,7 +66,7 @@ impl Slot {
         self.size = write(packet, &mut self.bytes);
     }
 
-    /// Has the sending half write the datagram of the block that leaves, where one does.
+    /// Has the sending half write the datagram of the packet that leaves, where one does.
     pub fn write_block<C: Control>(
         &mut self,
         sender: &mut Sender<C>,
@@ -83,7 +83,7 @@ impl Slot {
             (half.packet_of sender.old stamp peer.now.id (half.packing C.ways sender.old now)) }
     {
         let packed = sender.pack(now, stamp, peer.id, &mut self.bytes);
-        if let Packed::Block(size) = packed {
+        if let Packed::Block(size) | Packed::DropAsk(size) = packed {
             self.to = peer.addr;
             self.size = size;
         }

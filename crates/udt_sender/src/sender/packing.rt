@@ -10,11 +10,20 @@ ghost use Rattle.udt_sender.specs.Packets.{IsSound, IsSized, with_packet, leaves
 
 use super::Sender;
 use crate::control::period_of;
+use crate::numbers::has_passed;
 use std::marker::Model;
 use udt_model::{PROBE_INTERVAL, Packed};
-use udt_packet::{seq_of, write_block};
+use udt_packet::{Packet, seq_of, write, write_block};
 use udt_rate::Control;
 use udt_snd_buffer::{Block, SndBuffer};
+
+// A message that its peer is asked to drop: its number, and the offsets of its first and its last block.
+#[derive(Clone, Copy)]
+struct Dropping {
+    message: u32,
+    first: u64,
+    last: u64,
+}
 
 // Writes the packet of a kept block at the front of `into`, and answers its size. Where none is
 // kept, nothing is written.
@@ -60,7 +69,8 @@ fn due_after(seq: u32, now: u64, period: u64) -> u64
 
 impl<C: Control> Sender<C> {
     /// Writes the packet that leaves at this moment, in microseconds, at the front of `into`: that of
-    /// the least lost block, or where none is lost that of the first block that was never sent.
+    /// the least lost block, or where none is lost that of the first block that was never sent. Where the
+    /// message of the lost one has expired, it is a message drop request.
     #[tactic(auto, unfolding(udt_model::specs::SendHalf::packing, udt_model::specs::SendHalf::after_pack))]
     pub fn pack(&mut self, now: u64, stamp: u32, dest: u32, into: &mut [u8]) -> Packed
         requires moment { now ≤ LAST_MOMENT }
@@ -106,7 +116,7 @@ impl<C: Control> Sender<C> {
         self.may_send()
     }
 
-    // Retransmits the least lost block.
+    // Retransmits the least lost block, or asks to drop its message where that has expired.
     fn pack_lost(&mut self, now: u64, stamp: u32, dest: u32, into: &mut [u8]) -> Packed
         requires some { 0 < length self.old.lost }
         requires moment { now ≤ LAST_MOMENT }
@@ -123,9 +133,44 @@ impl<C: Control> Sender<C> {
         let Some(offset) = self.loss.take_first() else {
             return Packed::Nothing;
         };
+        if let Some(message) = self.expired(now, offset) {
+            return self.pack_drop(message, stamp, dest, into);
+        }
         let size = write_kept(&self.buffer, self.isn, offset, stamp, dest, into);
         self.due = due_after(seq_of(self.isn, offset), now, period_of(&self.control));
         Packed::Block(size)
+    }
+
+    // The message of a block that is kept, where it has expired.
+    fn expired(&self, now: u64, offset: u64) -> Option<Dropping>
+        ensures { result ≡ option_map dropping_of (expired_at self.now.blocks now offset) }
+    {
+        let block = self.buffer.block(offset)?;
+        let (first, last) = self.buffer.message_of(offset)?;
+        if !has_passed(now, block.expires) {
+            return None;
+        }
+        Some(Dropping {
+            message: block.flags.message,
+            first,
+            last,
+        })
+    }
+
+    // Asks the peer to drop a message, no block of which is sent any more.
+    fn pack_drop(&mut self, message: Dropping, stamp: u32, dest: u32, into: &mut [u8]) -> Packed
+        requires room { 24 ≤ length into.old }
+    {
+        self.loss.remove(message.first, message.last);
+        self.next = self.next.max(message.last + 1);
+        let packet = Packet::DropAsk {
+            message: message.message,
+            stamp,
+            dest,
+            first: seq_of(self.isn, message.first),
+            last: seq_of(self.isn, message.last),
+        };
+        Packed::DropAsk(write(&packet, into))
     }
 
     // Sends the first block that was never sent, where both windows allow it.
