@@ -1,18 +1,18 @@
 // The receiving half: where a block is placed, what is missing then, and which ACKs and NAKs are due.
 
-ghost use Rattle.std.specs.Prelude.{◌≡◌, ◌+◌, ◌*◌, ◌^◌, ◌<◌, ◌≤◌, ◌++◌, min, length, take, drop, false, IfOk, IfSome, IsSome, IsTrue, ◌↔◌, Option, None};
+ghost use Rattle.std.specs.Prelude.{◌≡◌, ◌+◌, ◌*◌, ◌^◌, ◌<◌, ◌≤◌, ◌++◌, min, length, take, drop, false, IfOk, IfSome, IsSome, IsTrue, ◌↔◌, Option, None, option_map};
 ghost use Rattle.std.specs.Option.{is_some};
 ghost use Rattle.udt_model.specs.declared.limits.TheConstants.{PACKET_LIMIT, LAST_ACK_NUMBER, LAST_MOMENT, SYN, GREATEST_RTT};
 ghost use Rattle.udt_model.specs.Numbers.{near as near_in};
 ghost use Rattle.udt_model.specs.ReceiveBlocks.{waiting_of, next_message, after_read_message};
 ghost use Rattle.udt_rcv_buffer.specs.Answers.{got_of, shown_in};
-ghost use Rattle.udt_model.specs.ReceiveHalf.{idle_receiving, linked_receiving, measured, within_limit, after_block, block_answer, after_receive, after_drop, drop_answer};
+ghost use Rattle.udt_model.specs.ReceiveHalf.{idle_receiving, linked_receiving, measured, within_limit, after_block, block_answer, after_receive, drop_range as taken_range, after_drop, drop_answer};
 ghost use Rattle.udt_model.specs.ReceiveReports.{ack_offset as first_gap, number_after as next_number, is_just_acked as just_acked, after_ack_timer, ack_answer, light_ack as light_ack_of, after_ack2, round_trip_to, nak_words, nak_report, after_nak_timer};
 ghost use Rattle.udt_model.specs.Timing.{last_under};
 ghost use Rattle.udt_packet.specs.Packets.{acked};
 ghost use Rattle.udt_rcv_loss.specs.Reports.{words_of, RangesRise};
 ghost use Rattle.udt_timing.specs.RoundTrips.{round_trip_of};
-ghost use Rattle.udt_receiver.specs.Gaps.{IsGap, IsFirstGap, Acknowledges, IsAckNumber, AreLost};
+ghost use Rattle.udt_receiver.specs.Gaps.{IsGap, IsFirstGap, Acknowledges, IsAckNumber, AreLost, range_by, gap_of};
 ghost use Rattle.udt_receiver.specs.Kept.{KeepsTerms};
 
 use crate::OutOfMemory;
@@ -30,9 +30,9 @@ use udt_timing::{AckWindow, Rtt, Samples};
 
 /// The receiving half of a socket. It takes all its memory at once.
 ///
-/// `link` comes before the first packet. A data packet goes to `on_block`, an ACK2 to `on_ack2`, and
-/// `tick_ack` and `tick_nak` are called when `ack_due` and `nak_due` are reached; these give what is to be
-/// sent. The application calls `recv`.
+/// `link` comes before the first packet. A data packet goes to `on_block`, a message drop request to
+/// `on_drop`, an ACK2 to `on_ack2`, and `tick_ack` and `tick_nak` are called when `ack_due` and `nak_due`
+/// are reached; these give what is to be sent. The application calls `recv`, or `recv_message`.
 #[derive(Drop)]
 pub struct Receiver {
     isn: u32,
@@ -239,10 +239,11 @@ impl Receiver {
 
     /// Takes the offsets of a message that the peer no longer sends, by its first and its last sequence
     /// number: those that aren't consumed are consumed now. The gap is to be reported at once.
-    #[tactic(auto, unfolding(udt_model::specs::ReceiveHalf::after_drop, udt_model::specs::ReceiveHalf::drop_answer, udt_model::specs::ReceiveHalf::drop_range))]
+    #[tactic(auto, unfolding(udt_model::specs::ReceiveHalf::after_drop, udt_model::specs::ReceiveHalf::drop_answer))]
     pub fn on_drop(&mut self, now: u64, first: u32, last: u32) -> Dropped
         ensures value { result ≡ drop_answer self.old first last }
         ensures next { self.new ≡ after_drop self.old now first last }
+        ensures gap { IfSome (gap_of result) (IsGap self.old) }
         ensures kept { KeepsTerms self.old self.new }
     {
         let Some((first, last)) = self.drop_range(first, last) else {
@@ -253,8 +254,15 @@ impl Receiver {
         Dropped::Taken { gap }
     }
 
-    // The offsets that a message drop request takes.
-    fn drop_range(&self, first: u32, last: u32) -> Option<(u64, u64)> {
+    // The first and the last of the offsets that a message drop request takes.
+    #[tactic(auto, unfolding(udt_model::specs::ReceiveHalf::drop_range))]
+    fn drop_range(&self, first: u32, last: u32) -> Option<(u64, u64)>
+        ensures value { option_map range_by result ≡ taken_range self.now first last }
+        ensures order { IfSome result (λ ends. ends.0 ≤ ends.1) }
+        ensures base { IfSome result (λ ends. self.now.blocks.base ≤ ends.1) }
+        ensures room { IfSome result (λ ends. ends.1 < self.now.blocks.base + self.now.blocks.capacity) }
+        ensures limit { IfSome result (λ ends. ends.1 < PACKET_LIMIT) }
+    {
         let first = near(self.isn, self.top, first)?;
         let last = near(self.isn, self.top, last)?;
         let base = self.buffer.base();
