@@ -1,5 +1,5 @@
 -- Reading a message keeps the order, however much room there is for it.
-use Rattle.std.proofs.Common.{◌≡◌, ℕ, ◌<◌, List, ◌∷◌, length, Some, None, refl, arith}
+use Rattle.std.proofs.Common.{◌≡◌, ℕ, List, ◌∷◌, length, Some, None, refl, arith}
 use Rattle.std.specs.Prelude.{Option, true, false, nat_le, if◌then◌else◌}
 use Rattle.udt_model.specs.Losses.{Missing}
 use Rattle.udt_model.specs.ReceiveBlocks.{ReceiveBlocks, WholeMessage, next_message, after_message, after_found, after_read_message}
