@@ -53,7 +53,7 @@ impl<C> Model for Sender<C> {
 impl<C: Control> Sender<C> {
     /// A half that has no connection yet, with all the memory that it will ever have. The first block
     /// will have the offset `start`.
-    #[tactic(auto, unfolding(udt_model::specs::Losses::from_offset, udt_ranges::specs::Offsets::Rising))]
+    #[tactic(auto, unfolding(udt_model::specs::Losses::from_offset, udt_ranges::specs::Offsets::Rising, crate::specs::Messages::LieInMessages))]
     pub fn new(alloc: Global, config: &Config, start: u64) -> Result<Sender<C>, OutOfMemory>
         requires payload { 0 < config.now.payload }
         requires most_payload { config.now.payload ≤ MOST_PAYLOAD }

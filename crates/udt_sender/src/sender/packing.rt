@@ -1,11 +1,13 @@
 // Which packet leaves next, and when.
 
-ghost use Rattle.std.specs.Prelude.{◌≡◌, ◌+◌, ◌*◌, ◌%◌, ◌<◌, ◌≤◌, ◌==◌, [], length, All, Some, IsTrue, if◌then◌else◌};
+ghost use Rattle.std.specs.Prelude.{◌≡◌, ◌+◌, ◌*◌, ◌%◌, ◌^◌, ◌<◌, ◌≤◌, ◌==◌, [], length, All, Some, IsTrue, option_map, if◌then◌else◌};
+ghost use Rattle.udt_model.specs.declared.answers.Packed.TheVariants as packed;
 ghost use Rattle.udt_model.specs.declared.limits.TheConstants.{LAST_MOMENT, GREATEST_PERIOD, PROBE_INTERVAL};
 ghost use Rattle.udt_model.specs.Numbers.{sequence_number};
 ghost use Rattle.udt_model.specs.SendBlocks.{KeptBlock, end_of, kept_at};
 ghost use Rattle.udt_model.specs.SendHalf as half;
 ghost use Rattle.udt_model.specs.Wire as wire;
+ghost use Rattle.udt_sender.specs.Messages.{expired_of, dropping_of, drop_packet_of, after_dropping};
 ghost use Rattle.udt_sender.specs.Packets.{IsSound, IsSized, with_packet, leaves};
 
 use super::Sender;
@@ -52,6 +54,23 @@ fn write_kept(
     }
 }
 
+// The message of a kept block, where it has expired at this moment.
+fn expired(buffer: &SndBuffer, now: u64, offset: u64) -> Option<Dropping>
+    requires { All (IsSound buffer.now.payload) buffer.now.kept }
+    ensures { result ≡ option_map dropping_of (expired_of now (kept_at buffer.now offset)) }
+{
+    let block = buffer.block(offset)?;
+    if !has_passed(now, block.expires) {
+        return None;
+    }
+    let (first, last) = buffer.message_of(offset)?;
+    Some(Dropping {
+        message: block.flags.message,
+        first,
+        last,
+    })
+}
+
 // The moment before which nothing is sent after the packet with this sequence number, in nanoseconds.
 fn due_after(seq: u32, now: u64, period: u64) -> u64
     requires moment { now ≤ LAST_MOMENT }
@@ -94,7 +113,7 @@ impl<C: Control> Sender<C> {
         }
     }
 
-    /// The first moment at which packing sends a block, in microseconds, where there is one to send.
+    /// The first moment at which packing sends a packet, in microseconds, where there is one to send.
     #[tactic(auto, unfolding(udt_model::specs::SendHalf::pack_moment))]
     pub fn pack_moment(&self) -> Option<u64>
         ensures { result ≡ half.pack_moment C.ways self.now }
@@ -106,9 +125,10 @@ impl<C: Control> Sender<C> {
         }
     }
 
-    // Whether there is a block to send once it is due.
+    // Whether there is a packet to send once it is due.
     fn has_block(&self) -> bool
-        ensures { result ≡ leaves (half.leaves_next C.ways self.now self.now.lost) }
+        ensures { result
+            ≡ leaves (half.leaves_next C.ways self.now (half.due_moment C.ways self.now) self.now.lost) }
     {
         if self.loss.len() > 0 {
             return true;
@@ -121,11 +141,13 @@ impl<C: Control> Sender<C> {
         requires some { 0 < length self.old.lost }
         requires moment { now ≤ LAST_MOMENT }
         requires room { 16 + self.old.blocks.room ≤ length into.old }
-        ensures value { result ≡ half.packed_as (half.leaves_next C.ways self.old self.old.lost) }
-        ensures next { self.new
-            ≡ half.after_packing C.ways self.old now (half.leaves_next C.ways self.old self.old.lost) }
+        requires drop_room { 24 ≤ length into.old }
+        ensures value { result
+            ≡ half.packed_as (half.leaves_next C.ways self.old now self.old.lost) }
+        ensures next { self.new ≡ half.after_packing C.ways self.old now
+            (half.leaves_next C.ways self.old now self.old.lost) }
         ensures into { into.new ≡ with_packet
-            (half.packet_of self.old stamp dest (half.leaves_next C.ways self.old self.old.lost))
+            (half.packet_of self.old stamp dest (half.leaves_next C.ways self.old now self.old.lost))
             into.old }
         ensures size { IsSized self.old.blocks.payload result }
         ensures blocks { self.new.blocks ≡ self.old.blocks }
@@ -133,7 +155,7 @@ impl<C: Control> Sender<C> {
         let Some(offset) = self.loss.take_first() else {
             return Packed::Nothing;
         };
-        if let Some(message) = self.expired(now, offset) {
+        if let Some(message) = expired(&self.buffer, now, offset) {
             return self.pack_drop(message, stamp, dest, into);
         }
         let size = write_kept(&self.buffer, self.isn, offset, stamp, dest, into);
@@ -141,25 +163,15 @@ impl<C: Control> Sender<C> {
         Packed::Block(size)
     }
 
-    // The message of a block that is kept, where it has expired.
-    fn expired(&self, now: u64, offset: u64) -> Option<Dropping>
-        ensures { result ≡ option_map dropping_of (expired_at self.now.blocks now offset) }
-    {
-        let block = self.buffer.block(offset)?;
-        let (first, last) = self.buffer.message_of(offset)?;
-        if !has_passed(now, block.expires) {
-            return None;
-        }
-        Some(Dropping {
-            message: block.flags.message,
-            first,
-            last,
-        })
-    }
-
     // Asks the peer to drop a message, no block of which is sent any more.
     fn pack_drop(&mut self, message: Dropping, stamp: u32, dest: u32, into: &mut [u8]) -> Packed
         requires room { 24 ≤ length into.old }
+        requires number { message.message < 2 ^ 29 }
+        requires kept { message.last < end_of self.old.blocks }
+        ensures value { result ≡ packed.DropAsk 24 }
+        ensures next { self.new ≡ after_dropping self.old message }
+        ensures into { into.new
+            ≡ with_packet (Some (drop_packet_of self.old.isn stamp dest message)) into.old }
     {
         self.loss.remove(message.first, message.last);
         self.next = self.next.max(message.last + 1);
@@ -177,11 +189,11 @@ impl<C: Control> Sender<C> {
     fn pack_next(&mut self, now: u64, stamp: u32, dest: u32, into: &mut [u8]) -> Packed
         requires moment { now ≤ LAST_MOMENT }
         requires room { 16 + self.old.blocks.room ≤ length into.old }
-        ensures value { result ≡ half.packed_as (half.leaves_next C.ways self.old []) }
+        ensures value { result ≡ half.packed_as (half.leaves_next C.ways self.old now []) }
         ensures next { self.new
-            ≡ half.after_packing C.ways self.old now (half.leaves_next C.ways self.old []) }
+            ≡ half.after_packing C.ways self.old now (half.leaves_next C.ways self.old now []) }
         ensures into { into.new ≡ with_packet
-            (half.packet_of self.old stamp dest (half.leaves_next C.ways self.old [])) into.old }
+            (half.packet_of self.old stamp dest (half.leaves_next C.ways self.old now [])) into.old }
         ensures size { IsSized self.old.blocks.payload result }
         ensures blocks { self.new.blocks ≡ self.old.blocks }
     {
@@ -196,7 +208,8 @@ impl<C: Control> Sender<C> {
 
     // Whether there is a block that was never sent, and both windows allow it.
     fn may_send(&self) -> bool
-        ensures value { result ≡ leaves (half.leaves_next C.ways self.now []) }
+        ensures value { result
+            ≡ leaves (half.sends C.ways self.now (kept_at self.now.blocks self.now.next)) }
         ensures kept { IsTrue result → self.now.next < end_of self.now.blocks }
     {
         let (first, kept) = self.buffer.kept();
