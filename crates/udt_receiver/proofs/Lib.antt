@@ -3,3 +3,4 @@ mod FirstGap
 mod Blocks
 mod Expected
 mod Messages
+mod Given

@@ -14,6 +14,7 @@ ghost use Rattle.udt_rcv_loss.specs.Reports.{words_of, RangesRise};
 ghost use Rattle.udt_timing.specs.RoundTrips.{round_trip_of};
 ghost use Rattle.udt_receiver.specs.Gaps.{IsGap, IsFirstGap, Acknowledges, IsAckNumber, AreLost, range_by, gap_of};
 ghost use Rattle.udt_receiver.specs.Kept.{KeepsTerms};
+ghost use Rattle.udt_receiver.specs.Shown.{IfWhole, UnlessWhole};
 
 use crate::OutOfMemory;
 use crate::losses::{least, note_placed, note_taken};
@@ -195,6 +196,10 @@ impl Receiver {
         ensures into { into.new ≡ shown_in into.old (next_message self.old.blocks) }
         ensures next { self.new ≡ record self.old
             { blocks = after_read_message self.old.blocks (length into.old) } }
+        ensures within { IfWhole result (λ count. count ≤ length into.old) }
+        ensures rest { IfWhole result (λ count. drop count into.new ≡ drop count into.old) }
+        ensures none { UnlessWhole result (into.new ≡ into.old) }
+        ensures stays { UnlessWhole result (self.new ≡ self.old) }
         ensures kept { KeepsTerms self.old self.new }
     {
         self.buffer.read_message(into)

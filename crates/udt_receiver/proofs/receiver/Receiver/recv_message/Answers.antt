@@ -1,4 +1,7 @@
 use Rattle.std.proofs.Common.{◌∙◌, sym, length, arith}
+use Rattle.udt_model.specs.ReceiveBlocks.{next_message}
+use Rattle.udt_receiver.specs.Half.{receiving_of}
+use Rattle.udt_receiver.proofs.Given.{given-fits, given-rest, none-shown, none-taken}
 use Rattle.udt_receiver.proofs.Messages.{message_in_order}
 use Rattle.udt_receiver.proofs.receiver.Receiver.recv_message.Goals as goal
 
@@ -19,3 +22,21 @@ invariant_of-self c =
       ack_due = i.ack_due;
       nak_due = i.nak_due;
     }
+
+-- what is given has room, and changes no more of it
+pub returns-clause-within : goal.returns-clause-within
+returns-clause-within c = rw c.read_message.ensures.value (given-fits (length c.args.into.now) (next_message c.self.inside.buffer))
+
+pub returns-clause-rest : goal.returns-clause-rest
+returns-clause-rest c =
+    rw (c.read_message.ensures.value, c.read_message.ensures.into) (given-rest c.args.into.now (next_message c.self.inside.buffer))
+
+-- where none is given all stays
+pub returns-clause-none : goal.returns-clause-none
+returns-clause-none c =
+    rw (c.read_message.ensures.value, c.read_message.ensures.into) (none-shown c.args.into.now (next_message c.self.inside.buffer))
+
+pub returns-clause-stays : goal.returns-clause-stays
+returns-clause-stays c =
+    rw (← c.self.view_is, c.read_message.ensures.value, c.read_message.ensures.next)
+    (none-taken (receiving_of c.self.inside) (length c.args.into.now) (next_message c.self.inside.buffer))
