@@ -1,5 +1,5 @@
 -- The message is kept to its end, and a drop request has six words.
-use Rattle.std.proofs.Common.{◌≡◌, ◌+◌, ◌<◌, ◌≤◌, max, length, refl, ap, ◌∙◌, arith}
+use Rattle.std.proofs.Common.{◌+◌, ◌<◌, max, ap, ◌∙◌, arith}
 use Rattle.udt_model.specs.declared.answers.Packed.TheVariants as packed
 use Rattle.udt_model.specs.SendBlocks.{end_of}
 use Rattle.udt_sender.proofs.BlockLemmas.{length-drop_spelling}

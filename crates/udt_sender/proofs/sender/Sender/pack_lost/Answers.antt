@@ -1,5 +1,5 @@
 -- The least lost block is kept. It is retransmitted, or its message is dropped where that has expired.
-use Rattle.std.proofs.Common.{◌≡◌, ℕ, ◌<◌, true, false, List, Some, refl, ap, sym, subst, ◌∙◌, arith}
+use Rattle.std.proofs.Common.{◌≡◌, ℕ, true, false, List, Some, refl, ap, sym, subst, ◌∙◌, arith}
 use Rattle.udt_model.specs.declared.answers.Packed.TheVariants as packed
 use Rattle.udt_model.specs.Numbers.{sequence_number}
 use Rattle.udt_model.specs.SendBlocks.{kept_at}
