@@ -27,7 +27,7 @@ module _ {C : Type 0} (s : Sending C) (stamp dest : ℕ) where
   -- a message drop request has six words
   drop-size : (message : Message) → length (spelling (drop_packet s stamp dest message)) ≡ 24
   unfolding spelling
-  drop-size message = refl
+  drop-size message = omega arith
 
   drop-written : (message : Message) (size : ℕ) (old new : List ℕ) → packed.DropAsk size ≡ packed.DropAsk 24
       → new ≡ with_packet (Some (drop_packet s stamp dest message)) old → take size new ≡ spelling (drop_packet s stamp dest message)

@@ -249,6 +249,7 @@ impl Receiver {
         ensures value { result ≡ drop_answer self.old first last }
         ensures next { self.new ≡ after_drop self.old now first last }
         ensures gap { IfSome (gap_of result) (IsGap self.old) }
+        ensures stale { result ≡ Dropped.Stale → self.new ≡ self.old }
         ensures kept { KeepsTerms self.old self.new }
     {
         let Some((first, last)) = self.drop_range(first, last) else {

@@ -83,9 +83,16 @@ impl Slot {
             (half.packet_of sender.old stamp peer.now.id (half.packing C.ways sender.old now)) }
     {
         let packed = sender.pack(now, stamp, peer.id, &mut self.bytes);
-        if let Packed::Block(size) | Packed::DropAsk(size) = packed {
-            self.to = peer.addr;
-            self.size = size;
+        match packed {
+            Packed::Block(size) => {
+                self.to = peer.addr;
+                self.size = size;
+            }
+            Packed::DropAsk(size) => {
+                self.to = peer.addr;
+                self.size = size;
+            }
+            Packed::NotYet(_) | Packed::Nothing => {}
         }
         packed
     }
