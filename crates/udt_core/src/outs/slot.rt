@@ -82,16 +82,11 @@ impl Slot {
         ensures written { written_by result self.new ≡ datagrams_to peer.now.addr
             (half.packet_of sender.old stamp peer.now.id (half.packing C.ways sender.old now)) }
     {
+        self.to = peer.addr;
         let packed = sender.pack(now, stamp, peer.id, &mut self.bytes);
         match packed {
-            Packed::Block(size) => {
-                self.to = peer.addr;
-                self.size = size;
-            }
-            Packed::DropAsk(size) => {
-                self.to = peer.addr;
-                self.size = size;
-            }
+            Packed::Block(size) => self.size = size,
+            Packed::DropAsk(size) => self.size = size,
             Packed::NotYet(_) | Packed::Nothing => {}
         }
         packed
