@@ -82,17 +82,27 @@ parts-taken b offset number n (block ∷ next ∷ others) parts low high = elim 
       subst (λ (k : ℕ). is_taken k b.placed ≡ true) at (contained-taken b.placed block parts.0.among)
 ]
 
-message_in_order : (b : ReceiveBlocks) (room top : ℕ) (missing : List Missing) (found : Option WholeMessage) → next_message b ≡ found
+-- each offset of a message that is shown has a block
+read_in_order : (b : ReceiveBlocks) (top : ℕ) (missing : List Missing) (m : WholeMessage) → next_message b ≡ Some m
+    → IsInOrder b top missing → IsInOrder (after_message b m) top missing
+read_in_order b top missing m is order =
+    let readable = search-readable b b.base true b.placed m (λ x there. there) (λ gapless n low high. absurd (omega (arith, low, high))) is in
+    consumed_in_order b m.first m.count top missing (λ n low high.
+    parts-taken b m.first readable.first.flags.message n (readable.first ∷ readable.others) readable.parts low (omega (arith, high, readable.count))) order
+
+found_in_order : (b : ReceiveBlocks) (room top : ℕ) (missing : List Missing) (found : Option WholeMessage) → next_message b ≡ found
     → IsInOrder b top missing → IsInOrder (after_found b room found) top missing
-message_in_order b room top missing None is order = order
-message_in_order b room top missing (Some m) is order =
+found_in_order b room top missing None is order = order
+found_in_order b room top missing (Some m) is order =
     elim (nat_le (length m.bytes) room) as (λ fits. IsInOrder (if fits then after_message b m else b) top missing) [
-      | true ↦
-          let readable = search-readable b b.base true b.placed m (λ x there. there) (λ gapless n low high. absurd (omega (arith, low, high))) is in
-          consumed_in_order b m.first m.count top missing (λ n low high.
-          parts-taken b m.first readable.first.flags.message n (readable.first ∷ readable.others) readable.parts low (omega (arith, high, readable.count))) order
+      | true ↦ read_in_order b top missing m is order
       | false ↦ order
     ]
+
+-- reading a message keeps the order, however much room there is for it
+pub message_in_order : (b : ReceiveBlocks) (room top : ℕ) (missing : List Missing) → IsInOrder b top missing
+    → IsInOrder (after_read_message b room) top missing
+message_in_order b room top missing order = found_in_order b room top missing (next_message b) refl order
 
 pub shown_in_order : (r : Receiving) (room : ℕ) → IsInOrder r.blocks r.top r.missing
     → IsInOrder (after_receive_message r room).blocks (after_receive_message r room).top (after_receive_message r room).missing
@@ -102,5 +112,5 @@ shown_in_order r room order =
     (if none then r else record r { blocks = after_read_message r.blocks room }).top
     (if none then r else record r { blocks = after_read_message r.blocks room }).missing) [
       | true ↦ order
-      | false ↦ message_in_order r.blocks room r.top r.missing (next_message r.blocks) refl order
+      | false ↦ message_in_order r.blocks room r.top r.missing order
     ]

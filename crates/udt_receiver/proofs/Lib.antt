@@ -2,5 +2,4 @@ mod ListedOffsets
 mod FirstGap
 mod Blocks
 mod Expected
-mod Messages
 mod Given

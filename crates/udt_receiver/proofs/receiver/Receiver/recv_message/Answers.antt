@@ -2,7 +2,7 @@ use Rattle.std.proofs.Common.{◌∙◌, sym, length, arith}
 use Rattle.udt_model.specs.ReceiveBlocks.{next_message}
 use Rattle.udt_receiver.specs.Half.{receiving_of}
 use Rattle.udt_receiver.proofs.Given.{given-fits, given-rest, none-shown, none-taken}
-use Rattle.udt_receiver.proofs.Messages.{message_in_order}
+use Rattle.udt_model.proofs.DropLemmas.{message_in_order}
 use Rattle.udt_receiver.proofs.receiver.Receiver.recv_message.Goals as goal
 
 -- a message that is read has no packet that is missing
