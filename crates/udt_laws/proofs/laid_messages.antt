@@ -7,3 +7,10 @@ pub mod KeptMessages
 pub mod LaidFrom
 pub mod EventsKeepLaid
 pub mod SentMessages
+pub mod PlacedBlocks
+pub mod ConsumedOffsets
+pub mod ReceivedLayout
+pub mod WholeMessages
+pub mod ReadMessages
+pub mod KeepsLayout
+pub mod ShownMessages
