@@ -97,17 +97,11 @@ not_removed : (r : Receiving) (range : LostRange) (n : ℕ) → n < max r.top (r
     → is_missing n (without_missing range.first range.last r.missing) ≡ false
     → ((n < r.top) × (is_missing n r.missing ≡ false)) ⊎ ((range.first ≤ n) × (n ≤ range.last))
 not_removed r range n less most none = elim (cases_lt n range.first) [
-  | inl before ↦ inl (
-    omega (arith, before, most),
-    false_from_ne_true _ (λ there.
-        true≢false (sym (taken_keeps range.first range.last n r.missing there (or_left (nat_lt n range.first) _ (lt-ltb n range.first before))) ∙ none)),
-  )
+  | inl before ↦ inl (omega (arith, before, most), false_from_ne_true _ (λ there.
+      true≢false (sym (taken_keeps range.first range.last n r.missing there (or_left (nat_lt n range.first) _ (lt-ltb n range.first before))) ∙ none)))
   | inr from ↦ elim (cases_lt range.last n) [
-    | inl after ↦ inl (
-      omega (arith, less, after),
-      false_from_ne_true _ (λ there.
-          true≢false (sym (taken_keeps range.first range.last n r.missing there (or_right (nat_lt n range.first) _ (lt-ltb range.last n after))) ∙ none)),
-    )
+    | inl after ↦ inl (omega (arith, less, after), false_from_ne_true _ (λ there.
+        true≢false (sym (taken_keeps range.first range.last n r.missing there (or_right (nat_lt n range.first) _ (lt-ltb range.last n after))) ∙ none)))
     | inr to ↦ inr (from, to)
   ]
 ]

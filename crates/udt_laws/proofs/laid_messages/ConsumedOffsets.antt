@@ -21,6 +21,7 @@ IsConsumed b offset = (offset < b.base) ⊎ HasConsumed b.placed offset
 
 -- ---- whether an offset is consumed
 
+-- none is where the others have none and the first is another
 not-has : (first : PlacedBlock) (others : List PlacedBlock) (offset : ℕ) → (HasConsumed others offset → ⊥)
     → (first.offset ≡ offset → first.consumed ≡ true → ⊥) → HasConsumed (first ∷ others) offset → ⊥
 not-has first others offset none differs has = elim (contained-cases first others has.block has.among) [
@@ -28,6 +29,7 @@ not-has first others offset none differs has = elim (contained-cases first other
   | inr later ↦ none (record { block = has.block; among = later; at = has.at; consumed = has.consumed })
 ]
 
+-- one of these has, or none
 has-by : (first : PlacedBlock) (others : List PlacedBlock) (offset : ℕ) → HasConsumed others offset ⊎ (HasConsumed others offset → ⊥)
     → HasConsumed (first ∷ others) offset ⊎ (HasConsumed (first ∷ others) offset → ⊥)
 has-by first others offset (inl later) =
@@ -72,6 +74,7 @@ pub record Consumes (b after : ReceiveBlocks) (from count : ℕ) : Type 0 where
 
 -- ---- a new block
 
+-- no block stands where none does
 apart-from : (placed : List PlacedBlock) (offset : ℕ) (block : PlacedBlock) → AreApart offset placed → Contains placed block → block.offset ≡ offset → ⊥
 apart-from [] offset block apart there at = none-contained block there
 apart-from (first ∷ others) offset block apart there at = elim (contained-cases first others block there) [
@@ -90,6 +93,7 @@ put-consumes b block n apart unread (inr has) = inr (record {
   consumed = has.consumed;
 })
 
+-- and makes no offset consumed
 pub put-consumes_only : (b : ReceiveBlocks) (block : PlacedBlock) (n : ℕ) → block.consumed ≡ false
     → IsConsumed (record b { placed = put_block block b.placed }) n → IsConsumed b n
 put-consumes_only b block n unread (inl below) = inl below
@@ -101,12 +105,14 @@ put-consumes_only b block n unread (inr has) = elim (put-only block has.block b.
 -- ---- consuming offsets
 
 module _ (b : ReceiveBlocks) (from count : ℕ) (low : b.base ≤ from) (whole : AreWhole b) where
+  -- still no byte is given
   given-none : given_after b from count ≡ 0
   given-none = elim (leb from b.base && ltb b.base (from + count)) as (λ within. (if within then 0 else b.given) ≡ 0) [
     | true ↦ refl
     | false ↦ whole.given
   ]
 
+  -- the base moves on over the empty blocks
   moves : MovesOn b.base (with_consumed from count b.placed) (beginning b.base (given_after b from count) (with_consumed from count b.placed))
   moves = beginning-moves b.base (given_after b from count) (with_consumed from count b.placed) given-none
       (consumed-rising b.base from count b.placed low whole.rising)
@@ -125,6 +131,7 @@ module _ (b : ReceiveBlocks) (from count : ℕ) (low : b.base ≤ from) (whole :
     ]
   ]
 
+  -- so no further offset is consumed
   is-consumed : (n : ℕ) → IsConsumed (after_consuming b from count) n → IsConsumed b n ⊎ ((from ≤ n) × (n < from + count))
   is-consumed n (inl below) = elim (cases_lt n b.base) [
     | inl was ↦ inl (inl was)
@@ -142,9 +149,11 @@ module _ (b : ReceiveBlocks) (from count : ℕ) (low : b.base ≤ from) (whole :
     | inr left ↦ inr (record { block = block; among = left; at = at; consumed = is })
   ]
 
+  -- those that are asked are
   now-consumed : (n : ℕ) → from ≤ n → n < from + count → IsConsumed (after_consuming b from count) n
   now-consumed n above below = left-consumed (consumed_at n) n (consumed-own n from count b.placed above below) refl refl
 
+  -- and those that were
   still-consumed : (n : ℕ) → IsConsumed b n → IsConsumed (after_consuming b from count) n
   still-consumed n (inl below) = inl (omega (arith, below, moves.later))
   still-consumed n (inr has) = elim (cases_lt n from) [
@@ -157,6 +166,7 @@ module _ (b : ReceiveBlocks) (from count : ℕ) (low : b.base ≤ from) (whole :
     ]
   ]
 
+  -- what waits then waited before
   still-unread : (block : PlacedBlock) → Contains (after_consuming b from count).placed block → block.consumed ≡ false → Contains b.placed block
   still-unread block there unread = elim (consumed-only block from count b.placed (moves.among block there)) [
     | inl own ↦ absurd (true≢false (sym own.consumed ∙ unread))

@@ -59,6 +59,7 @@ module _ {C : Type 0} (payload : ℕ) (messages : List LaidMessage) where
 
 -- ---- what an event does to the blocks
 
+-- one more byte is some room
 some-room : (room : ℕ) → (suc room == 0) ≡ false
 some-room room = grind (arith, nat_tests)
 
@@ -70,6 +71,7 @@ StepsSo payload messages b after shown =
 
 module _ (payload start : ℕ) (messages : List LaidMessage) (some : 1 ≤ payload) (lie : AreLaidOut payload start messages) where
   module _ (b : ReceiveBlocks) (kept : IsOfLayout payload messages b) where
+    -- a block is placed where it is new
     place-by : (offset : ℕ) (flags : Flags) (bytes : List ℕ) (p : Placed) → placing_of b offset ≡ p → IsBlockOf payload messages offset flags bytes
         → GoesOn payload messages b (after_placing_of b (arrived_at offset flags bytes) p)
     place-by offset flags bytes placing.New is of_layout =
@@ -83,6 +85,7 @@ module _ (payload start : ℕ) (messages : List LaidMessage) (some : 1 ≤ paylo
     unfolding after_place
     place-goes offset flags bytes of_layout = place-by offset flags bytes (placing_of b offset) refl of_layout
 
+    -- the next message is read where there is room for it
     found-goes : (room : ℕ) (found : Option WholeMessage) → next_message b ≡ found → GoesOn payload messages b (after_found b room found)
     found-goes room None is = goes-nowhere payload messages b kept
     found-goes room (Some m) is =
@@ -92,6 +95,7 @@ module _ (payload start : ℕ) (messages : List LaidMessage) (some : 1 ≤ paylo
         ]
 
   module _ (r : Receiving) (kept : IsOfLayout payload messages r.blocks) where
+    -- a block that arrives is placed at its offset
     block-by : (now : ℕ) (flags : Flags) (bytes : List ℕ) (found : Option ℕ) (p : Placed)
         → ((offset : ℕ) → found ≡ Some offset → IsBlockOf payload messages offset flags bytes)
         → GoesOn payload messages r.blocks (after_placing r now flags bytes found p).blocks
@@ -113,11 +117,13 @@ module _ (payload start : ℕ) (messages : List LaidMessage) (some : 1 ≤ paylo
       (λ offset found. of_layout offset (offset_of-some r number offset found).is_near)
 
   module _ (r : Receiving) (kept : IsOfLayout payload messages r.blocks) where
+    -- a message drop request takes the offsets of a message
     drop-goes : (now first last : ℕ) (range : LostRange) → drop_range r first last ≡ Some range → IsRangeOf messages range.first range.last
         → GoesOn payload messages r.blocks (with_taken r now range).blocks
     drop-goes now first last range is of_layout =
         skips-message payload start messages some lie r.blocks kept range.first range.last (drop_range-is r first last range is).takes of_layout
 
+    -- a receive reads the next message, or none
     receive-goes : (room : ℕ) → GoesOn payload messages r.blocks (after_receive_message r room).blocks
     receive-goes room = elim (room == 0) as (λ none. GoesOn payload messages r.blocks
         (if none then r else record r { blocks = after_read_message r.blocks room }).blocks) [
@@ -125,6 +131,7 @@ module _ (payload start : ℕ) (messages : List LaidMessage) (some : 1 ≤ paylo
           | false ↦ found-goes r.blocks kept room (next_message r.blocks) refl
         ]
 
+    -- reports change no block
     tells-go : (now : ℕ) (known : RoundTrip)
         → GoesOn payload messages r.blocks (after_nak_timer (after_ack_timer r now known) now known).blocks
     tells-go now known =
@@ -134,6 +141,7 @@ module _ (payload start : ℕ) (messages : List LaidMessage) (some : 1 ≤ paylo
     confirms-go number = rw (ack2-leaves r number) (goes-nowhere payload messages r.blocks kept)
 
   module _ {C : Type 0} (w : Ways C) where
+    -- each event keeps the layout
     step-goes : (s : State C) (event : Event) → s.kind ≡ kind.Message → MeetsLayout payload messages s event.act
         → IsOfLayout payload messages s.receiving.blocks → GoesOn payload messages s.receiving.blocks (step w s event).after.receiving.blocks
     step-goes s event messages_only meets kept =
@@ -154,6 +162,7 @@ module _ (payload start : ℕ) (messages : List LaidMessage) (some : 1 ≤ paylo
 
     -- ---- what an event shows
 
+    -- a receive shows the message that it reads
     found-shows : (s : State C) (room : ℕ) (why : Refusal) (found : Option WholeMessage) → IsOfLayout payload messages s.receiving.blocks
         → next_message s.receiving.blocks ≡ found
         → StepsSo payload messages s.receiving.blocks (after_found s.receiving.blocks (suc room) found)

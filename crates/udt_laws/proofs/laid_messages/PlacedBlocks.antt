@@ -31,12 +31,13 @@ one-block from (first ∷ others) one other rising there too at = elim (containe
   ]
 ]
 
--- at an offset that is taken stands a block
+-- a block stands at this offset
 pub record HasBlockAt (placed : List PlacedBlock) (offset : ℕ) : Type 0 where
   pub block : PlacedBlock
   pub among : Contains placed block
   pub at : block.offset ≡ offset
 
+-- so it does where the offset is taken
 pub taken-contained : (placed : List PlacedBlock) (offset : ℕ) → is_taken offset placed ≡ true → HasBlockAt placed offset
 taken-contained [] offset taken = absurd (cc)
 taken-contained (first ∷ others) offset taken = elim (or_cases (eqb first.offset offset) (is_taken offset others) taken) [
@@ -48,6 +49,7 @@ taken-contained (first ∷ others) offset taken = elim (or_cases (eqb first.offs
 
 -- ---- one more block
 
+-- it stands among them
 pub put-own : (block : PlacedBlock) (placed : List PlacedBlock) → Contains (put_block block placed) block
 unfolding put_block
 put-own block [] = first-contained block []
@@ -163,6 +165,7 @@ consumed-only block from (suc count) placed there = elim (put-only (consumed_at 
   ]
 ]
 
+-- and the offsets still rise
 pub consumed-rising : (base from count : ℕ) (placed : List PlacedBlock) → base ≤ from → AreRising base placed
     → AreRising base (with_consumed from count placed)
 unfolding with_consumed
@@ -189,6 +192,7 @@ pub record MovesOn (base : ℕ) (placed : List PlacedBlock) (front : Beginning) 
   pub keeps : (block : PlacedBlock) → Contains placed block → (block.offset < front.base) ⊎ Contains front.placed block
   pub passed : (n : ℕ) → base ≤ n → n < front.base → IsEmptyAt placed n
 
+-- the base stays where no empty block stands there
 stays-on : (base given : ℕ) (placed : List PlacedBlock) → given ≡ 0 → AreRising base placed
     → MovesOn base placed (record { base = base; given = given; placed = placed })
 stays-on base given placed none rising = record {
@@ -200,6 +204,7 @@ stays-on base given placed none rising = record {
   passed = λ n low high. absurd (omega (arith, low, high));
 }
 
+-- and passes an empty one
 passes-on : (base : ℕ) (block : PlacedBlock) (others : List PlacedBlock) (front : Beginning) → block.offset ≡ base → length block.bytes ≡ 0
     → MovesOn (base + 1) others front → MovesOn base (block ∷ others) front
 passes-on base block others front at empty rest = record {
@@ -219,6 +224,7 @@ passes-on base block others front at empty rest = record {
   ];
 }
 
+-- so it moves on over the empty ones
 pub beginning-moves : (base given : ℕ) (placed : List PlacedBlock) → given ≡ 0 → AreRising base placed
     → MovesOn base placed (beginning base given placed)
 unfolding beginning

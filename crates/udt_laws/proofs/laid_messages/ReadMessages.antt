@@ -61,6 +61,7 @@ module _ (payload start : ℕ) (messages : List LaidMessage) (some : 1 ≤ paylo
         ];
       }
 
+  -- it is a part of its message
   unread-part : (laid : LaidMessage) (offset : ℕ) (has : HasUnread b offset) → IsSliceOf payload laid offset has.block
       → IsPartOf b offset laid.message.number has.block
   unread-part laid offset has slice =
@@ -151,6 +152,7 @@ module _ (payload start : ℕ) (messages : List LaidMessage) (some : 1 ≤ paylo
       let same = one-block b.base b.placed has.block readable.first kept.rising has.among part.among (has.at ∙ sym part.at) in
       true≢false (sym has.consumed ∙ ap (λ (x : PlacedBlock). x.consumed) same ∙ part.unread)
 
+  -- reading the next message
   reads-by : (m : WholeMessage) → IsNextMessage b (Some m) → IsReadAs payload messages b (after_message b m) m
   reads-by m next =
       let readable = next.0 in

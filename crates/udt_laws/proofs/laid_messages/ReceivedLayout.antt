@@ -26,6 +26,7 @@ pub record GoesOn (payload : ℕ) (messages : List LaidMessage) (b after : Recei
   pub of_layout : IsOfLayout payload messages after
   pub keeps : (n : ℕ) → IsConsumed b n → IsConsumed after n
 
+-- the step that changes nothing
 pub goes-nowhere : (payload : ℕ) (messages : List LaidMessage) (b : ReceiveBlocks) → IsOfLayout payload messages b → GoesOn payload messages b b
 goes-nowhere payload messages b of_layout = record { of_layout = of_layout; keeps = λ n is. is }
 
@@ -38,6 +39,7 @@ module _ (payload start : ℕ) (messages : List LaidMessage) (some : 1 ≤ paylo
       subst (λ (taken : List ℕ). 1 ≤ length taken) (sym of_layout.carries) (slice-some payload some start of_layout.laid offset lies covers)
 
   module _ (b : ReceiveBlocks) (kept : IsOfLayout payload messages b) where
+    -- so has each of those that wait
     are-whole : AreWhole b
     are-whole = record {
       given = kept.given;
@@ -67,8 +69,7 @@ module _ (payload start : ℕ) (messages : List LaidMessage) (some : 1 ≤ paylo
 
     -- ---- consuming a message
 
-    -- it is consumed from its first offset on
-
+    -- all its offsets, and no other ones
     consumes-message : (after : ReceiveBlocks) (from count : ℕ) (laid : LaidMessage) → Contains messages laid → Consumes b after from count
         → ((n : ℕ) → from ≤ n → n < from + count → Covers laid n) → ((n : ℕ) → Covers laid n → IsConsumed after n)
         → GoesOn payload messages b after
@@ -98,6 +99,7 @@ module _ (payload start : ℕ) (messages : List LaidMessage) (some : 1 ≤ paylo
         (λ n above below. record { from = omega (arith, begins, above); to = omega (arith, below, ends) })
         (λ n covers. consumes.takes n (omega (arith, begins, covers.from)) (omega (arith, covers.to, ends)))
 
+    -- each offset of it is consumed then
     pub reads-offset : (from count n : ℕ) → b.base ≤ from → from ≤ n → n < from + count → IsConsumed (after_consuming b from count) n
     reads-offset from count n low above below = (consuming b from count low are-whole).takes n above below
 

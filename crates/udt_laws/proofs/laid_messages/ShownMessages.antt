@@ -18,7 +18,8 @@ use Rattle.udt_model.specs.Step.{step}
 use Rattle.udt_model.proofs.ReceivingLemmas.{AreRising}
 use Rattle.udt_model.proofs.StepLemmas.{step-keeps}
 use Rattle.udt_laws.proofs.laid_messages.Layout.{LaidMessage, AreLaidOut}
-use Rattle.udt_laws.proofs.laid_messages.LayoutLemmas.{Covers, lies-from, one-message, first-covered}
+use Rattle.udt_laws.proofs.laid_messages.LayoutLemmas.{Covers}
+use Rattle.udt_laws.proofs.laid_messages.LayoutEnds.{same-first}
 use Rattle.udt_laws.proofs.laid_messages.Members.{first-contained, other-contained, none-contained, contained-cases}
 use Rattle.udt_laws.proofs.laid_messages.ConsumedOffsets.{IsConsumed}
 use Rattle.udt_laws.proofs.laid_messages.ReceivedLayout.{IsOfLayout, GoesOn}
@@ -63,11 +64,13 @@ abbrev FollowOn : List LaidMessage → List ShownMessage → Type 0
 FollowOn messages [] = Unit {0}
 FollowOn messages (one ∷ others) = ((later : ShownMessage) → Contains others later → Follows messages one later) × FollowOn messages others
 
+-- what stands at a place is among them
 get-contained : (shown : List ShownMessage) (n : ℕ) (one : ShownMessage) → slice_get shown n ≡ Some one → Contains shown one
 get-contained [] n one found = absurd (cc)
 get-contained (first ∷ others) zero one found = subst (Contains (first ∷ others)) (same_Some first one found) (first-contained first others)
 get-contained (first ∷ others) (suc n) one found = other-contained first others one (get-contained others n one found)
 
+-- so does the one at a later place
 follows-at : (messages : List LaidMessage) (shown : List ShownMessage) (m n : ℕ) (one another : ShownMessage) → FollowOn messages shown → m < n
     → slice_get shown m ≡ Some one → slice_get shown n ≡ Some another → Follows messages one another
 follows-at messages [] m n one another follow less found found_too = absurd (cc)
@@ -84,13 +87,21 @@ pub record HasNone (b : ReceiveBlocks) : Type 0 where
   pub placed : b.placed ≡ []
   pub given : b.given ≡ 0
 
+-- so it is in a socket that was just opened
+pub opening-none : {C : Type 0} (w : Ways C) (own : ℕ) (config : Config) (peer : Peer) (now start : ℕ)
+    → HasNone (opening w own config peer now start).receiving.blocks
+unfolding opening
+opening-none w own config peer now start = record { placed = refl; given = refl }
+
 no-block : (b : ReceiveBlocks) (block : PlacedBlock) → b.placed ≡ [] → Contains b.placed block → ⊥
 no-block b block none there = none-contained block (subst (λ (placed : List PlacedBlock). Contains placed block) none there)
 
+-- what is consumed then is below the base
 none-begun : (b : ReceiveBlocks) (laid : LaidMessage) (n : ℕ) → HasNone b → Covers laid n → IsConsumed b n → IsConsumed b laid.message.first
 none-begun b laid n none covers (inl below) = inl (omega (arith, below, covers.from))
 none-begun b laid n none covers (inr has) = absurd (no-block b has.block none.placed has.among)
 
+-- nothing is of any layout
 none-of_layout : (payload : ℕ) (messages : List LaidMessage) (b : ReceiveBlocks) → HasNone b → IsOfLayout payload messages b
 none-of_layout payload messages b none = record {
   given = none.given;
@@ -107,6 +118,7 @@ record MayShow (messages : List LaidMessage) (b : ReceiveBlocks) (shown : List S
   whole : (message : ShownMessage) → Contains shown message → IsLaidAs messages message
   follow : FollowOn messages shown
 
+-- none may always be
 shows-none : (messages : List LaidMessage) (b : ReceiveBlocks) → MayShow messages b []
 shows-none messages b = record {
   fresh = λ message there is. none-contained message there;
@@ -114,6 +126,7 @@ shows-none messages b = record {
   follow = tt;
 }
 
+-- those that may be are as promised, by their places
 may-show-places : (messages : List LaidMessage) (b : ReceiveBlocks) (shown : List ShownMessage) → MayShow messages b shown → AreShownOf messages shown
 may-show-places messages b shown may = record {
   whole = may.whole;
@@ -129,13 +142,6 @@ may-show-places messages b shown may = record {
 }
 
 module _ (payload start : ℕ) (messages : List LaidMessage) (some : 1 ≤ payload) (lie : AreLaidOut payload start messages) where
-  same-first : (one other : LaidMessage) → Contains messages one → Contains messages other → one.message.first ≡ other.message.first → one ≡ other
-  same-first one other among among_too same =
-      let covers = first-covered payload some start one (lies-from payload some start messages one lie among) in
-      let covers_too = first-covered payload some start other (lies-from payload some start messages other lie among_too) in
-      one-message payload some start messages one other one.message.first lie among among_too covers
-      (record { from = omega (arith, same); to = omega (arith, same, covers_too.to) })
-
   -- what goes on shows what may be shown then
   shows-later : (b after : ReceiveBlocks) (shown : List ShownMessage) → GoesOn payload messages b after → MayShow messages after shown
       → MayShow messages b shown
@@ -150,13 +156,14 @@ module _ (payload start : ℕ) (messages : List LaidMessage) (some : 1 ≤ paylo
     above = λ ordered ordered_too. elim (cases_lt m.first later.first) [
       | inl less ↦ less
       | inr most ↦
-          let same = same-first ordered.laid read.laid ordered.among read.among (ordered.at ∙ sym read.at) in
+          let same = same-first payload start messages ordered.laid read.laid some lie ordered.among read.among (ordered.at ∙ sym read.at) in
           let order : read.laid.message.order ≡ true = ap (λ (x : LaidMessage). x.message.order) (sym same) ∙ ordered.ordered in
           let before = read.before order ordered_too.laid ordered_too.among ordered_too.ordered (omega (arith, ordered_too.at, most)) in
           absurd (may.fresh later there (subst (IsConsumed after) ordered_too.at before))
     ];
   }
 
+  -- a message that was read is one of the layout, and the only one that begins there
   read-laid : (b after : ReceiveBlocks) (m : WholeMessage) → IsReadAs payload messages b after m
       → IsLaidAs messages (record { first = m.first; bytes = m.bytes })
   read-laid b after m read = record {
@@ -164,9 +171,10 @@ module _ (payload start : ℕ) (messages : List LaidMessage) (some : 1 ≤ paylo
     among = read.among;
     at = read.at;
     bytes = read.bytes;
-    only = λ other among same. same-first other read.laid among read.among (same ∙ sym read.at);
+    only = λ other among same. same-first payload start messages other read.laid some lie among read.among (same ∙ sym read.at);
   }
 
+  -- so it may be shown before those that may be then
   shows-read : (b after : ReceiveBlocks) (m : WholeMessage) (shown : List ShownMessage) → IsReadAs payload messages b after m
       → MayShow messages after shown → MayShow messages b (record { first = m.first; bytes = m.bytes } ∷ shown)
   shows-read b after m shown read may =
@@ -183,10 +191,12 @@ module _ (payload start : ℕ) (messages : List LaidMessage) (some : 1 ≤ paylo
         follow = (λ later there. follows-read b after m shown later read may there, may.follow);
       }
 
+  -- a step keeps the layout
   steps-goes : (b after : ReceiveBlocks) (shown : List ShownMessage) → StepsSo payload messages b after shown → IsOfLayout payload messages after
   steps-goes b after shown (inl none) = none.1.of_layout
   steps-goes b after shown (inr one) = one.2.goes.of_layout
 
+  -- and what it shows may be shown before those that may be then
   steps-shows : (b after : ReceiveBlocks) (here shown : List ShownMessage) → StepsSo payload messages b after here → MayShow messages after shown
       → MayShow messages b (here ++ shown)
   steps-shows b after here shown (inl none) may =
@@ -195,6 +205,7 @@ module _ (payload start : ℕ) (messages : List LaidMessage) (some : 1 ≤ paylo
       subst (λ (front : List ShownMessage). MayShow messages b (front ++ shown)) (sym one.1) (shows-read b after one.0 shown one.2 may)
 
   module _ {C : Type 0} (w : Ways C) where
+    -- what items show may be shown
     items-show : (s : State C) (items : List Item) → s.kind ≡ kind.Message → AreLegal w s items → AllMeetLayout payload messages w s items
         → IsOfLayout payload messages s.receiving.blocks → MayShow messages s.receiving.blocks (shown_from w s items)
     unfolding AreLegal shown_from
@@ -214,9 +225,3 @@ module _ (payload start : ℕ) (messages : List LaidMessage) (some : 1 ≤ paylo
     shows-layout s items only none legal meets =
         may-show-places messages s.receiving.blocks (shown_from w s items)
         (items-show s items only legal meets (none-of_layout payload messages s.receiving.blocks none))
-
-  -- so it is with a socket that was just opened
-  pub opening-none : {C : Type 0} (w : Ways C) (own : ℕ) (config : Config) (peer : Peer) (now start : ℕ)
-      → HasNone (opening w own config peer now start).receiving.blocks
-  unfolding opening
-  opening-none w own config peer now start = record { placed = refl; given = refl }

@@ -33,7 +33,7 @@ pub record IsFoundAs (payload : ℕ) (messages : List LaidMessage) (m : WholeMes
   pub bytes : m.bytes ≡ laid.bytes
   pub flagged : block.flags ≡ flags_at laid.message m.first
 
--- the first of them
+-- the first of the parts is a part
 pub first-part : (b : ReceiveBlocks) (offset number : ℕ) (first : PlacedBlock) (others : List PlacedBlock) → AreParts b offset number (first ∷ others)
     → IsPartOf b offset number first
 first-part b offset number first [] parts = parts.0
@@ -55,6 +55,7 @@ module _ (payload start : ℕ) (messages : List LaidMessage) (some : 1 ≤ paylo
         carries = own.carries ∙ ap (λ (x : LaidMessage). take payload (rest_of payload x (offset - x.message.first))) same;
       }
 
+  -- so is a part
   part-slice : (laid : LaidMessage) (offset number : ℕ) (block : PlacedBlock) → Contains messages laid → Covers laid offset
       → IsPartOf b offset number block → IsSliceOf payload laid offset block
   part-slice laid offset number block among covers part = slice-of laid offset block among covers part.among part.at part.unread
@@ -64,6 +65,7 @@ module _ (payload start : ℕ) (messages : List LaidMessage) (some : 1 ≤ paylo
       → (offset == laid.message.last) ≡ last
   part-last laid offset block last slice is = sym (ap (λ (x : Flags). x.last) slice.flagged) ∙ is
 
+  -- it has the rest of the message
   rest-last : (laid : LaidMessage) (offset : ℕ) (block : PlacedBlock) → Contains messages laid → IsSliceOf payload laid offset block
       → block.flags.last ≡ true → AreRestOf payload laid offset (block ∷ [])
   rest-last laid offset block among slice last =
@@ -75,6 +77,7 @@ module _ (payload start : ℕ) (messages : List LaidMessage) (some : 1 ≤ paylo
             ∙ subst (λ (n : ℕ). take payload (rest_of payload laid (n - laid.message.first)) ≡ rest_of payload laid (n - laid.message.first)) (sym at) all;
       }
 
+  -- any other has its own bytes, and the next ones the rest
   rest-more : (laid : LaidMessage) (offset : ℕ) (block : PlacedBlock) (others : List PlacedBlock) → Covers laid offset → IsSliceOf payload laid offset block
       → AreRestOf payload laid (offset + 1) others → AreRestOf payload laid offset (block ∷ others)
   rest-more laid offset block others covers slice rest =
