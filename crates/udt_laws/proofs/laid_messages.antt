@@ -7,3 +7,4 @@ pub mod KeptMessages
 pub mod LaidFrom
 pub mod EventsKeepLaid
 pub mod SentMessages
+pub mod AskedMessages
