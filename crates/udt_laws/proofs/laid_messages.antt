@@ -14,3 +14,4 @@ pub mod WholeMessages
 pub mod ReadMessages
 pub mod KeepsLayout
 pub mod ShownMessages
+pub mod AskedMessages

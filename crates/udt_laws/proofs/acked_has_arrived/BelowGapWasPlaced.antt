@@ -1,9 +1,9 @@
 -- What a receiving half knows: each offset below its top that isn't missing was placed or dropped, so all below the least missing
 -- one were.
-use Rattle.std.proofs.Common.{◌≡◌, ℕ, zero, suc, ◌+◌, ◌-◌, ◌<◌, ◌≤◌, max, Bool, true, false, List, [], ◌∷◌, Some, None, Ok, refl, sym, ap, ◌∙◌, subst, ◌⊎◌, inl, inr, arith}
+use Rattle.std.proofs.Common.{◌≡◌, ℕ, zero, suc, ◌+◌, ◌-◌, ◌<◌, ◌≤◌, max, true, false, List, [], ◌∷◌, Some, None, refl, sym, ◌∙◌, ◌⊎◌, inl, inr, arith}
 use Rattle.std.specs.Prelude.{◌==◌, nat_lt, nat_le, if◌then◌else◌, Option, length}
 use Rattle.std.specs.List.{range_with_len}
-use Rattle.std.proofs.lemmas.Bool.{cases_eq, cases_lt, cases_Bool, false_from_ne_true, true≢false, lt-ltb, ltb-true, ltb-false, or_left, or_right, eq-eqb}
+use Rattle.std.proofs.lemmas.Bool.{cases_eq, cases_lt, false_from_ne_true, true≢false, lt-ltb, ltb-true, ltb-false, or_left, or_right, eq-eqb}
 use Rattle.std.proofs.lemmas.Bool.Decides.{nat_tests}
 use Rattle.udt_model.specs.declared.answers.Placed.{Placed}
 use Rattle.udt_model.specs.declared.answers.Placed.TheVariants as placing
@@ -13,7 +13,7 @@ use Rattle.udt_model.specs.History.{offsets_of_range}
 use Rattle.udt_model.specs.Losses.{LostRange, offsets_between, is_missing, with_missing, without_missing, report, after_report}
 use Rattle.udt_model.specs.ReceiveBlocks.{ReceiveBlocks, PlacedBlock, WholeMessage, placing_of, arrived_at, after_placing_of, after_place, with_consumed, given_after, next_message, after_message, after_found, after_read_message}
 use Rattle.udt_model.specs.ReceiveHalf.{Receiving, measured, offset_of, placing_at, missing_after, with_new, after_placing, after_block, missing_with, with_taken, after_receive, after_receive_message}
-use Rattle.udt_model.specs.ReceiveReports.{least_missing, ack_offset, nak_words, AckOutcome, IsEarly, IsKnown, EmitsAck, ack_outcome, after_ack_outcome, after_ack_timer, after_nak_timer, confirmed_by, after_ack2}
+use Rattle.udt_model.specs.ReceiveReports.{ack_offset, nak_words, AckOutcome, IsEarly, IsKnown, EmitsAck, ack_outcome, after_ack_outcome, after_ack_timer, after_nak_timer, confirmed_by, after_ack2}
 use Rattle.udt_model.specs.Timing.{RoundTrip, period_of, last_under}
 use Rattle.udt_model.proofs.MissingOffsets.{added_keeps, added_has, arrived_keeps, taken_keeps, reported_same, below_least, least_is}
 use Rattle.udt_model.proofs.TakenOffsets.{begins_later}
@@ -97,11 +97,17 @@ not_removed : (r : Receiving) (range : LostRange) (n : ℕ) → n < max r.top (r
     → is_missing n (without_missing range.first range.last r.missing) ≡ false
     → ((n < r.top) × (is_missing n r.missing ≡ false)) ⊎ ((range.first ≤ n) × (n ≤ range.last))
 not_removed r range n less most none = elim (cases_lt n range.first) [
-  | inl before ↦ inl (omega (arith, before, most), false_from_ne_true _ (λ there.
-      true≢false (sym (taken_keeps range.first range.last n r.missing there (or_left (nat_lt n range.first) _ (lt-ltb n range.first before))) ∙ none)))
+  | inl before ↦ inl (
+    omega (arith, before, most),
+    false_from_ne_true _ (λ there.
+        true≢false (sym (taken_keeps range.first range.last n r.missing there (or_left (nat_lt n range.first) _ (lt-ltb n range.first before))) ∙ none)),
+  )
   | inr from ↦ elim (cases_lt range.last n) [
-    | inl after ↦ inl (omega (arith, less, after), false_from_ne_true _ (λ there.
-        true≢false (sym (taken_keeps range.first range.last n r.missing there (or_right (nat_lt n range.first) _ (lt-ltb range.last n after))) ∙ none)))
+    | inl after ↦ inl (
+      omega (arith, less, after),
+      false_from_ne_true _ (λ there.
+          true≢false (sym (taken_keeps range.first range.last n r.missing there (or_right (nat_lt n range.first) _ (lt-ltb range.last n after))) ∙ none)),
+    )
     | inr to ↦ inr (from, to)
   ]
 ]

@@ -61,6 +61,7 @@ sends-all isn last_isn full last_full start messages more all emission number fl
       (block_of-more full messages more sends.offset flags bytes sends.block));
 }
 
+-- and so it is with a drop request
 drops-all : (isn last_isn : ℕ) (messages more all : List LaidMessage) (emission : Emission) (first last : ℕ) → isn ≡ last_isn
     → all ≡ messages ++ more → AsksDrop isn messages emission first last → AsksDrop last_isn all emission first last
 drops-all isn last_isn messages more all emission first last isn_is all_are drops = record {
@@ -227,8 +228,8 @@ module _ {C : Type 0} (w : Ways C) where
         cut (keeps-at emission at) message stamp dest first last at.emitting same in
         drops-all _ _ messages (laid-later emission at) _ emission first last (isn-last at.front) (laid-all emission at) found
 
-    half-sends : SendsMessages h
-    half-sends = record {
+    history-sends : SendsMessages h
+    history-sends = record {
       laid = laid_from w h.opening h.items;
       some = (items-cut w h.opening (start_of h) [] h.items begins-cut).payload;
       are_laid = (keeps-after h.items legal).laid_out;
@@ -237,7 +238,7 @@ module _ {C : Type 0} (w : Ways C) where
       drops = asks-drop;
     }
 
-  -- whatever happens to it
+  -- so each message socket sends
   pub sends_messages : (socket : Enrolled C) → IsSocket w socket → CarriesMessages socket.history → SendsMessages socket.history
   sends_messages socket is_socket carries =
-      half-sends socket.own socket.way socket.history is_socket.in_range is_socket.opened is_socket.legal carries
+      history-sends socket.own socket.way socket.history is_socket.in_range is_socket.opened is_socket.legal carries

@@ -1,6 +1,6 @@
 -- Which lines make a pair, and that its values are in their ranges.
 use Rattle.std.proofs.Common.{◌≡◌, ℕ, ◌-◌, ◌^◌, ◌<◌, ◌≤◌, Bool, true, false, List, [], ◌∷◌, Some, None, refl, ap, inl, inr, ◌⊎◌, arith}
-use Rattle.std.specs.Prelude.{Option, if◌then◌else◌, ◌&&◌, codes}
+use Rattle.std.specs.Prelude.{Option, if◌then◌else◌, codes}
 use Rattle.std.proofs.lemmas.Bool.Decides.{nat_tests}
 use Rattle.udt_model.specs.declared.limits.TheConstants.{MOST_PAYLOAD, FEWEST_BLOCKS, MOST_BLOCKS, LAST_START}
 use Rattle.udt_model.specs.Addresses.{addr_of}
