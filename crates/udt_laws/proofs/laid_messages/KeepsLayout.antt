@@ -1,7 +1,6 @@
 -- What the events of a message socket keep of the layout, where arrivals bring nothing else.
 use Rattle.std.proofs.Common.{◌≡◌, ℕ, suc, ◌≤◌, true, false, List, [], ◌∷◌, length, Some, None, Ok, Err, refl, ap, subst, inl, inr, ◌⊎◌, arith}
-use Rattle.std.specs.Prelude.{Option, ◌==◌, nat_le, nat_lt, if◌then◌else◌}
-use Rattle.std.proofs.lemmas.Bool.{cases_Bool}
+use Rattle.std.specs.Prelude.{Option, ◌==◌, nat_le, if◌then◌else◌}
 use Rattle.std.proofs.lemmas.Bool.Decides.{nat_tests}
 use Rattle.udt_model.specs.declared.addresses.Addr.{Addr}
 use Rattle.udt_model.specs.declared.answers.Phase.{Phase}
@@ -13,7 +12,6 @@ use Rattle.udt_model.specs.declared.answers.Refusal.TheVariants as refusal
 use Rattle.udt_model.specs.declared.packets.Flags.{Flags}
 use Rattle.udt_model.specs.declared.packets.Kind.{Kind}
 use Rattle.udt_model.specs.declared.packets.Kind.TheVariants as kind
-use Rattle.udt_model.specs.declared.sockets.SentAck.{SentAck}
 use Rattle.udt_model.specs.Calls.{answer_message, gives_message, recv_message_in, recv_message_as}
 use Rattle.udt_model.specs.Events.{Act, RecvMessage, Arrive, Event, ReceivedMessage, at_moment}
 use Rattle.udt_model.specs.History.{Item, ShownMessage, shown_as, shown_by}
@@ -22,10 +20,10 @@ use Rattle.udt_model.specs.Numbers.{near}
 use Rattle.udt_model.specs.Rate.{Ways}
 use Rattle.udt_model.specs.ReceiveBlocks.{ReceiveBlocks, WholeMessage, placing_of, arrived_at, after_placing_of, after_place, next_message, after_message, after_found, after_read_message}
 use Rattle.udt_model.specs.ReceiveHalf.{Receiving, measured, offset_of, placing_at, after_placing, after_block, drop_range, with_taken, after_receive_message}
-use Rattle.udt_model.specs.ReceiveReports.{AckOutcome, IsEarly, IsKnown, EmitsAck, ack_outcome, after_ack_outcome, after_ack_timer, after_nak_timer, confirmed_by, after_ack2}
+use Rattle.udt_model.specs.ReceiveReports.{after_ack_timer, after_nak_timer, after_ack2}
 use Rattle.udt_model.specs.State.{State}
 use Rattle.udt_model.specs.Step.{step}
-use Rattle.udt_model.specs.Timing.{RoundTrip, last_under}
+use Rattle.udt_model.specs.Timing.{RoundTrip}
 use Rattle.udt_model.specs.Wire.{Block, DropAsk, read}
 use Rattle.udt_model.proofs.DropLemmas.{drop_range-is}
 use Rattle.udt_model.proofs.ReceivingLemmas.{placing-new, offset_of-some}
