@@ -15,3 +15,5 @@ pub mod ReadMessages
 pub mod KeepsLayout
 pub mod ShownMessages
 pub mod AskedMessages
+pub mod ShowsAsked
+pub mod PeerMessagesAlone

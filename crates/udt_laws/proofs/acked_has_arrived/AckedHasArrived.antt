@@ -18,7 +18,7 @@ use Rattle.udt_model.specs.Step.{step}
 use Rattle.udt_model.specs.Events.{Act, Arrive}
 use Rattle.udt_model.specs.History.{Item, History, start_of, acked, arrived, placed_offsets, dropped_offsets}
 use Rattle.udt_model.specs.Records.{Enrolled, IsSocket, EndpointRecord, StandsAt, PeerPair, own_peer, ArePaired, AreLawful}
-use Rattle.udt_model.specs.Emissions.{emitted, sent, arrived_by_act, arrived_by, arrivals}
+use Rattle.udt_model.specs.Emissions.{sent, arrived_by_act, arrived_by, arrivals}
 use Rattle.udt_model.specs.Honest.{IsHonestAct, AreHonest, IsHonest}
 use Rattle.udt_model.proofs.NearLemmas.{near-found, near-is}
 use Rattle.udt_model.proofs.RecordLemmas.{emitted-from_sent}
@@ -26,7 +26,7 @@ use Rattle.udt_model.proofs.StepLemmas.{step-keeps}
 use Rattle.udt_model.proofs.WireLemmas.{target-of-read}
 use Rattle.udt_laws.specs.Laws.{ComesFrom, PairArrived}
 use Rattle.udt_laws.proofs.sockets.Opened.{names, pair-stream}
-use Rattle.udt_laws.proofs.sockets.OneSocket.{emitter-is, own-pair-back, AreOwnPair, own-pair}
+use Rattle.udt_laws.proofs.sockets.OneSocket.{from-sender, own-pair-back, AreOwnPair, own-pair}
 use Rattle.udt_laws.proofs.acked_has_arrived.AcksNamePlaced.{TellsOf, HasPlaced, HasTaken, stream-placed, all-taken}
 use Rattle.udt_laws.proofs.acked_has_arrived.AckedWasNamed.{AcksAct, AllAck, items-acked}
 use Rattle.udt_laws.proofs.acked_has_arrived.SendsOneAnEvent.{SendsBelow, sends-below_sent, sends-below_events}
@@ -65,13 +65,10 @@ module _ {C : Type 0} (w : Ways C) where
     act-acks : (s : State C) (act : Act) → s.own ≡ own → s.peer.addr ≡ other_addr → s.sending.isn ≡ h.opening.sending.isn
         → IsHonestAct w net addr s act → AcksAct AllBelow s act
     act-acks s (Arrive from bytes) own_is addr_is isn_is was = λ number stamp body offset from_is reads at.
-        let packet = Ack number stamp s.own body in
-        let same = emitter-is w net lawful addr other_addr own other stands names_back s from bytes packet (from_is ∙ addr_is) was reads refl own_is in
-        let among = subst (λ (x : Enrolled C). Contains (emitted w x.history) was.emission) same was.emits in
-        let bytes_are : was.emission.datagram.bytes ≡ bytes = ap (λ (d : Datagram). d.bytes) was.datagram in
-        let tells = are.tells was.emission number stamp s.own body among (ap read bytes_are ∙ reads) in
-        let close = was.close packet tells.offset reads
-        (subst (λ (offsets : List ℕ). Contains offsets tells.offset) (sym tells.names) (Contains-push [] tells.offset)) in
+        let near = from-sender w net lawful addr other_addr own other stands names_back s from bytes (Ack number stamp s.own body)
+        (from_is ∙ addr_is) was reads refl own_is in
+        let tells = are.tells near.emission number stamp s.own body near.among (ap read near.same ∙ reads) in
+        let close = near.close tells.offset (subst (λ (offsets : List ℕ). Contains offsets tells.offset) (sym tells.names) (Contains-push [] tells.offset)) in
         let carries : sequence_number s.sending.isn tells.offset ≡ acked_number body =
         ap (λ (isn : ℕ). sequence_number isn tells.offset) (isn_is ∙ sym are.same_isn) ∙ tells.numbered in
         let there = near-is s.sending.isn s.sending.blocks.first (acked_number body) tells.offset

@@ -1,21 +1,21 @@
 -- The messages of a layout are those that its sender was asked to send.
-use Rattle.std.proofs.Common.{◌≡◌, ℕ, true, List, [], ◌∷◌, map, ap, ◌∙◌, sym, subst, inl, inr}
+use Rattle.std.proofs.Common.{◌≡◌, List, [], ◌∷◌, map, ap, ◌∙◌, sym, subst, inl, inr}
 use Rattle.std.specs.List.{Contains}
 use Rattle.udt_model.specs.History.{AskedMessage, ShownMessage, History, asked}
 use Rattle.udt_model.specs.Rate.{Ways}
-use Rattle.udt_laws.specs.Laws.{WasAsked, IsOrdered}
+use Rattle.udt_laws.specs.Laws.{WasAsked}
 use Rattle.udt_laws.proofs.laid_messages.Layout.{LaidMessage, asked_as}
 use Rattle.udt_laws.proofs.laid_messages.LayoutEnds.{same-first}
 use Rattle.udt_laws.proofs.laid_messages.Members.{first-contained, other-contained, none-contained, contained-cases}
 use Rattle.udt_laws.proofs.laid_messages.SentMessages.{SendsMessages}
 
 -- one of the messages is the one that was asked
-record IsAskedAs (messages : List LaidMessage) (one : AskedMessage) : Type 0 where
-  laid : LaidMessage
-  among : Contains messages laid
-  is : asked_as laid ≡ one
+pub record IsAskedAs (messages : List LaidMessage) (one : AskedMessage) : Type 0 where
+  pub laid : LaidMessage
+  pub among : Contains messages laid
+  pub is : asked_as laid ≡ one
 
-asked-is : (messages : List LaidMessage) (one : AskedMessage) → Contains (map asked_as messages) one → IsAskedAs messages one
+pub asked-is : (messages : List LaidMessage) (one : AskedMessage) → Contains (map asked_as messages) one → IsAskedAs messages one
 asked-is [] one there = absurd (none-contained one there)
 asked-is (first ∷ others) one there = elim (contained-cases (asked_as first) (map asked_as others) one there) [
   | inl same ↦ record { laid = first; among = first-contained first others; is = same }
@@ -51,8 +51,3 @@ module _ {C : Type 0} (w : Ways C) (h : History C) (sends : SendsMessages w h) (
     same = λ another there first.
         sym (ap (λ (a : AskedMessage). a.bytes) (asked-here another there (first ∙ sym at))) ∙ sym bytes;
   }
-
-  -- and what was asked of its order holds of it
-  pub ordered-laid : (first : ℕ) → laid.message.first ≡ first → IsOrdered w h first → laid.message.order ≡ true
-  ordered-laid first at ordered =
-      ap (λ (a : AskedMessage). a.order) (asked-here ordered.asked_one ordered.among (ordered.at ∙ sym at)) ∙ ordered.ordered

@@ -21,8 +21,9 @@ use Rattle.udt_model.proofs.WireLemmas.{target-read}
 use Rattle.udt_model.proofs.RecordLemmas.{emitted-from_sent}
 use Rattle.udt_model.proofs.StepLemmas.{step-keeps}
 use Rattle.udt_laws.specs.Laws.{IsStream, HasBlocks, ComesFrom, PairPrefix}
-use Rattle.udt_laws.proofs.delivered_prefix.PeerBlocksAlone.{IsEmittedNear, IsBlockAt, reads-as, mates}
+use Rattle.udt_laws.proofs.delivered_prefix.PeerBlocksAlone.{IsBlockAt, reads-as, mates}
 use Rattle.udt_laws.proofs.delivered_is_carried.DeliversPlacedBlocks.{MeetsAct, AllMeet}
+use Rattle.udt_laws.proofs.sockets.OneSocket.{IsEmittedNear}
 use Rattle.udt_laws.proofs.sockets.Opened.{pair-stream}
 use Rattle.udt_laws.proofs.pairs.NamedIsBelow.{BlocksBelow, below-sent, below-events}
 use Rattle.udt_laws.proofs.delivered_prefix.WindowRises.{IsWithin, step-within}
