@@ -21,9 +21,7 @@ use Rattle.udt_model.specs.Records.{Enrolled, IsSocket, EndpointRecord, StandsAt
 use Rattle.udt_model.specs.Emissions.{sent, arrived_by_act, arrived_by, arrivals}
 use Rattle.udt_model.specs.Honest.{IsHonestAct, AreHonest, IsHonest}
 use Rattle.udt_model.proofs.NearLemmas.{near-found, near-is}
-use Rattle.udt_model.proofs.RecordLemmas.{emitted-from_sent}
 use Rattle.udt_model.proofs.StepLemmas.{step-keeps}
-use Rattle.udt_model.proofs.WireLemmas.{target-of-read}
 use Rattle.udt_laws.specs.Laws.{ComesFrom, PairArrived}
 use Rattle.udt_laws.proofs.sockets.Opened.{names, pair-stream}
 use Rattle.udt_laws.proofs.sockets.OneSocket.{comes-emitted, from-sender, own-pair-back, AreOwnPair, own-pair}

@@ -1,6 +1,6 @@
 -- Of two message sockets that were made as a pair, and each got from the other alone, the one shows what the other was asked, where
 -- that one accepted fewer than 2^30 bytes.
-use Rattle.std.proofs.Common.{◌≡◌, ℕ, ◌+◌, ◌^◌, ◌<◌, ◌≤◌, List, [], ◌∷◌, length, Some, Ok, refl, ap, ◌∙◌, sym, subst, inl, inr, arith}
+use Rattle.std.proofs.Common.{◌≡◌, ℕ, ◌+◌, ◌^◌, ◌<◌, ◌≤◌, List, [], ◌∷◌, length, Ok, ap, ◌∙◌, sym, subst, inl, inr, arith}
 use Rattle.std.specs.List.{Contains}
 use Rattle.std.proofs.lemmas.List.Elements.{Contains-append_left, Contains-append_right, Contains-push}
 use Rattle.udt_model.specs.declared.addresses.Addr.{Addr}
@@ -8,17 +8,17 @@ use Rattle.udt_model.specs.declared.answers.Peer.{Peer}
 use Rattle.udt_model.specs.declared.packets.Flags.{Flags}
 use Rattle.udt_model.specs.Emissions.{emitted, arrived_by_act, arrived_by, arrivals}
 use Rattle.udt_model.specs.Events.{Act, Arrive}
-use Rattle.udt_model.specs.History.{Item, History, state_of, start_of, accepted}
+use Rattle.udt_model.specs.History.{Item, state_of, start_of, accepted}
 use Rattle.udt_model.specs.Honest.{IsClose}
 use Rattle.udt_model.specs.Rate.{Ways}
 use Rattle.udt_model.specs.Records.{Enrolled, IsSocket, ArePaired}
 use Rattle.udt_model.specs.State.{State, Datagram, Emission}
 use Rattle.udt_model.specs.Step.{step}
-use Rattle.udt_model.specs.Wire.{Packet, Block, DropAsk, destination, read}
+use Rattle.udt_model.specs.Wire.{Block, DropAsk, read}
 use Rattle.udt_model.proofs.StepLemmas.{step-keeps}
 use Rattle.udt_laws.specs.Laws.{CarriesMessages, ComesFrom, ShowsMessages}
 use Rattle.udt_laws.proofs.sockets.Opened.{pair-kind}
-use Rattle.udt_laws.proofs.sockets.OneSocket.{paired-back, IsEmittedAs, comes-emitted, IsEmittedNear}
+use Rattle.udt_laws.proofs.sockets.OneSocket.{paired-back, comes-emitted}
 use Rattle.udt_laws.proofs.sent_blocks.AcceptedIsCut.{blocks_by-parts}
 use Rattle.udt_laws.proofs.sent_blocks.NamedWasSent.{only-named}
 use Rattle.udt_laws.proofs.sent_blocks.SentBlocks.{way-begins, last-cut}

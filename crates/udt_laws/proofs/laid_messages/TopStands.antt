@@ -1,5 +1,5 @@
 -- Where the top of a message socket's receiving half stands, over events: not past all that arrivals place or drop.
-use Rattle.std.proofs.Common.{◌≡◌, ℕ, ◌+◌, ◌<◌, ◌≤◌, List, Some, None, refl, ap, ◌∙◌, sym, subst, arith}
+use Rattle.std.proofs.Common.{◌≡◌, ℕ, ◌<◌, ◌≤◌, List, Some, None, refl, ◌∙◌, sym, subst, arith}
 use Rattle.std.specs.Prelude.{Option, ◌==◌, nat_lt}
 use Rattle.std.specs.List.{Contains}
 use Rattle.std.proofs.lemmas.Bool.{cases_Bool}

@@ -1,14 +1,14 @@
 -- A line of a script that has a socket take bytes is at least as long as these.
-use Rattle.std.proofs.Common.{◌≡◌, ℕ, suc, ◌+◌, ◌-◌, ◌^◌, ◌≤◌, Bool, true, false, List, [], ◌∷◌, length, Some, None, Ok, refl, ap, ◌∙◌, sym, inl, inr, arith}
-use Rattle.std.specs.Prelude.{Option, ◌==◌, codes, option_map, if◌then◌else◌}
+use Rattle.std.proofs.Common.{◌≡◌, ℕ, suc, ◌+◌, ◌-◌, ◌^◌, ◌≤◌, true, false, List, [], ◌∷◌, length, Some, None, Ok, refl, ap, ◌∙◌, sym, inl, inr, arith}
+use Rattle.std.specs.Prelude.{◌==◌, codes, if◌then◌else◌}
 use Rattle.std.proofs.lemmas.List.{length-take}
 use Rattle.std.proofs.lemmas.Option.{same_Some}
 use Rattle.udt_model.specs.declared.limits.TheConstants.{MOST_PAYLOAD, FEWEST_BLOCKS, MOST_BLOCKS, LAST_START}
 use Rattle.udt_model.specs.Addresses.{addr_of}
-use Rattle.udt_model.specs.Events.{Act, Send, Recv, SendMessage, RecvMessage, Pack, Tick, Close, Measure, Arrive, Reply, Sent, SentMessage}
+use Rattle.udt_model.specs.Events.{Act, Send, SendMessage, Pack, Tick, Close, Measure, Reply, Sent, SentMessage}
 use Rattle.udt_model.specs.History.{taken_by}
-use Rattle.udt_model.specs.Lines.{Line, Silent, PairLine, CallLine, DeliverLine, RawLine, is_silent, moment_of, alone, send_of, recv_of, ttl_of, order_of, sendmsg_of, recvmsg_of, call_of, call_line, deliver_line, raw_line, is_call, kind_of, pairing_of, pair_line, line_by_words, read_line}
-use Rattle.udt_model.specs.Words.{◌>>=◌, words_of, in_front, is_word, name_of, number_within, nibble_of, pairs_of, bytes_of}
+use Rattle.udt_model.specs.Lines.{Line, CallLine, is_silent, moment_of, alone, send_of, recv_of, ttl_of, order_of, sendmsg_of, recvmsg_of, call_of, call_line, deliver_line, raw_line, is_call, kind_of, pairing_of, pair_line, line_by_words, read_line}
+use Rattle.udt_model.specs.Words.{words_of, in_front, is_word, name_of, number_within, nibble_of, pairs_of, bytes_of}
 use Rattle.udt_laws.proofs.scripts.PairLines.{bind-some, if-some}
 
 -- how many bytes an act gives a socket to take

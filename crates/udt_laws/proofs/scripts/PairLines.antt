@@ -5,7 +5,7 @@ use Rattle.std.proofs.lemmas.Bool.Decides.{nat_tests}
 use Rattle.udt_model.specs.declared.limits.TheConstants.{MOST_PAYLOAD, FEWEST_BLOCKS, MOST_BLOCKS, LAST_START}
 use Rattle.udt_model.specs.Addresses.{addr_of}
 use Rattle.udt_model.specs.Words.{◌>>=◌, words_of, is_word, name_of, number_of, if_within, number_within, bytes_of}
-use Rattle.udt_model.specs.Lines.{Pairing, Line, PairLine, is_silent, moment_of, kind_of, pairing_of, pair_line, is_call, call_of, call_line, deliver_line, raw_line, line_by_words, read_line}
+use Rattle.udt_model.specs.Lines.{Pairing, PairLine, is_silent, moment_of, kind_of, pairing_of, pair_line, is_call, call_of, call_line, deliver_line, raw_line, line_by_words, read_line}
 
 -- the values of a pair are in their ranges
 pub record IsPairing (p : Pairing) : Type 0 where
