@@ -17,3 +17,5 @@ pub mod ShownMessages
 pub mod AskedMessages
 pub mod ShowsAsked
 pub mod PeerMessagesAlone
+pub mod TopStands
+pub mod PairMessages

@@ -1,20 +1,18 @@
 -- Where records are lawful and honest, what arrives from a socket's peer was emitted by the peer alone, and is read
 -- as what it was.
-use Rattle.std.proofs.Common.{◌≡◌, ℕ, List, [], ◌∷◌, Some, Ok, refl, ap, ◌∙◌, sym, subst}
-use Rattle.std.specs.List.{Contains}
+use Rattle.std.proofs.Common.{◌≡◌, ℕ, List, [], ◌∷◌, Some, refl, ap, ◌∙◌, sym}
 use Rattle.udt_model.specs.declared.packets.Kind.TheVariants.{Stream}
 use Rattle.udt_model.specs.declared.addresses.Addr.{Addr}
 use Rattle.udt_model.specs.declared.answers.Peer.{Peer}
-use Rattle.udt_model.specs.declared.packets.Flags.{Flags}
-use Rattle.udt_model.specs.Wire.{Block, read}
-use Rattle.udt_model.specs.State.{State, Datagram}
+use Rattle.udt_model.specs.Wire.{Block}
+use Rattle.udt_model.specs.State.{State}
 use Rattle.udt_model.specs.Step.{step}
 use Rattle.udt_model.specs.Events.{Act, Arrive}
 use Rattle.udt_model.specs.History.{Item, state_of, accepted, delivered}
 use Rattle.udt_model.specs.Rate.{Ways}
 use Rattle.udt_model.specs.Records.{Enrolled, EndpointRecord, StandsAt, PeerPair, own_peer, AreLawful}
-use Rattle.udt_model.specs.Emissions.{IsPrefix, emitted}
-use Rattle.udt_model.specs.Honest.{WasEmitted, IsHonestAct, AreHonest, IsHonest}
+use Rattle.udt_model.specs.Emissions.{IsPrefix}
+use Rattle.udt_model.specs.Honest.{IsHonestAct, AreHonest, IsHonest}
 use Rattle.udt_model.proofs.StepLemmas.{step-keeps}
 use Rattle.udt_laws.specs.Laws.{HasBlocks}
 use Rattle.udt_laws.proofs.delivered_is_carried.DeliversPlacedBlocks.{MeetsAct, AllMeet}

@@ -1,16 +1,19 @@
 -- In lawful records an address and an ID name one socket, and so do an address and a peer.
-use Rattle.std.proofs.Common.{◌≡◌, ℕ, false, List, Some, Ok, ap, ◌∙◌, sym, subst}
+use Rattle.std.proofs.Common.{◌≡◌, ℕ, false, List, Some, Ok, refl, ap, ◌∙◌, sym, subst}
 use Rattle.std.specs.List.{Contains}
 use Rattle.std.proofs.lemmas.Option.{same_Some}
 use Rattle.udt_model.specs.declared.addresses.Addr.{Addr}
 use Rattle.udt_model.specs.Wire.{Packet, is_handshake, destination, read}
 use Rattle.udt_model.specs.declared.answers.Peer.{Peer}
-use Rattle.udt_model.specs.Emissions.{emitted}
+use Rattle.udt_model.specs.Emissions.{emitted, arrivals}
 use Rattle.udt_model.specs.History.{History}
 use Rattle.udt_model.specs.State.{State, Datagram, Emission}
 use Rattle.udt_model.specs.Rate.{Ways}
 use Rattle.udt_model.specs.Records.{Way, PairedAt, opened_by, Enrolled, IsSocket, EndpointRecord, StandsAt, PeerPair, own_peer, ArePaired, AreLawful}
 use Rattle.udt_model.specs.Honest.{IsClose, read_by, WasEmitted}
+use Rattle.udt_model.proofs.RecordLemmas.{emitted-from_sent}
+use Rattle.udt_model.proofs.WireLemmas.{target-of-read}
+use Rattle.udt_laws.specs.Laws.{ComesFrom}
 use Rattle.udt_laws.proofs.sockets.Opened.{names, last_peer}
 
 -- being a pair goes both ways
@@ -26,6 +29,21 @@ module _ {C : Type 0} (w : Ways C) where
     pub among : Contains (emitted w g) emission
     pub same : emission.datagram.bytes ≡ bytes
     pub close : (offset : ℕ) → Contains emission.offsets offset → IsClose offset top
+
+  -- the bytes were emitted in this history
+  pub record IsEmittedAs (g : History C) (bytes : List ℕ) : Type 0 where
+    pub emission : Emission
+    pub among : Contains (emitted w g) emission
+    pub same : emission.datagram.bytes ≡ bytes
+
+  -- where what comes from an address for a socket comes from this sender, its packets were emitted by it
+  pub comes-emitted : (receiver : Enrolled C) (from : Addr) (sender : Enrolled C) → IsSocket w sender → ComesFrom receiver from sender
+      → (bytes : List ℕ) (packet : Packet) → Contains (arrivals receiver.history) (record { addr = from; bytes = bytes }) → read bytes ≡ Ok packet
+      → destination packet ≡ receiver.own → IsEmittedAs sender.history bytes
+  comes-emitted receiver from sender is_sender comes bytes packet among reads own_is =
+      let came = comes (record { addr = from; bytes = bytes }) among refl (target-of-read bytes packet reads ∙ ap (λ (id : ℕ). Some id) own_is) in
+      let is = emitted-from_sent w sender.history.opening sender.history.items came.0 is_sender.legal came.1 in
+      record { emission = is.emission; among = is.among; same = ap (λ (d : Datagram). d.bytes) is.datagram_is ∙ came.2 }
 
   -- a socket that was made as a pair names the other one as its peer
   pub names-other : (addr : Addr) (own : ℕ) (way : Way) (h : History C) (other_addr : Addr) (other_own : ℕ) (other_way : Way)
