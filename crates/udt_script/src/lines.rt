@@ -2,8 +2,9 @@
 
 use udt_model::{Addr, Heard, Kind, Packed, Perf, Refusal};
 
-/// Two sockets that are to be paired: what they carry, their names, the bytes of a block, the initial sequence number,
-/// how many blocks each keeps each way, and the offset at which both directions begin.
+/// Two sockets that are to be paired: what they carry, their names, the bytes of a block, the
+/// initial sequence number, how many blocks each keeps each way, and the offset at which both
+/// directions begin.
 #[derive(Clone, Copy, Debug, PartialEq, Eq)]
 pub struct Pairing<'a> {
     pub kind: Kind,
@@ -23,9 +24,9 @@ pub struct ScriptDatagram {
     pub bytes: Vec<u8>,
 }
 
-/// A call of a socket: a send of bytes, a receive with room for this many bytes, the same of a message,
-/// which has a time to live in microseconds, where it has one, and may have to be delivered in order, a pack, a tick, a
-/// close, or what was measured so far.
+/// A call of a socket: a send of bytes, a receive with room for this many bytes, the same of a
+/// message, a pack, a tick, a close, or what was measured so far. A message may have a time to
+/// live, in microseconds, and may have to be delivered in order.
 #[derive(Debug, PartialEq, Drop)]
 pub enum Call {
     Send(Vec<u8>),
@@ -64,8 +65,9 @@ pub enum Line<'a> {
     },
 }
 
-/// What a socket answered: how many bytes it took, the bytes that it gave, the same of a message, what it packed, that it
-/// ticked or was closed, what it has measured, and what became of a datagram that arrived.
+/// What a socket answered: how many bytes it took, the bytes that it gave, the same of a message,
+/// what it packed, that it ticked or was closed, what it has measured, and what became of a
+/// datagram that arrived.
 #[derive(Debug, PartialEq, Drop)]
 pub enum Reply {
     Sent(Result<usize, Refusal>),

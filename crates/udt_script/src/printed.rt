@@ -49,7 +49,7 @@ pub fn print_reply(out: &mut Vec<u8>, name: &[u8], reply: &Reply) -> Result<(), 
             append_hex(out, bytes)?;
             append(out, &[b"\n"])
         }
-        Reply::ReceivedMessage(Err(why)) => { append_event(out, name, b"recvmsg ", no_text(*why)) }
+        Reply::ReceivedMessage(Err(why)) => append_event(out, name, b"recvmsg ", no_text(*why)),
         Reply::Packed(Packed::Block(_)) => append_event(out, name, b"pack ", b"data"),
         Reply::Packed(Packed::DropAsk(_)) => append_event(out, name, b"pack ", b"drop"),
         Reply::Packed(Packed::NotYet(until)) => {

@@ -1,7 +1,7 @@
 // The sockets of a script, and the datagrams that they emitted.
 
 ghost use Rattle.std.specs.Prelude.{◌≡◌, ℕ, ◌+◌, ◌<◌, ◌++◌, length, map, take, position, vec_len, IfSome, IfOk, OnOk, OnErr};
-ghost use Rattle.udt_model.specs.Events.{RecvMessage, Recv, event, outs_of};
+ghost use Rattle.udt_model.specs.Events.{Recv, RecvMessage, event, outs_of};
 ghost use Rattle.udt_model.specs.Script.{from_host};
 ghost use Rattle.udt_model.specs.Step.{step};
 ghost use Rattle.udt_model.specs.Texts.{datagrams_text};
@@ -104,7 +104,7 @@ fn receive_message<C: Control>(
 }
 
 // What a call of a socket answers. What it emits is left in `outs`.
-#[tactic(auto, using(crate::proofs::EventLemmas::send_outs, crate::proofs::EventLemmas::recv_outs, crate::proofs::EventLemmas::close_outs, crate::proofs::EventLemmas::close_reply, crate::proofs::EventLemmas::tick_reply, crate::proofs::EventLemmas::measure_outs))]
+#[tactic(auto, using(crate::proofs::EventLemmas::send_outs, crate::proofs::EventLemmas::recv_outs, crate::proofs::EventLemmas::send_message_outs, crate::proofs::EventLemmas::recv_message_outs, crate::proofs::EventLemmas::close_outs, crate::proofs::EventLemmas::close_reply, crate::proofs::EventLemmas::tick_reply, crate::proofs::EventLemmas::measure_outs))]
 fn answer<C: Control>(
     alloc: Global,
     socket: &mut Socket<C>,
