@@ -100,7 +100,6 @@ module _ {C : Type 0} (w : Ways C) where
     pub has : HasBlocks w g
     pub own_is : h.opening.own ≡ own
     pub peer_addr : h.opening.peer.addr ≡ other_addr
-    pub peer_id : h.opening.peer.id ≡ other_own
     pub back_addr : (state_of w g).peer.addr ≡ addr
     pub back_id : (state_of w g).peer.id ≡ own
     pub same_isn : (state_of w g).sending.isn ≡ h.opening.receiving.isn
@@ -120,7 +119,6 @@ module _ {C : Type 0} (w : Ways C) where
         has = has;
         own_is = opened_own w own config peer now start h opened;
         peer_addr = ap (λ (p : Peer). p.addr) peer_is ∙ paired.0;
-        peer_id = ap (λ (p : Peer). p.id) peer_is ∙ paired.1;
         back_addr = ap (λ (p : Peer). p.addr) back_is ∙ paired.2;
         back_id = ap (λ (p : Peer). p.id) back_is ∙ paired.3;
         same_isn = last_isn w other_own other_config other_peer other_now other_start g other_opened ∙ paired.5

@@ -28,7 +28,7 @@ use Rattle.udt_model.specs.Wire.{Block, DropAsk, read}
 use Rattle.udt_model.proofs.DropLemmas.{drop_range-is}
 use Rattle.udt_model.proofs.ReceivingLemmas.{placing-new, offset_of-some}
 use Rattle.udt_model.proofs.ReceivingSteps.{receiving-shows}
-use Rattle.udt_laws.proofs.delivered_is_carried.DeliversPlacedBlocks.{ack_timer-leaves, nak_timer-leaves, ack2-leaves}
+use Rattle.udt_laws.proofs.delivered_is_carried.ReportsLeave.{reports-leave, ack2-leaves}
 use Rattle.udt_laws.proofs.laid_messages.Layout.{LaidMessage, AreLaidOut, IsBlockOf, IsRangeOf}
 use Rattle.udt_laws.proofs.laid_messages.ReceivedLayout.{IsOfLayout, GoesOn, goes-nowhere, places-block, skips-message}
 use Rattle.udt_laws.proofs.laid_messages.ReadMessages.{IsReadAs, reads-next}
@@ -133,10 +133,10 @@ module _ (payload start : ℕ) (messages : List LaidMessage) (some : 1 ≤ paylo
     tells-go : (now : ℕ) (known : RoundTrip)
         → GoesOn payload messages r.blocks (after_nak_timer (after_ack_timer r now known) now known).blocks
     tells-go now known =
-        rw (nak_timer-leaves (after_ack_timer r now known) now known, ack_timer-leaves r now known) (goes-nowhere payload messages r.blocks kept)
+        rw ((reports-leave r now known).blocks) (goes-nowhere payload messages r.blocks kept)
 
     confirms-go : (number : ℕ) → GoesOn payload messages r.blocks (after_ack2 r number).blocks
-    confirms-go number = rw (ack2-leaves r number) (goes-nowhere payload messages r.blocks kept)
+    confirms-go number = rw ((ack2-leaves r number).blocks) (goes-nowhere payload messages r.blocks kept)
 
   module _ {C : Type 0} (w : Ways C) where
     -- each event keeps the layout

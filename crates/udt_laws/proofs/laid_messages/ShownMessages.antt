@@ -1,16 +1,13 @@
 -- A message socket shows messages of the layout, each whole and once, and the ordered ones in their order, where arrivals bring
 -- nothing that isn't of it.
-use Rattle.std.proofs.Common.{◌≡◌, ℕ, zero, suc, ◌<◌, ◌≤◌, true, List, [], ◌∷◌, ◌++◌, Some, refl, ap, ◌∙◌, sym, subst, inl, inr, arith}
+use Rattle.std.proofs.Common.{◌≡◌, ℕ, zero, suc, ◌<◌, ◌≤◌, true, List, [], ◌∷◌, ◌++◌, Some, ap, ◌∙◌, sym, subst, inl, inr, arith}
 use Rattle.std.specs.Prelude.{slice_get}
 use Rattle.std.specs.List.{Contains}
 use Rattle.std.proofs.lemmas.Bool.{cases_lt}
 use Rattle.std.proofs.lemmas.Option.{same_Some}
-use Rattle.udt_model.specs.declared.answers.Peer.{Peer}
-use Rattle.udt_model.specs.declared.packets.Config.{Config}
 use Rattle.udt_model.specs.declared.packets.Kind.TheVariants as kind
 use Rattle.udt_model.specs.Events.{Reply}
 use Rattle.udt_model.specs.History.{Item, ShownMessage, AreLegal, shown_by, shown_from}
-use Rattle.udt_model.specs.Opening.{opening}
 use Rattle.udt_model.specs.Rate.{Ways}
 use Rattle.udt_model.specs.ReceiveBlocks.{PlacedBlock, ReceiveBlocks, WholeMessage}
 use Rattle.udt_model.specs.State.{State}
@@ -86,12 +83,6 @@ follows-at messages (first ∷ others) (suc m) (suc n) one another follow less f
 pub record HasNone (b : ReceiveBlocks) : Type 0 where
   pub placed : b.placed ≡ []
   pub given : b.given ≡ 0
-
--- so it is in a socket that was just opened
-pub opening-none : {C : Type 0} (w : Ways C) (own : ℕ) (config : Config) (peer : Peer) (now start : ℕ)
-    → HasNone (opening w own config peer now start).receiving.blocks
-unfolding opening
-opening-none w own config peer now start = record { placed = refl; given = refl }
 
 no-block : (b : ReceiveBlocks) (block : PlacedBlock) → b.placed ≡ [] → Contains b.placed block → ⊥
 no-block b block none there = none-contained block (subst (λ (placed : List PlacedBlock). Contains placed block) none there)

@@ -1,49 +1,25 @@
 -- Where the top of a message socket's receiving half stands, over events: not past all that arrivals place or drop.
-use Rattle.std.proofs.Common.{◌≡◌, ℕ, ◌<◌, ◌≤◌, List, Some, None, refl, ◌∙◌, sym, subst, arith}
-use Rattle.std.specs.Prelude.{Option, ◌==◌, nat_lt}
+use Rattle.std.proofs.Common.{◌≡◌, ℕ, ◌<◌, ◌≤◌, List, Some, None, refl, sym, subst, arith}
+use Rattle.std.specs.Prelude.{Option, ◌==◌}
 use Rattle.std.specs.List.{Contains}
 use Rattle.std.proofs.lemmas.Bool.{cases_Bool}
 use Rattle.udt_model.specs.declared.answers.Placed.{Placed}
 use Rattle.udt_model.specs.declared.answers.Placed.TheVariants as placing
 use Rattle.udt_model.specs.declared.packets.Flags.{Flags}
-use Rattle.udt_model.specs.declared.sockets.SentAck.{SentAck}
 use Rattle.udt_model.specs.Events.{Act, Arrive, Event}
 use Rattle.udt_model.specs.Losses.{LostRange}
 use Rattle.udt_model.specs.Numbers.{near}
 use Rattle.udt_model.specs.Rate.{Ways}
 use Rattle.udt_model.specs.ReceiveHalf.{Receiving, measured, offset_of, placing_at, after_placing, after_block, with_taken, after_receive_message}
-use Rattle.udt_model.specs.ReceiveReports.{AckOutcome, IsEarly, IsKnown, EmitsAck, ack_outcome, after_ack_outcome, after_ack_timer, after_nak_timer, confirmed_by, after_ack2}
 use Rattle.udt_model.specs.State.{State}
 use Rattle.udt_model.specs.Step.{step}
-use Rattle.udt_model.specs.Timing.{RoundTrip, last_under}
 use Rattle.udt_model.proofs.ReceivingLemmas.{offset_of-some}
 use Rattle.udt_model.proofs.ReceivingSteps.{receiving-shows}
+use Rattle.udt_laws.proofs.delivered_is_carried.ReportsLeave.{reports-leave, ack2-leaves}
 use Rattle.udt_laws.proofs.laid_messages.Layout.{LaidMessage, IsBlockOf, IsRangeOf}
 use Rattle.udt_laws.proofs.laid_messages.KeepsLayout.{BringsLayout, MeetsLayout}
 
--- ---- reports and messages that are read leave the top as it is
-
-ack-leaves : (r : Receiving) (now : ℕ) (t : AckOutcome) → (after_ack_outcome r now t).top ≡ r.top
-ack-leaves r now IsEarly = refl
-ack-leaves r now IsKnown = refl
-ack-leaves r now (EmitsAck ack) = refl
-
-ack_timer-leaves : (r : Receiving) (now : ℕ) (known : RoundTrip) → (after_ack_timer r now known).top ≡ r.top
-unfolding after_ack_timer
-ack_timer-leaves r now known = ack-leaves r now (ack_outcome r now known)
-
-nak_timer-leaves : (r : Receiving) (now : ℕ) (known : RoundTrip) → (after_nak_timer r now known).top ≡ r.top
-unfolding after_nak_timer
-nak_timer-leaves r now known = grind (arith, cases_Bool (nat_lt now r.nak_due))
-
-confirmed-leaves : (r : Receiving) (number : ℕ) (found : Option SentAck) → (confirmed_by r number found).top ≡ r.top
-confirmed-leaves r number None = refl
-confirmed-leaves r number (Some ack) = refl
-
-ack2-leaves : (r : Receiving) (number : ℕ) → (after_ack2 r number).top ≡ r.top
-unfolding after_ack2
-ack2-leaves r number = confirmed-leaves r number (last_under number r.history)
-
+-- a message that is read leaves the top as it is
 show-leaves : (r : Receiving) (room : ℕ) → (after_receive_message r room).top ≡ r.top
 show-leaves r room = grind (arith, cases_Bool (room == 0))
 
@@ -109,6 +85,6 @@ module _ (low high : ℕ) where
           let may = brings s event.act from raw meets is in
           taken-stands s.receiving now range (range-below range.first range.last (may.drops message stamp first last range sender reads taken)) stands;
       tells = λ now known. subst (StandsBetween low high)
-          (sym (nak_timer-leaves (after_ack_timer s.receiving now known) now known ∙ ack_timer-leaves s.receiving now known)) stands;
-      confirms = λ number. subst (StandsBetween low high) (sym (ack2-leaves s.receiving number)) stands;
+          (sym (reports-leave s.receiving now known).top) stands;
+      confirms = λ number. subst (StandsBetween low high) (sym (ack2-leaves s.receiving number).top) stands;
     })

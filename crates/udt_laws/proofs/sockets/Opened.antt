@@ -1,7 +1,6 @@
 -- What a history that begins with an opening begins with and keeps.
 use Rattle.std.proofs.Common.{◌≡◌, ℕ, [], Some, sym, ap, ◌∙◌}
 use Rattle.udt_model.specs.declared.answers.Peer.{Peer}
-use Rattle.udt_model.specs.declared.answers.Phase.TheVariants as phase
 use Rattle.udt_model.specs.declared.packets.Config.{Config}
 use Rattle.udt_model.specs.declared.packets.Kind.TheVariants.{Stream}
 use Rattle.udt_model.specs.declared.addresses.Addr.{Addr}
@@ -25,10 +24,6 @@ module _ {C : Type 0} (w : Ways C) (own : ℕ) (config : Config) (peer : Peer) (
   pub opened_peer : h.opening.peer ≡ peer
   unfolding opening
   opened_peer = ap (λ (s : State C). s.peer) opened
-
-  pub opened_phase : h.opening.phase ≡ phase.Connected
-  unfolding opening
-  opened_phase = ap (λ (s : State C). s.phase) opened
 
   pub opened_receiving : h.opening.receiving.isn ≡ peer.isn
   unfolding opening
@@ -61,10 +56,6 @@ module _ {C : Type 0} (w : Ways C) (own : ℕ) (config : Config) (peer : Peer) (
   pub opened_given : h.opening.receiving.blocks.given ≡ 0
   unfolding opening
   opened_given = ap (λ (s : State C). s.receiving.blocks.given) opened
-
-  pub opened_missing : h.opening.receiving.missing ≡ []
-  unfolding opening
-  opened_missing = ap (λ (s : State C). s.receiving.missing) opened
 
   pub last_peer : (state_of w h).peer ≡ peer
   last_peer = (after_items-keeps w h.opening h.items).peer ∙ opened_peer
