@@ -7,3 +7,15 @@ pub mod KeptMessages
 pub mod LaidFrom
 pub mod EventsKeepLaid
 pub mod SentMessages
+pub mod PlacedBlocks
+pub mod ConsumedOffsets
+pub mod ReceivedLayout
+pub mod WholeMessages
+pub mod ReadMessages
+pub mod KeepsLayout
+pub mod ShownMessages
+pub mod AskedMessages
+pub mod ShowsAsked
+pub mod PeerMessagesAlone
+pub mod TopStands
+pub mod PairMessages

@@ -18,15 +18,13 @@ use Rattle.udt_model.specs.Step.{step}
 use Rattle.udt_model.specs.Events.{Act, Arrive}
 use Rattle.udt_model.specs.History.{Item, History, start_of, acked, arrived, placed_offsets, dropped_offsets}
 use Rattle.udt_model.specs.Records.{Enrolled, IsSocket, EndpointRecord, StandsAt, PeerPair, own_peer, ArePaired, AreLawful}
-use Rattle.udt_model.specs.Emissions.{emitted, sent, arrived_by_act, arrived_by, arrivals}
+use Rattle.udt_model.specs.Emissions.{sent, arrived_by_act, arrived_by, arrivals}
 use Rattle.udt_model.specs.Honest.{IsHonestAct, AreHonest, IsHonest}
 use Rattle.udt_model.proofs.NearLemmas.{near-found, near-is}
-use Rattle.udt_model.proofs.RecordLemmas.{emitted-from_sent}
 use Rattle.udt_model.proofs.StepLemmas.{step-keeps}
-use Rattle.udt_model.proofs.WireLemmas.{target-of-read}
 use Rattle.udt_laws.specs.Laws.{ComesFrom, PairArrived}
 use Rattle.udt_laws.proofs.sockets.Opened.{names, pair-stream}
-use Rattle.udt_laws.proofs.sockets.OneSocket.{emitter-is, own-pair-back, AreOwnPair, own-pair}
+use Rattle.udt_laws.proofs.sockets.OneSocket.{comes-emitted, from-sender, own-pair-back, AreOwnPair, own-pair}
 use Rattle.udt_laws.proofs.acked_has_arrived.AcksNamePlaced.{TellsOf, HasPlaced, HasTaken, stream-placed, all-taken}
 use Rattle.udt_laws.proofs.acked_has_arrived.AckedWasNamed.{AcksAct, AllAck, items-acked}
 use Rattle.udt_laws.proofs.acked_has_arrived.SendsOneAnEvent.{SendsBelow, sends-below_sent, sends-below_events}
@@ -53,6 +51,13 @@ module _ {C : Type 0} (w : Ways C) where
   begins-acked : (P : ℕ → Type 0) (h g : History C) → start_of g ≡ start_of h → AllBetween P (start_of g) (start_of h)
   begins-acked P h g same_start n low high = absurd (omega (arith, low, high, same_start))
 
+  -- what counts as acknowledged was placed or dropped, where all of that was
+  pub taken-contained : (h g : History C) → AcksOnly w (HasTaken w g) h g → (offset : ℕ) → start_of h ≤ offset → offset < start_of h + acked w h
+      → Contains (placed_offsets w g ++ dropped_offsets w g) offset
+  taken-contained h g acks offset low high =
+      among-contained offset (placed_offsets w g ++ dropped_offsets w g)
+      (acks.all offset (omega (arith, acks.same_start, low)) (omega (arith, low, high)))
+
   -- ---- where records are lawful and honest
 
   module _ (net : List (EndpointRecord C)) (lawful : AreLawful w net) (addr other_addr : Addr) (own : ℕ) (other : Enrolled C) (stands : StandsAt net other_addr other)
@@ -65,13 +70,10 @@ module _ {C : Type 0} (w : Ways C) where
     act-acks : (s : State C) (act : Act) → s.own ≡ own → s.peer.addr ≡ other_addr → s.sending.isn ≡ h.opening.sending.isn
         → IsHonestAct w net addr s act → AcksAct AllBelow s act
     act-acks s (Arrive from bytes) own_is addr_is isn_is was = λ number stamp body offset from_is reads at.
-        let packet = Ack number stamp s.own body in
-        let same = emitter-is w net lawful addr other_addr own other stands names_back s from bytes packet (from_is ∙ addr_is) was reads refl own_is in
-        let among = subst (λ (x : Enrolled C). Contains (emitted w x.history) was.emission) same was.emits in
-        let bytes_are : was.emission.datagram.bytes ≡ bytes = ap (λ (d : Datagram). d.bytes) was.datagram in
-        let tells = are.tells was.emission number stamp s.own body among (ap read bytes_are ∙ reads) in
-        let close = was.close packet tells.offset reads
-        (subst (λ (offsets : List ℕ). Contains offsets tells.offset) (sym tells.names) (Contains-push [] tells.offset)) in
+        let near = from-sender w net lawful addr other_addr own other stands names_back s from bytes (Ack number stamp s.own body)
+        (from_is ∙ addr_is) was reads refl own_is in
+        let tells = are.tells near.emission number stamp s.own body near.among (ap read near.same ∙ reads) in
+        let close = near.close tells.offset (subst (λ (offsets : List ℕ). Contains offsets tells.offset) (sym tells.names) (Contains-push [] tells.offset)) in
         let carries : sequence_number s.sending.isn tells.offset ≡ acked_number body =
         ap (λ (isn : ℕ). sequence_number isn tells.offset) (isn_is ∙ sym are.same_isn) ∙ tells.numbered in
         let there = near-is s.sending.isn s.sending.blocks.first (acked_number body) tells.offset
@@ -131,8 +133,7 @@ module _ {C : Type 0} (w : Ways C) where
       let pair = own-pair w net lawful addr socket other peer here peer_is there own_is in
       let acks = acknowledged-meets net peer.addr addr other socket (HasTaken w socket.history) lawful honest there here
       (own-pair-back w addr socket peer.addr other pair) (all-taken w socket.history) in
-      among-contained offset (placed_offsets w socket.history ++ dropped_offsets w socket.history)
-      (acks.all offset (omega (arith, acks.same_start, low)) (omega (arith, low, high)))
+      taken-contained other.history socket.history acks offset low high
 
   -- ---- where two sockets were made as a pair
 
@@ -143,10 +144,8 @@ module _ {C : Type 0} (w : Ways C) where
         → read bytes ≡ Ok (Ack number stamp socket.own body)
         → (emission : Emission) × TellsOf P (start_of other.history) other.history.opening.receiving.isn emission (acked_number body)
     came-named_ack bytes number stamp body among reads =
-        let came = comes (record { addr = from; bytes = bytes }) among refl (target-of-read bytes (Ack number stamp socket.own body) reads) in
-        let is = emitted-from_sent w other.history.opening other.history.items came.0 in_range.legal came.1 in
-        let bytes_are : is.emission.datagram.bytes ≡ bytes = ap (λ (d : Datagram). d.bytes) is.datagram_is ∙ came.2 in
-        (is.emission, are.tells is.emission number stamp socket.own body is.among (ap read bytes_are ∙ reads))
+        let is = comes-emitted w socket from other in_range comes bytes (Ack number stamp socket.own body) among reads refl in
+        (is.emission, are.tells is.emission number stamp socket.own body is.among (ap read is.same ∙ reads))
 
     act-below : (s : State C) (act : Act) → s.own ≡ socket.own → s.peer.addr ≡ from → s.sending.isn ≡ socket.history.opening.sending.isn → s.sending.next ≤ high
         → ((datagram : Datagram) → Contains (arrived_by_act act) datagram → Contains (arrivals socket.history) datagram)
@@ -175,24 +174,33 @@ module _ {C : Type 0} (w : Ways C) where
               (same.sending.isn ∙ isn_is) below.1 (λ datagram h. among datagram (Contains-append_right _ _ datagram h)),
         )
 
-  -- of two stream sockets that were made as a pair, as long as the one has sent no block from this offset on
-  pub below-arrived : (addr peer_addr : Addr) (socket other : Enrolled C) (high : ℕ) → IsSocket w socket → IsSocket w other
+  -- of two sockets that were made as a pair, as long as the one has sent no block from this offset on
+  pub below-acks : (addr peer_addr : Addr) (socket other : Enrolled C) (P : ℕ → Type 0) (high : ℕ) → IsSocket w socket → IsSocket w other
+      → ArePaired addr socket.own socket.way peer_addr other.own other.way → ItemsMeet w P other.history.opening other.history.items
+      → ComesFrom socket peer_addr other → high < start_of socket.history + 2 ^ 30 → SendsBelow w high socket.history.opening socket.history.items
+      → AcksOnly w P socket.history other.history
+  below-acks addr peer_addr socket other P high is_socket is_other paired meet comes few below =
+      let h = socket.history in
+      let g = other.history in
+      let are = ack-mates w P addr socket.own socket.way h peer_addr other.own other.way g paired
+      is_socket.opened is_other.in_range is_other.opened is_other.legal meet in
+      record {
+        same_start = are.same_start;
+        all = items-acked w (AllBetween P (start_of g)) h.opening h.items
+            (items-below addr peer_addr socket other is_other comes P are high few h.opening h.items are.own_is are.peer_addr refl below (λ datagram among. among))
+            (begins-acked P h g are.same_start);
+      }
+
+  below-arrived : (addr peer_addr : Addr) (socket other : Enrolled C) (high : ℕ) → IsSocket w socket → IsSocket w other
       → ArePaired addr socket.own socket.way peer_addr other.own other.way → socket.history.opening.kind ≡ Stream
       → ComesFrom socket peer_addr other → high < start_of socket.history + 2 ^ 30 → SendsBelow w high socket.history.opening socket.history.items
       → acked w socket.history ≤ arrived w other.history
   below-arrived addr peer_addr socket other high is_socket is_other paired stream comes few below =
       let h = socket.history in
       let g = other.history in
-      let P = HasPlaced w g in
       let other_stream = pair-stream w addr socket.own socket.way h peer_addr other.own other.way g paired is_socket.opened is_other.opened stream in
-      let are = ack-mates w P addr socket.own socket.way h peer_addr other.own other.way g paired
-      is_socket.opened is_other.in_range is_other.opened is_other.legal (stream-placed w g other_stream) in
-      all-arrived w h g (record {
-        same_start = are.same_start;
-        all = items-acked w (AllBetween P (start_of g)) h.opening h.items
-            (items-below addr peer_addr socket other is_other comes P are high few h.opening h.items are.own_is are.peer_addr refl below (λ datagram among. among))
-            (begins-acked P h g are.same_start);
-      })
+      all-arrived w h g
+      (below-acks addr peer_addr socket other (HasPlaced w g) high is_socket is_other paired (stream-placed w g other_stream) comes few below)
 
   -- it sends one block a datagram at most
   pub pair-arrived : PairArrived w

@@ -17,48 +17,17 @@ use Rattle.udt_model.specs.History.{Item, given_by, delivered_by, after_items, A
 use Rattle.udt_model.specs.Numbers.{near}
 use Rattle.udt_model.specs.Rate.{Ways}
 use Rattle.udt_model.specs.ReceiveBlocks.{ReceiveBlocks}
-use Rattle.udt_model.specs.ReceiveHalf.{Receiving}
-use Rattle.udt_model.specs.ReceiveReports.{AckOutcome, IsEarly, IsKnown, EmitsAck, ack_outcome, after_ack_outcome, after_ack_timer, after_nak_timer, confirmed_by, after_ack2}
 use Rattle.udt_model.specs.State.{State}
 use Rattle.udt_model.specs.Step.{on_act, step}
 use Rattle.udt_model.specs.Ticks.{exp_outcome, after_exp, after_reports, tick_in}
-use Rattle.udt_model.specs.Timing.{RoundTrip, last_under}
 use Rattle.udt_model.specs.Wire.{Block, read}
-use Rattle.std.proofs.lemmas.Bool.{cases_Bool}
-use Rattle.std.proofs.Common.{arith}
-use Rattle.std.specs.Prelude.{Bool, nat_lt, Option, None}
-use Rattle.udt_model.specs.declared.sockets.SentAck.{SentAck}
+use Rattle.std.specs.Prelude.{Bool, Option}
 use Rattle.udt_model.proofs.ArrivalLemmas.{arrival-shows}
 use Rattle.udt_model.proofs.StepLemmas.{step-keeps}
+use Rattle.udt_laws.proofs.delivered_is_carried.ReportsLeave.{reports-leave, ack2-leaves}
 use Rattle.udt_laws.proofs.delivered_is_carried.GivenIsOfBlocks.{Kept, keep-receive, keep-arrival, IsPrefixOf, kept-front}
 
--- ---- reports leave the blocks as they are
-
-ack-leaves : (r : Receiving) (now : ℕ) (t : AckOutcome) → (after_ack_outcome r now t).blocks ≡ r.blocks
-ack-leaves r now IsEarly = refl
-ack-leaves r now IsKnown = refl
-ack-leaves r now (EmitsAck ack) = refl
-
-ack_timer-leaves : (r : Receiving) (now : ℕ) (known : RoundTrip) → (after_ack_timer r now known).blocks ≡ r.blocks
-unfolding after_ack_timer
-ack_timer-leaves r now known = ack-leaves r now (ack_outcome r now known)
-
-nak_timer-leaves : (r : Receiving) (now : ℕ) (known : RoundTrip) → (after_nak_timer r now known).blocks ≡ r.blocks
-unfolding after_nak_timer
-nak_timer-leaves r now known = grind (arith, cases_Bool (nat_lt now r.nak_due))
-
-confirmed-leaves : (r : Receiving) (number : ℕ) (found : Option SentAck) → (confirmed_by r number found).blocks ≡ r.blocks
-confirmed-leaves r number None = refl
-confirmed-leaves r number (Some ack) = refl
-
-ack2-leaves : (r : Receiving) (number : ℕ) → (after_ack2 r number).blocks ≡ r.blocks
-unfolding after_ack2
-ack2-leaves r number = confirmed-leaves r number (last_under number r.history)
-
 module _ {C : Type 0} where
-  reports-leave : (s : State C) → (after_reports s).receiving.blocks ≡ s.receiving.blocks
-  reports-leave s = nak_timer-leaves (after_ack_timer s.receiving s.last s.rtt) s.last s.rtt ∙ ack_timer-leaves s.receiving s.last s.rtt
-
   -- each block that an arrival may place in this state meets this
   abbrev pub MeetsAct : (ℕ → List ℕ → Type 0) → State C → Act → Type 0
   MeetsAct P s (Arrive from bytes) =
@@ -127,7 +96,7 @@ module _ {C : Type 0} (w : Ways C) where
     keep-pack phase.Closed = nothing
 
     told : Kept P start (after_reports s).receiving.blocks (got ++ [])
-    told = rw (reports-leave s) nothing
+    told = rw ((reports-leave s.receiving s.last s.rtt).blocks) nothing
 
     keep-exp : (what : ExpOutcome) → Kept P start (after_exp w (after_reports s) what).receiving.blocks (got ++ [])
     keep-exp exp.NotDue = told
@@ -152,7 +121,7 @@ module _ {C : Type 0} (w : Ways C) where
       dropped = λ message stamp first last range connected sender is messages taken. absurd (cc);
       acknowledged = λ number stamp body offset connected sender is acks. nothing;
       reported = λ stamp ranges connected sender is. nothing;
-      confirmed = λ number ack connected found. rw (ack2-leaves s.receiving number) nothing;
+      confirmed = λ number ack connected found. rw ((ack2-leaves s.receiving number).blocks) nothing;
       ended = λ connected. nothing;
     })
 

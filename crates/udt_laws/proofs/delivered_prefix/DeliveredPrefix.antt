@@ -1,49 +1,34 @@
 -- Where records are lawful and honest, what arrives from a socket's peer was emitted by the peer alone, and is read
 -- as what it was.
-use Rattle.std.proofs.Common.{◌≡◌, ℕ, List, [], ◌∷◌, Some, Ok, refl, ap, ◌∙◌, sym, subst}
-use Rattle.std.specs.List.{Contains}
+use Rattle.std.proofs.Common.{◌≡◌, ℕ, List, [], ◌∷◌, Some, refl, ap, ◌∙◌, sym}
 use Rattle.udt_model.specs.declared.packets.Kind.TheVariants.{Stream}
 use Rattle.udt_model.specs.declared.addresses.Addr.{Addr}
 use Rattle.udt_model.specs.declared.answers.Peer.{Peer}
-use Rattle.udt_model.specs.declared.packets.Flags.{Flags}
-use Rattle.udt_model.specs.Wire.{Block, read}
-use Rattle.udt_model.specs.State.{State, Datagram}
+use Rattle.udt_model.specs.Wire.{Block}
+use Rattle.udt_model.specs.State.{State}
 use Rattle.udt_model.specs.Step.{step}
 use Rattle.udt_model.specs.Events.{Act, Arrive}
 use Rattle.udt_model.specs.History.{Item, state_of, accepted, delivered}
 use Rattle.udt_model.specs.Rate.{Ways}
 use Rattle.udt_model.specs.Records.{Enrolled, EndpointRecord, StandsAt, PeerPair, own_peer, AreLawful}
-use Rattle.udt_model.specs.Emissions.{IsPrefix, emitted}
-use Rattle.udt_model.specs.Honest.{WasEmitted, IsHonestAct, AreHonest, IsHonest}
+use Rattle.udt_model.specs.Emissions.{IsPrefix}
+use Rattle.udt_model.specs.Honest.{IsHonestAct, AreHonest, IsHonest}
 use Rattle.udt_model.proofs.StepLemmas.{step-keeps}
 use Rattle.udt_laws.specs.Laws.{HasBlocks}
 use Rattle.udt_laws.proofs.delivered_is_carried.DeliversPlacedBlocks.{MeetsAct, AllMeet}
 use Rattle.udt_laws.proofs.sockets.Opened.{names}
-use Rattle.udt_laws.proofs.sockets.OneSocket.{emitter-is, own-pair}
-use Rattle.udt_laws.proofs.delivered_prefix.PeerBlocksAlone.{IsEmittedNear, IsBlockAt, reads-as, mates}
+use Rattle.udt_laws.proofs.sockets.OneSocket.{from-sender, own-pair}
+use Rattle.udt_laws.proofs.delivered_prefix.PeerBlocksAlone.{IsBlockAt, reads-as, mates}
 
 module _ {C : Type 0} (w : Ways C) where
   module _ (net : List (EndpointRecord C)) (lawful : AreLawful w net) where
     module _ (addr sender_addr : Addr) (own : ℕ) (sender : Enrolled C) (has : HasBlocks w sender.history) (stands : StandsAt net sender_addr sender)
         (names_back : own_peer w sender.history ≡ Some (record { addr = addr; id = own })) where
-      -- what the net gives from the sender's address for this ID was emitted by the sender
-      from-sender : (s : State C) (from : Addr) (bytes payload : List ℕ) (number stamp : ℕ) (flags : Flags) → s.own ≡ own → from ≡ sender_addr
-          → WasEmitted w net s from addr bytes → read bytes ≡ Ok (Block number flags stamp s.own payload)
-          → IsEmittedNear w sender.history s.receiving.top bytes
-      from-sender s from bytes payload number stamp flags own_is from_is was reads =
-          let same = emitter-is w net lawful addr sender_addr own sender stands names_back s from bytes (Block number flags stamp s.own payload) from_is was
-          reads refl own_is in
-          record {
-            emission = was.emission;
-            among = subst (λ (x : Enrolled C). Contains (emitted w x.history) was.emission) same was.emits;
-            same = ap (λ (d : Datagram). d.bytes) was.datagram;
-            close = λ offset among. was.close (Block number flags stamp s.own payload) offset reads among;
-          }
-
       act-meets : (s : State C) (act : Act) → s.own ≡ own → s.peer.addr ≡ sender_addr → (state_of w sender.history).sending.isn ≡ s.receiving.isn
           → IsHonestAct w net addr s act → MeetsAct (IsBlockAt w sender.history has) s act
       act-meets s (Arrive from bytes) own_is addr_is isn_is honest = λ number flags stamp payload offset from_is reads found.
-          let emitted_near = from-sender s from bytes payload number stamp flags own_is (from_is ∙ addr_is) honest reads in
+          let emitted_near = from-sender w net lawful addr sender_addr own sender stands names_back s from bytes
+          (Block number flags stamp s.own payload) (from_is ∙ addr_is) honest reads refl own_is in
           (reads-as w sender.history has s.receiving.isn s.receiving.top number offset flags stamp s.own bytes payload isn_is emitted_near reads found).is_block
       act-meets s act own_is addr_is isn_is honest = tt
 

@@ -31,8 +31,9 @@ use Rattle.udt_laws.proofs.laid_messages.Layout.{LaidMessage}
 use Rattle.udt_laws.proofs.laid_messages.LaidFrom.{laid_by, laid_from}
 use Rattle.udt_laws.proofs.laid_messages.KeptMessages.{KeepsLaid, laid_after, with_bytes-laid, released-laid}
 
--- ---- the events that keep what is kept
+-- ---- which blocks an event keeps
 
+-- packing, NAKs and timeouts keep all
 module _ {C : Type 0} (w : Ways C) (s : Sending C) where
   packing-blocks : (now : ℕ) (p : Packing) → (after_packing w s now p).blocks ≡ s.blocks
   packing-blocks now (Waits until) = refl
@@ -86,6 +87,7 @@ module _ {C : Type 0} (s : Sending C) (start : ℕ) (messages : List LaidMessage
   none-added : KeepsLaid s.blocks start (messages ++ [])
   none-added = subst (KeepsLaid s.blocks start) (sym (append-nil messages)) keeps
 
+  -- it lies after the others
   answer-laid : (order : Bool) (expires : Option ℕ) (bytes : List ℕ) (n : ℕ) → 1 ≤ s.blocks.payload → length bytes ≡ suc n
       → KeepsLaid (with_bytes s.blocks s.message order expires (take (suc n) bytes)) start
       (messages ++ laid_after s.blocks s.message order expires bytes ∷ [])
@@ -150,6 +152,7 @@ module _ {C : Type 0} (w : Ways C) (s : State C) (start : ℕ) (messages : List 
         times_out = stay-laid _ (timeout-blocks w s.sending s.rtt);
       }))
 
+  -- each event adds the message that it accepts
   act-keeps : (now : ℕ) (act : Act) → KeepsLaid (step w s (event now act)).after.sending.blocks start
       (messages ++ laid_by (at_moment s now) act (step w s (event now act)).reply)
   unfolding step

@@ -20,16 +20,18 @@ pub record IsKeptOf (payload : ℕ) (messages : List LaidMessage) (offset : ℕ)
   pub flagged : block.flags ≡ flags_at laid.message offset
   pub carries : block.bytes ≡ take payload (drop ((offset - laid.message.first) * payload) laid.bytes)
 
+-- so its flags and its bytes are those of a block of a message
 pub kept-is_block : (payload : ℕ) (messages : List LaidMessage) (offset : ℕ) (block : KeptBlock) → IsKeptOf payload messages offset block
     → IsBlockOf payload messages offset block.flags block.bytes
 kept-is_block payload messages offset block is =
     record { laid = is.laid; among = is.among; from = is.from; to = is.to; flagged = is.flagged; carries = is.carries }
 
--- so is each of these, the first at this offset
+-- each of these is one of them, the first at this offset
 abbrev pub AreKeptOf : ℕ → List LaidMessage → ℕ → List KeptBlock → Type 0
 AreKeptOf payload messages offset [] = Unit {0}
 AreKeptOf payload messages offset (block ∷ others) = IsKeptOf payload messages offset block × AreKeptOf payload messages (offset + 1) others
 
+-- which they are of more messages too
 kept_one-more : (payload : ℕ) (messages more : List LaidMessage) (offset : ℕ) (block : KeptBlock) → IsKeptOf payload messages offset block
     → IsKeptOf payload (messages ++ more) offset block
 kept_one-more payload messages more offset block is = record {
@@ -50,6 +52,7 @@ kept_of-more payload messages more offset (block ∷ others) are = (
   kept_of-more payload messages more (offset + 1) others are.1,
 )
 
+-- with the ones after them
 kept_of-append : (payload : ℕ) (messages : List LaidMessage) (offset : ℕ) (kept more : List KeptBlock) → AreKeptOf payload messages offset kept
     → AreKeptOf payload messages (offset + length kept) more → AreKeptOf payload messages offset (kept ++ more)
 kept_of-append payload messages offset [] more one two =
@@ -59,6 +62,7 @@ kept_of-append payload messages offset (block ∷ others) more one two =
     let same : offset + suc (length others) ≡ offset + 1 + length others = omega arith in
     (one.0, kept_of-append payload messages (offset + 1) others more one.1 (subst (λ (n : ℕ). AreKeptOf payload messages n more) same two))
 
+-- and without some of the first
 kept_of-drop : (payload : ℕ) (messages : List LaidMessage) (offset n : ℕ) (kept : List KeptBlock) → AreKeptOf payload messages offset kept
     → n ≤ length kept → AreKeptOf payload messages (offset + n) (drop n kept)
 kept_of-drop payload messages offset zero kept are within =
@@ -70,6 +74,7 @@ kept_of-drop payload messages offset (suc n) (block ∷ others) are within =
     subst (λ (m : ℕ). AreKeptOf payload messages m (drop n others)) same
     (kept_of-drop payload messages (offset + 1) n others are.1 (omega (arith, within)))
 
+-- the one at a place stands so many offsets later
 kept_of-at : (payload : ℕ) (messages : List LaidMessage) (offset : ℕ) (kept : List KeptBlock) (n : ℕ) (block : KeptBlock)
     → AreKeptOf payload messages offset kept → slice_get kept n ≡ Some block → IsKeptOf payload messages (offset + n) block
 kept_of-at payload messages offset [] n block are found = absurd (cc)

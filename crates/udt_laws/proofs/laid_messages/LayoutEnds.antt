@@ -1,12 +1,11 @@
 -- Where messages end that lie one after another, and which more lie there once others follow.
 use Rattle.std.proofs.Common.{◌≡◌, ℕ, ◌+◌, ◌<◌, ◌≤◌, List, [], ◌∷◌, ◌++◌, refl, ap, sym, subst, inl, inr, arith}
 use Rattle.std.specs.List.{Contains}
-use Rattle.std.proofs.lemmas.Bool.{cases_lt}
 use Rattle.std.proofs.lemmas.List.Elements.{Contains-append_left}
 use Rattle.udt_model.specs.declared.packets.Flags.{Flags}
-use Rattle.udt_laws.proofs.laid_messages.Layout.{LaidMessage, AreLaidOut, IsBlockOf, IsRangeOf}
+use Rattle.udt_laws.proofs.laid_messages.Layout.{LaidMessage, AreLaidOut, IsBlockOf}
 use Rattle.udt_laws.proofs.laid_messages.LayoutLemmas.{Covers, lies-from, one-message, first-covered}
-use Rattle.udt_laws.proofs.laid_messages.Members.{first-contained, other-contained, none-contained, contained-cases}
+use Rattle.udt_laws.proofs.laid_messages.Members.{none-contained, contained-cases}
 
 -- the offset at which messages end that begin at this one
 unfoldable pub layout_end : ℕ → List LaidMessage → ℕ
@@ -41,15 +40,6 @@ block_of-more payload messages more offset flags bytes is = record {
   carries = is.carries;
 }
 
--- and so is the range of one
-pub range_of-more : (messages more : List LaidMessage) (first last : ℕ) → IsRangeOf messages first last → IsRangeOf (messages ++ more) first last
-range_of-more messages more first last is = record {
-  laid = is.laid;
-  among = Contains-append_left messages more is.laid is.among;
-  begins = is.begins;
-  ends = is.ends;
-}
-
 -- ---- which offsets they have
 
 -- they end at or after the start
@@ -69,25 +59,6 @@ laid-below payload start (first ∷ others) laid lie among = elim (contained-cas
       let last : first.message.last ≡ laid.message.last = ap (λ (x : LaidMessage). x.message.last) same in
       omega (arith, last, layout_end-above payload (first.message.last + 1) others lie.3)
   | inr later ↦ laid-below payload (first.message.last + 1) others laid lie.3 later
-]
-
--- one of the messages has the offset
-pub record IsLaidAt (messages : List LaidMessage) (offset : ℕ) : Type 0 where
-  pub laid : LaidMessage
-  pub among : Contains messages laid
-  pub covers : Covers laid offset
-
--- so it is with each offset from the start to the end
-pub laid-at : (payload start : ℕ) (messages : List LaidMessage) (offset : ℕ) → AreLaidOut payload start messages → start ≤ offset
-    → offset < layout_end start messages → IsLaidAt messages offset
-unfolding AreLaidOut layout_end
-laid-at payload start [] offset lie from to = absurd (omega (arith, from, to))
-laid-at payload start (first ∷ others) offset lie from to = elim (cases_lt first.message.last offset) [
-  | inl above ↦
-      let found = laid-at payload (first.message.last + 1) others offset lie.3 (omega (arith, above)) to in
-      record { laid = found.laid; among = other-contained first others found.laid found.among; covers = found.covers }
-  | inr below ↦
-      record { laid = first; among = first-contained first others; covers = record { from = omega (arith, lie.0, from); to = below } }
 ]
 
 -- two messages that begin at the same offset are the same

@@ -1,10 +1,11 @@
 -- How the messages of a layout lie: each fills its offsets, no two share one, and the bytes of its blocks are its own.
-use Rattle.std.proofs.Common.{◌≡◌, ℕ, ◌+◌, ◌-◌, ◌*◌, ◌<◌, ◌≤◌, List, [], ◌∷◌, ◌++◌, length, take, drop, refl, ap, ◌∙◌, sym, subst, inl, inr, arith}
+use Rattle.std.proofs.Common.{◌≡◌, ℕ, ◌+◌, ◌-◌, ◌*◌, ◌<◌, ◌≤◌, List, [], ◌∷◌, ◌++◌, length, take, drop, ap, ◌∙◌, sym, subst, inl, inr, arith}
 use Rattle.std.specs.List.{Contains}
 use Rattle.std.proofs.Math.Nat.{mul-le-mul_right}
 use Rattle.std.proofs.lemmas.Bool.{cases_lt}
 use Rattle.std.proofs.lemmas.List.{take-append-drop, drop-drop, take_all, length-drop, length-take}
 use Rattle.udt_model.specs.SendBlocks.{count_for}
+use Rattle.udt_model.proofs.SendingLemmas.{count_for-enough}
 use Rattle.udt_laws.proofs.laid_messages.Layout.{LaidMessage, AreLaidOut}
 use Rattle.udt_laws.proofs.laid_messages.Members.{none-contained, contained-cases}
 
@@ -23,11 +24,7 @@ pub record Covers (laid : LaidMessage) (offset : ℕ) : Type 0 where
 
 -- ---- slices
 
--- as many blocks as bytes fill have them all
-pub count_for-covers : (len payload : ℕ) → 1 ≤ payload → len ≤ count_for len payload * payload
-count_for-covers len payload some = omega arith
-
--- and no block of them is empty
+-- no block that bytes fill is empty
 pub count_for-within : (len payload n : ℕ) → 1 ≤ payload → 1 ≤ len → n < count_for len payload → n * payload < len
 count_for-within len payload n some more less =
     let next : n + 1 ≤ count_for len payload = omega arith in
@@ -39,7 +36,7 @@ count_for-some len payload some more = elim (cases_lt 0 (count_for len payload))
   | inl above ↦ above
   | inr none ↦
       let zero : count_for len payload ≡ 0 = omega (arith, none) in
-      absurd (omega (arith, subst (λ (n : ℕ). len ≤ n * payload) zero (count_for-covers len payload some)))
+      absurd (omega (arith, subst (λ (n : ℕ). len ≤ n * payload) zero (count_for-enough len payload some)))
 ]
 
 -- the bytes of a message from its block of this place on
@@ -114,5 +111,5 @@ module _ (payload : ℕ) (some : 1 ≤ payload) where
       let n = laid.message.last - laid.message.first in
       let one : n + 1 ≡ count_for (length laid.bytes) payload =
       omega (arith, lies.ends, count_for-some (length laid.bytes) payload some lies.some) in
-      let all : length laid.bytes ≤ (n + 1) * payload = subst (λ (k : ℕ). length laid.bytes ≤ k * payload) (sym one) (count_for-covers (length laid.bytes) payload some) in
+      let all : length laid.bytes ≤ (n + 1) * payload = subst (λ (k : ℕ). length laid.bytes ≤ k * payload) (sym one) (count_for-enough (length laid.bytes) payload some) in
       take_all payload (rest_of payload laid n) (omega (arith, length-drop (n * payload) laid.bytes, all))

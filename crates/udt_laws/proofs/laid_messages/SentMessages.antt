@@ -10,7 +10,7 @@ use Rattle.udt_model.specs.History.{Item, History, after_items, state_of, start_
 use Rattle.udt_model.specs.Numbers.{sequence_number}
 use Rattle.udt_model.specs.Rate.{Ways}
 use Rattle.udt_model.specs.Records.{Enrolled, Way, opened_by, IsWay, IsSocket}
-use Rattle.udt_model.specs.SendBlocks.{Message, KeptBlock, kept_at}
+use Rattle.udt_model.specs.SendBlocks.{Message, KeptBlock, kept_at, end_of}
 use Rattle.udt_model.specs.SendHalf.{block_packet, drop_packet, packing, Drops}
 use Rattle.udt_model.specs.State.{State, Emission}
 use Rattle.udt_model.specs.Wire.{Block, DropAsk, read}
@@ -23,7 +23,7 @@ use Rattle.udt_laws.proofs.sent_blocks.AcceptedIsCut.{items-cut}
 use Rattle.udt_laws.proofs.sent_blocks.EmissionsRead.{packet_of}
 use Rattle.udt_laws.proofs.sent_blocks.SentBlocks.{same-packet, way-begins, emission-at, emission-reads}
 use Rattle.udt_laws.proofs.laid_messages.Layout.{LaidMessage, asked_as, AreLaidOut, IsBlockOf}
-use Rattle.udt_laws.proofs.laid_messages.LayoutEnds.{block_of-more}
+use Rattle.udt_laws.proofs.laid_messages.LayoutEnds.{layout_end, block_of-more}
 use Rattle.udt_laws.proofs.laid_messages.KeptMessages.{KeepsLaid, none-laid, kept-laid, kept-is_block}
 use Rattle.udt_laws.proofs.laid_messages.LaidFrom.{laid_from, laid_from-append, asked_from-laid}
 use Rattle.udt_laws.proofs.laid_messages.EventsKeepLaid.{items-keep}
@@ -61,6 +61,7 @@ sends-all isn last_isn full last_full start messages more all emission number fl
       (block_of-more full messages more sends.offset flags bytes sends.block));
 }
 
+-- and so it is with a drop request
 drops-all : (isn last_isn : ℕ) (messages more all : List LaidMessage) (emission : Emission) (first last : ℕ) → isn ≡ last_isn
     → all ≡ messages ++ more → AsksDrop isn messages emission first last → AsksDrop last_isn all emission first last
 drops-all isn last_isn messages more all emission first last isn_is all_are drops = record {
@@ -82,6 +83,7 @@ module _ {C : Type 0} (w : Ways C) where
     pub laid : List LaidMessage
     pub some : 1 ≤ payload_of h
     pub are_laid : AreLaidOut (payload_of h) (start_of h) laid
+    pub ends : layout_end (start_of h) laid ≡ end_of (state_of w h).sending.blocks
     pub asked_is : asked w h ≡ map asked_as laid
     pub sends : (emission : Emission) (number : ℕ) (flags : Flags) (stamp dest : ℕ) (payload : List ℕ) → Contains (emitted w h) emission
         → read emission.datagram.bytes ≡ Ok (Block number flags stamp dest payload)
@@ -227,17 +229,18 @@ module _ {C : Type 0} (w : Ways C) where
         cut (keeps-at emission at) message stamp dest first last at.emitting same in
         drops-all _ _ messages (laid-later emission at) _ emission first last (isn-last at.front) (laid-all emission at) found
 
-    half-sends : SendsMessages h
-    half-sends = record {
+    history-sends : SendsMessages h
+    history-sends = record {
       laid = laid_from w h.opening h.items;
       some = (items-cut w h.opening (start_of h) [] h.items begins-cut).payload;
       are_laid = (keeps-after h.items legal).laid_out;
+      ends = (keeps-after h.items legal).ends;
       asked_is = asked_from-laid w h.opening h.items;
       sends = sends-block;
       drops = asks-drop;
     }
 
-  -- whatever happens to it
+  -- so each message socket sends
   pub sends_messages : (socket : Enrolled C) → IsSocket w socket → CarriesMessages socket.history → SendsMessages socket.history
   sends_messages socket is_socket carries =
-      half-sends socket.own socket.way socket.history is_socket.in_range is_socket.opened is_socket.legal carries
+      history-sends socket.own socket.way socket.history is_socket.in_range is_socket.opened is_socket.legal carries

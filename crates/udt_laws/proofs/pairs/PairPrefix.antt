@@ -1,6 +1,6 @@
 -- Of two sockets that were made as a pair, fewer than 2^30 events or datagrams of the one can name no offset too far
 -- from where the other stands.
-use Rattle.std.proofs.Common.{◌≡◌, ℕ, ◌+◌, ◌^◌, ◌<◌, ◌≤◌, List, [], ◌∷◌, length, Some, Ok, refl, ap, ◌∙◌, sym, subst, inl, inr, arith}
+use Rattle.std.proofs.Common.{◌≡◌, ℕ, ◌+◌, ◌^◌, ◌<◌, ◌≤◌, List, [], ◌∷◌, length, Ok, ap, ◌∙◌, sym, subst, inl, inr, arith}
 use Rattle.std.specs.List.{Contains}
 use Rattle.std.proofs.lemmas.List.Elements.{Contains-append_left, Contains-append_right, Contains-push, Contains-push_cases}
 use Rattle.udt_model.specs.declared.packets.Kind.TheVariants.{Stream}
@@ -17,12 +17,11 @@ use Rattle.udt_model.specs.History.{Item, after_items, state_of, start_of, accep
 use Rattle.udt_model.specs.Records.{Enrolled, IsSocket, ArePaired}
 use Rattle.udt_model.specs.Emissions.{IsPrefix, emitted, arrived_by_act, arrived_by, arrivals, sent}
 use Rattle.udt_model.specs.Honest.{IsClose}
-use Rattle.udt_model.proofs.WireLemmas.{target-read}
-use Rattle.udt_model.proofs.RecordLemmas.{emitted-from_sent}
 use Rattle.udt_model.proofs.StepLemmas.{step-keeps}
 use Rattle.udt_laws.specs.Laws.{IsStream, HasBlocks, ComesFrom, PairPrefix}
-use Rattle.udt_laws.proofs.delivered_prefix.PeerBlocksAlone.{IsEmittedNear, IsBlockAt, reads-as, mates}
+use Rattle.udt_laws.proofs.delivered_prefix.PeerBlocksAlone.{IsBlockAt, reads-as, mates}
 use Rattle.udt_laws.proofs.delivered_is_carried.DeliversPlacedBlocks.{MeetsAct, AllMeet}
+use Rattle.udt_laws.proofs.sockets.OneSocket.{IsEmittedNear, comes-emitted}
 use Rattle.udt_laws.proofs.sockets.Opened.{pair-stream}
 use Rattle.udt_laws.proofs.pairs.NamedIsBelow.{BlocksBelow, below-sent, below-events}
 use Rattle.udt_laws.proofs.delivered_prefix.WindowRises.{IsWithin, step-within}
@@ -71,15 +70,12 @@ module _ {C : Type 0} (w : Ways C) where
         → IsWithin (start_of sender.history) limit s.receiving → Contains (arrivals receiver.history) (record { addr = from; bytes = bytes })
         → read bytes ≡ Ok (Block number flags stamp s.own payload) → IsEmittedNear w sender.history s.receiving.top bytes
     emitted-near s bytes payload number stamp flags own_is within among reads =
-        let for_it = target-read number flags stamp s.own bytes payload reads ∙ ap (λ (id : ℕ). Some id) own_is in
-        let came = comes (record { addr = from; bytes = bytes }) among refl for_it in
-        let is = emitted-from_sent w sender.history.opening sender.history.items came.0 in_range.legal came.1 in
-        let bytes_are : is.emission.datagram.bytes ≡ bytes = ap (λ (d : Datagram). d.bytes) is.datagram_is ∙ came.2 in
+        let is = comes-emitted w receiver from sender in_range comes bytes (Block number flags stamp s.own payload) among reads own_is in
         record {
           emission = is.emission;
           among = is.among;
-          same = bytes_are;
-          close = λ offset named. near-receiver s.receiving is.emission bytes payload number stamp s.own offset flags within is.among bytes_are reads named;
+          same = is.same;
+          close = λ offset named. near-receiver s.receiving is.emission bytes payload number stamp s.own offset flags within is.among is.same reads named;
         }
 
     pub act-below : (s : State C) (act : Act) → s.own ≡ receiver.own → s.peer.addr ≡ from → (state_of w sender.history).sending.isn ≡ s.receiving.isn

@@ -8,7 +8,7 @@ use Rattle.udt_model.specs.declared.addresses.Addr.{Addr}
 use Rattle.udt_model.specs.State.{Datagram}
 use Rattle.udt_model.specs.Opening.{opening, CanOpen}
 use Rattle.udt_model.specs.Rate.{Ways}
-use Rattle.udt_model.specs.History.{AreLegal}
+use Rattle.udt_model.specs.History.{AreLegal, accepted_by, accepted}
 use Rattle.udt_model.specs.Records.{PairedAt}
 use Rattle.udt_model.specs.Emissions.{arrived_by, arrivals}
 use Rattle.udt_model.specs.Lines.{Pairing}
@@ -16,7 +16,7 @@ use Rattle.udt_model.specs.Script.{config_of, peer_of, paired_socket, paired}
 use Rattle.udt_model.specs.Network.{ScriptSocket, Network, first_host, second_host}
 use Rattle.udt_laws.proofs.scripts.ReplacedOne.{append-found, append-first, append-second}
 use Rattle.udt_laws.proofs.scripts.PairLines.{IsPairing}
-use Rattle.udt_laws.proofs.scripts.KeepsNetwork.{Plan, IsPlanned, HasMate, CameAs, IsNetwork, HaveFew}
+use Rattle.udt_laws.proofs.scripts.KeepsNetwork.{Plan, IsPlanned, HasMate, CameAs, IsNetwork, HaveFew, HaveTaken}
 
 two-found : {X : Type 0} (a b x : X) (j : ℕ) → slice_get (a ∷ b ∷ []) j ≡ Some x → ((j ≡ 0) × (a ≡ x)) ⊎ ((j ≡ 1) × (b ≡ x))
 two-found a b x zero found = inl (refl, cc)
@@ -164,6 +164,17 @@ module _ {C : Type 0} (w : Ways C) where
         ]
       ]
 
+      few-bytes : (size k : ℕ) (script_socket : ScriptSocket C) → HaveTaken n size → slice_get (n.sockets ++ first_socket ∷ second_socket ∷ []) k ≡ Some script_socket
+          → length (accepted script_socket.history) ≤ size
+      unfolding first_socket second_socket accepted_by
+      few-bytes size k script_socket taken at = elim (socket-found k script_socket at) [
+        | inl old ↦ taken k script_socket old
+        | inr new ↦ elim new [
+          | inl one ↦ omega (arith, ap (λ (s : ScriptSocket C). length (accepted s.history)) one.1)
+          | inr two ↦ omega (arith, ap (λ (s : ScriptSocket C). length (accepted s.history)) two.1)
+        ]
+      ]
+
     pub pair-keeps : IsNetwork w n → IsNetwork w (paired w n p).network
     unfolding paired first_socket second_socket with_both
     pair-keeps is = record {
@@ -180,3 +191,7 @@ module _ {C : Type 0} (w : Ways C) where
     pub pair-counts : IsNetwork w n → (most : ℕ) → HaveFew n most → HaveFew (paired w n p).network most
     unfolding paired first_socket second_socket
     pair-counts is most few k script_socket at = few-events is most k script_socket few at
+
+    pub pair-takes : IsNetwork w n → (size : ℕ) → HaveTaken n size → HaveTaken (paired w n p).network size
+    unfolding paired first_socket second_socket
+    pair-takes is size taken k script_socket at = few-bytes is size k script_socket taken at

@@ -5,7 +5,7 @@ use Rattle.std.proofs.lemmas.Bool.Decides.{nat_tests}
 use Rattle.udt_model.specs.declared.limits.TheConstants.{MOST_PAYLOAD, FEWEST_BLOCKS, MOST_BLOCKS, LAST_START}
 use Rattle.udt_model.specs.Addresses.{addr_of}
 use Rattle.udt_model.specs.Words.{◌>>=◌, words_of, is_word, name_of, number_of, if_within, number_within, bytes_of}
-use Rattle.udt_model.specs.Lines.{Pairing, Line, PairLine, is_silent, moment_of, kind_of, pairing_of, pair_line, is_call, call_of, call_line, deliver_line, raw_line, line_by_words, read_line}
+use Rattle.udt_model.specs.Lines.{Pairing, PairLine, is_silent, moment_of, kind_of, pairing_of, pair_line, is_call, call_of, call_line, deliver_line, raw_line, line_by_words, read_line}
 
 -- the values of a pair are in their ranges
 pub record IsPairing (p : Pairing) : Type 0 where
@@ -16,14 +16,14 @@ pub record IsPairing (p : Pairing) : Type 0 where
   pub most_blocks : p.blocks ≤ MOST_BLOCKS
   pub start : p.start ≤ LAST_START
 
-bind-some : {A B : Type 0} (o : Option A) (next : A → Option B) (y : B) → (o >>= next) ≡ Some y
+pub bind-some : {A B : Type 0} (o : Option A) (next : A → Option B) (y : B) → (o >>= next) ≡ Some y
     → (x : A) × (o ≡ Some x) × (next x ≡ Some y)
 bind-some None next y is = absurd (cc)
 bind-some (Some x) next y is = (x, refl, is)
 
-if-some : (b : Bool) (x y : Option Line) (line : Line) → (if b then x else y) ≡ Some line → (x ≡ Some line) ⊎ (y ≡ Some line)
-if-some true x y line is = inl is
-if-some false x y line is = inr is
+pub if-some : {A : Type 0} (b : Bool) (x y : Option A) (z : A) → (if b then x else y) ≡ Some z → (x ≡ Some z) ⊎ (y ≡ Some z)
+if-some true x y z is = inl is
+if-some false x y z is = inr is
 
 lies-within : (least most number n : ℕ) → if_within least most number ≡ Some n → (least ≤ n) × (n ≤ most)
 lies-within least most number n is = (grind (arith, nat_tests), grind (arith, nat_tests))

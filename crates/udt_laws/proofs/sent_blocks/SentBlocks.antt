@@ -22,7 +22,7 @@ use Rattle.udt_model.proofs.SendingLemmas.{IsCut, cut-kept_at, packing-sends, pa
 use Rattle.udt_model.proofs.StepLemmas.{after_items-keeps}
 use Rattle.udt_laws.specs.Laws.{CarriesBlock, HasBlocks, EmittedBlocks}
 use Rattle.udt_laws.proofs.sockets.Opened.{opened_start}
-use Rattle.udt_laws.proofs.sent_blocks.AcceptedIsCut.{blocks_by, blocks_by-append, blocks_by-joined, items-cut}
+use Rattle.udt_laws.proofs.sent_blocks.AcceptedIsCut.{blocks_by, blocks_by-append, blocks_by-parts, items-cut}
 use Rattle.udt_laws.proofs.sent_blocks.EmissionsRead.{CanSpell, packet_of, packet-dest, IsSpelled, emission-spelled}
 use Rattle.udt_laws.proofs.sent_blocks.ReportsFit.{RoundTripFits, ReportsFit, items-fit, items-round}
 
@@ -211,7 +211,7 @@ module _ {C : Type 0} (w : Ways C) where
     pub has_blocks : HasBlocks w h
     has_blocks = record {
       blocks = blocks_by w h.opening h.items;
-      joined = blocks_by-joined w h.opening h.items legal (way-begins own way h in_range opened).cut.payload;
+      joined = (blocks_by-parts w h.opening h.items legal (way-begins own way h in_range opened).cut.payload).joined;
       kept = last-cut.kept;
       emits = carries-block;
     }
