@@ -111,10 +111,11 @@ module _ {C : Type 0} (w : Ways C) where
   pub steps : (world : Inside C) → IsWorld w world → AreAllInStep w (lines_of world)
   steps world is = steps_few world.lost (lines_in world) (λ kept. few_lines (lines_in world) (omega (arith, is.size_is kept, is.bound)))
 
-  pub shows_few : (lost : Bool) (lines : List (List ℕ)) → (lost ≡ false → size_of lines < 2 ^ 30)
-      → AllShowMessages w (if lost then None else Some lines)
-  shows_few true lines few = tt
-  shows_few false lines few = λ place peer_place socket peer emitted. script_messages w lines place peer_place socket peer (few refl) emitted
+  -- ---- messages
+
+  pub shows_small : (lost : Bool) (lines : List (List ℕ)) → (lost ≡ false → size_of lines < 2 ^ 30) → AllShowMessages w (if lost then None else Some lines)
+  shows_small true lines small = tt
+  shows_small false lines small = λ place peer_place socket peer emitted. script_messages w lines place peer_place socket peer (small refl) emitted
 
   pub shows : (world : Inside C) → IsWorld w world → AllShowMessages w (lines_of world)
-  shows world is = shows_few world.lost (lines_in world) (λ kept. omega (arith, is.size_is kept, is.bound))
+  shows world is = shows_small world.lost (lines_in world) (λ kept. omega (arith, is.size_is kept, is.bound))

@@ -20,7 +20,8 @@ module _ {C : Type 0} (w : Ways C) where
       → AreInStep w socket.history peer.history
   AreAllInStep None = Unit {0}
 
-  -- and what each message socket of them showed are messages that its own peer was asked to send, each whole and once
+  -- where no line gives bytes of its own, what each message socket of these lines showed are messages that its own peer was
+  -- asked to send, each whole and once at most, and those with the order flag in their order
   abbrev pub AllShowMessages : Option (List (List ℕ)) → Type 0
   AllShowMessages (Some lines) =
       (place peer_place : ℕ) (socket peer : ScriptSocket C) → AreEmitted lines

@@ -7,7 +7,7 @@ use Rattle.udt_world.specs.Transcripts.{TellsLine}
 use Rattle.udt_world.specs.Views.{view_of}
 use Rattle.udt_world.specs.Worlds.{lines_in}
 use Rattle.udt_world.proofs.TranscriptLemmas.{accepted-more, tells}
-use Rattle.udt_world.proofs.WorldLemmas.{printed-none, accepted, refused, Accepted, Refused, steps_few, steps, shows_few, shows, few_lines}
+use Rattle.udt_world.proofs.WorldLemmas.{printed-none, accepted, refused, Accepted, Refused, steps_few, steps, few_lines, shows_small, shows}
 use Rattle.udt_world.proofs.world.World.line.Goals as goal
 
 -- the line doesn't fit
@@ -89,5 +89,5 @@ returns-in-Ok-false-clause-in_step g c = steps_few g.C.Control.ways c.self.insid
     few_lines (map items_of c.keep_line.new.lines.items) (omega (arith, ap size_of (was_refused g c).same, c.self.invariant.size_is kept, c.self.invariant.bound)))
 
 pub returns-in-Ok-false-clause-shown : goal.returns-in-Ok-false-clause-shown
-returns-in-Ok-false-clause-shown g c = shows_few g.C.Control.ways c.self.inside.lost (map items_of c.keep_line.new.lines.items) (λ kept.
+returns-in-Ok-false-clause-shown g c = shows_small g.C.Control.ways c.self.inside.lost (map items_of c.keep_line.new.lines.items) (λ kept.
     omega (arith, ap size_of (was_refused g c).same, c.self.invariant.size_is kept, c.self.invariant.bound))
