@@ -52,6 +52,7 @@ impl Marks {
         ensures run { EndsRun self.new.run ring.now.list }
         ensures given { self.new.given ≡ self.old.given }
         ensures top { self.new.top ≡ max self.old.top (place + 1) }
+        ensures later { self.old.run ≤ self.new.run }
     {
         self.top = self.top.max(place + 1);
         if self.run == place {
@@ -68,6 +69,7 @@ impl Marks {
         ensures run { EndsRun self.new.run ring.now.list }
         ensures given { self.new.given ≡ self.old.given }
         ensures top { self.new.top ≡ self.old.top }
+        ensures later { self.old.run ≤ self.new.run }
     {
         while self.run < self.top {
             let (head, bytes) = ring.part(self.run);
