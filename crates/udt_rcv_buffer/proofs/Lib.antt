@@ -5,6 +5,7 @@ pub mod SearchLemmas
 pub mod WalkLemmas
 pub mod WalkedLemmas
 pub mod NextLemmas
+pub mod ConsumedLemmas
 pub mod ReceivedLemmas
 pub mod BufferLemmas
 pub mod WholeLemmas

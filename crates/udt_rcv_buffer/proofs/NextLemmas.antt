@@ -1,7 +1,8 @@
 -- The message that is read next, as the walk over the parts finds it, and what a placed block changes of it.
 use Rattle.std.proofs.Common.{◌≡◌, ℕ, zero, suc, ◌+◌, ◌-◌, ◌<◌, ◌≤◌, Bool, true, false, ◌&&◌, leb, List, length, take, drop, Some, None, Option, refl, ap, ◌∙◌, sym, subst, arith, inl, inr}
 use Rattle.std.specs.Prelude.{slice_get, All, IfSome, IfNone}
-use Rattle.std.proofs.lemmas.Bool.{cases_Bool, cases_lt, cases_eq, le-leb, lt-leb, false≢true}
+use Rattle.std.proofs.lemmas.Bool.{cases_Bool, cases_lt, cases_eq, le-leb, lt-leb}
+use Rattle.std.proofs.lemmas.Option.{slice_get_within}
 use Rattle.udt_model.specs.ReceiveBlocks.{message_from}
 use Rattle.udt_rcv_buffer.specs.declared.head.Head.{Head}
 use Rattle.udt_rcv_buffer.specs.declared.marks.Marks.{Marks}
@@ -10,8 +11,8 @@ use Rattle.udt_rcv_buffer.specs.declared.messages.Found.{Found}
 use Rattle.udt_ring.specs.Parts.{Part}
 use Rattle.udt_rcv_buffer.specs.PlacedParts.{placed_from, IsUsed, IsUnused}
 use Rattle.udt_rcv_buffer.specs.Marked.{IsMarked, EndsRun}
-use Rattle.udt_rcv_buffer.specs.Messages.{begun_then, sought, message_in, IsBegun, IsFound}
-use Rattle.udt_rcv_buffer.specs.Walked.{is_used, gapless_at, begun_by, begun_at, NoneEnds, EndsWith, IsNext, goes_over, Breaks, StartsAt}
+use Rattle.udt_rcv_buffer.specs.Messages.{begun_then, sought, IsBegun, IsFound}
+use Rattle.udt_rcv_buffer.specs.Walked.{is_used, gapless_at, begun_by, begun_at, NoneEnds, EndsWith, IsNext, Breaks, StartsAt}
 use Rattle.udt_rcv_buffer.specs.Walks.{end_of, WasNext}
 use Rattle.udt_rcv_buffer.proofs.MarkLemmas.{below_top}
 use Rattle.udt_rcv_buffer.proofs.WalkLemmas.{Passes, passes, counted, sought-past}
@@ -98,6 +99,23 @@ pub found-is : (found : Option Found) (marks : Marks) (parts : List (Part Head))
 found-is None marks parts m next = (tt, λ base. next-none base marks.top parts next m.top m.unused)
 found-is (Some found) marks parts m next = (next-found found marks parts m next, tt)
 
+-- ---- equal parts up to a place
+
+-- a message that ends there ends the walk over the others too
+pub ends-same : (found : Found) (xs ys : List (Part Head)) → SameBelow (found.first + found.count) xs ys → EndsWith found xs → EndsWith found ys
+ends-same found xs ys same ends =
+    record {
+      place = ends.place;
+      part = ends.part;
+      number = ends.number;
+      some = ends.some;
+      end = ends.end;
+      before = none_ends-same ends.place xs ys (λ k lt. same k (omega (arith, lt, ends.end))) ends.before;
+      begun = sym (begun-same (ends.place + 1) xs ys (λ k lt. same k (omega (arith, lt, ends.end)))) ∙ ends.begun;
+      there = sym (same ends.place (omega (arith, ends.end))) ∙ ends.there;
+      last = ends.last;
+    }
+
 -- ---- equal parts from a place on
 
 merge : (n more : ℕ) (xs ys : List (Part Head)) → ((k : ℕ) → n ≤ k → slice_get xs k ≡ slice_get ys k) → gapless_at n xs ≡ gapless_at n ys → begun_at n xs ≡ begun_at n ys
@@ -132,6 +150,11 @@ begun-fresh place parts none breaks gapped =
 
 -- ---- a block is placed
 
+-- a message that is next ends with a part that is there
+pub end-within : (found : Option Found) (parts : List (Part Head)) → IsNext found parts → end_of found (length parts) ≤ length parts
+end-within None parts next = omega arith
+end-within (Some found) parts next = omega (arith, next.end, slice_get_within parts next.place next.part next.there)
+
 -- none ended before the message that was next
 pub was-none : (found : Option Found) (n : ℕ) (parts : List (Part Head)) → n < end_of found (length parts) → IsNext found parts → NoneEnds n parts
 was-none None n parts lt next = none_ends-fewer n (length parts) parts (omega (arith, lt)) next
@@ -152,28 +175,14 @@ module _ (found : Option Found) (place run : ℕ) (parts : List (Part Head)) (wa
       none_ends-same place was.before parts (same_below place (omega arith)) (was-none found place was.before (rw (was.len) lt) was.next)
 
   -- a message that ends before the block is still the next
-  pub ends_before : (f : Found) → found ≡ Some f → f.first + f.count ≤ place → EndsWith f parts
-  ends_before f is le =
-      let ends : EndsWith f was.before = rw is at was.next in
-      let low : ends.place + 1 ≤ place = omega (arith, le, ends.end) in
-      record {
-        place = ends.place;
-        part = ends.part;
-        number = ends.number;
-        some = ends.some;
-        end = ends.end;
-        before = none_ends-same ends.place was.before parts (same_below ends.place (omega (arith, low))) ends.before;
-        begun = sym (begun-same (ends.place + 1) was.before parts (same_below (ends.place + 1) low)) ∙ ends.begun;
-        there = sym (was.same ends.place (λ at. omega (arith, at, low))) ∙ ends.there;
-        last = ends.last;
-      }
-
   pub stays_before : place < length parts → end_of found (length parts) ≤ place → IsNext found parts
   stays_before within le = by_found found refl
     where
       by_found : (o : Option Found) → found ≡ o → IsNext o parts
       by_found None is = absurd (omega (arith, within, rw is at le))
-      by_found (Some f) is = ends_before f is (rw is at le)
+      by_found (Some f) is =
+          let low : f.first + f.count ≤ place = rw is at le in
+          ends-same f was.before parts (same_below (f.first + f.count) low) (rw is at was.next)
 
   -- where nothing goes on now, nothing did
   broke : (i : ℕ) → place < i → Breaks i parts → Breaks i was.before
@@ -245,6 +254,6 @@ starts-at run place from parts used within ends none le breaks =
     }
 
 -- or at the first part
-pub starts-first : (parts : List (Part Head)) → StartsAt 0 true parts
+pub starts-first : (run : ℕ) (parts : List (Part Head)) → StartsAt 0 (leb 0 run) parts
 unfolding gapless_at begun_at
-starts-first parts = record { before = λ at part lt. absurd (omega (arith, lt)); still = refl; fresh = refl }
+starts-first run parts = record { before = λ at part lt. absurd (omega (arith, lt)); still = le-leb 0 run (omega arith); fresh = refl }

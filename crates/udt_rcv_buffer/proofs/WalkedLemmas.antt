@@ -1,16 +1,15 @@
 -- What a walk over the parts has come to at a place, by the parts before it.
-use Rattle.std.proofs.Common.{◌≡◌, ℕ, zero, suc, ◌+◌, ◌-◌, ◌<◌, ◌≤◌, Bool, true, false, not, cond, ◌&&◌, ◌||◌, List, [], ◌∷◌, length, take, drop, eqb, Some, None, Option, refl, ap, ◌∙◌, sym, arith, inl, inr}
+use Rattle.std.proofs.Common.{◌≡◌, ℕ, zero, suc, ◌+◌, ◌<◌, ◌≤◌, Bool, true, false, not, ◌&&◌, ◌||◌, List, [], ◌∷◌, length, take, drop, Some, None, Option, refl, ap, ◌∙◌, sym, arith, inl, inr}
 use Rattle.std.specs.Prelude.{slice_get, All, ◌==◌}
-use Rattle.std.proofs.lemmas.Bool.{cases_Bool, cases_lt, and_parts, false≢true, eq-eqb, eqb-true}
-use Rattle.std.proofs.lemmas.Option.{cond_some, same_Some, slice_get_within}
+use Rattle.std.proofs.lemmas.Bool.{cases_Bool, cases_lt, and_parts, false≢true, eqb-true}
+use Rattle.std.proofs.lemmas.Option.{cond_some, same_Some}
 use Rattle.udt_rcv_buffer.specs.declared.head.Head.{Head}
 use Rattle.udt_rcv_buffer.specs.declared.messages.Begun.{Begun}
-use Rattle.udt_rcv_buffer.specs.declared.messages.Found.{Found}
 use Rattle.udt_ring.specs.Parts.{Part}
 use Rattle.udt_rcv_buffer.specs.PlacedParts.{IsUsed, IsUnused}
 use Rattle.udt_rcv_buffer.specs.Marked.{EndsRun}
 use Rattle.udt_rcv_buffer.specs.Messages.{begins, begun_then}
-use Rattle.udt_rcv_buffer.specs.Walked.{is_used, gapless_at, begun_by, begun_at, NoneEnds, EndsWith, IsNext, goes_over, Breaks, StartsAt}
+use Rattle.udt_rcv_buffer.specs.Walked.{is_used, gapless_at, begun_by, begun_at, NoneEnds, goes_over, Breaks}
 use Rattle.udt_rcv_buffer.proofs.MarkLemmas.{used_at, unused_at}
 
 -- ---- one part more
@@ -89,6 +88,14 @@ begun-unused place parts part found unused = by_begun (begun_at (place + 1) part
     by_begun : (o : Option Begun) → begun_at (place + 1) parts ≡ o → begun_at (place + 1) parts ≡ None
     by_begun None is = is
     by_begun (Some b) is = absurd (false≢true (sym unused ∙ (begun-goes place parts part b found is).used))
+
+-- or with one that is consumed
+pub begun-consumed : (place : ℕ) (parts : List (Part Head)) (part : Part Head) → slice_get parts place ≡ Some part → part.head.consumed ≡ true → begun_at (place + 1) parts ≡ None
+begun-consumed place parts part found consumed = by_begun (begun_at (place + 1) parts) refl
+  where
+    by_begun : (o : Option Begun) → begun_at (place + 1) parts ≡ o → begun_at (place + 1) parts ≡ None
+    by_begun None is = is
+    by_begun (Some b) is = absurd (false≢true (sym (begun-goes place parts part b found is).unconsumed ∙ consumed))
 
 -- ---- where nothing goes on
 

@@ -1,5 +1,5 @@
 -- What a walk over the parts answers, and what of it is kept in mind.
-use Rattle.std.specs.Prelude.{◌≡◌, ℕ, ◌+◌, ◌<◌, ◌≤◌, Bool, true, false, List, length, slice_get, Option, Some, None}
+use Rattle.std.specs.Prelude.{◌≡◌, ℕ, ◌+◌, ◌<◌, ◌≤◌, true, false, List, length, slice_get, Option, Some, None}
 use Rattle.udt_rcv_buffer.specs.declared.head.Head.{Head}
 use Rattle.udt_rcv_buffer.specs.declared.messages.Found.{Found}
 use Rattle.udt_rcv_buffer.specs.declared.messages.Stop.{Stop}
@@ -7,7 +7,7 @@ use Rattle.udt_rcv_buffer.specs.declared.messages.Walk.{Walk}
 use Rattle.udt_rcv_buffer.specs.declared.messages.Walk.TheVariants as walks
 use Rattle.udt_rcv_buffer.specs.declared.next.Next.{Next}
 use Rattle.udt_ring.specs.Parts.{Part}
-use Rattle.udt_rcv_buffer.specs.PlacedParts.{IsUnused}
+use Rattle.udt_rcv_buffer.specs.PlacedParts.{consume_parts, IsUnused}
 use Rattle.udt_rcv_buffer.specs.Walked.{gapless_at, NoneEnds, EndsWith, Breaks, IsNext}
 
 -- a walk may stop at this place
@@ -35,6 +35,14 @@ pub record WasNext (found : Option Found) (place run : ℕ) (parts : List (Part 
   pub missing : (part : Part Head) → slice_get before place ≡ Some part → IsUnused part
   pub next : IsNext found before
   pub gapped : (k : ℕ) → run ≤ k → gapless_at (k + 1) before ≡ false
+
+-- the message that was read next before so many parts from a place on were consumed
+pub record WasConsumed (found : Option Found) (place count : ℕ) (parts : List (Part Head)) : Type 0 where
+  pub before : List (Part Head)
+  pub is : parts ≡ consume_parts place count before
+  pub some : 0 < count
+  pub within : place + count ≤ length before
+  pub next : IsNext found before
 
 -- where it is kept in mind, it is the message that is read next
 abbrev pub KnowsNext : Next → List (Part Head) → Type 0

@@ -148,10 +148,13 @@ impl RcvBuffer {
             return Got::TooLarge(found.len);
         }
         copy_out(&self.ring, found.first, 0, found.len, into);
+        let base = self.base;
         self.marks.consume(&mut self.ring, found.first, found.count);
         self.marks.extend(&self.ring);
         self.marks.settle(&mut self.ring, &mut self.base);
-        self.next.renew(&self.ring, &self.marks);
+        let moved = self.base > base;
+        self.next
+            .consume(&self.ring, &self.marks, found.first, found.count, moved);
         Got::Whole(found.len)
     }
 
@@ -169,10 +172,13 @@ impl RcvBuffer {
         }
         let place = (from - self.base) as usize;
         let count = (last - from) as usize + 1;
+        let base = self.base;
         self.marks.consume(&mut self.ring, place, count);
         self.marks.extend(&self.ring);
         self.marks.settle(&mut self.ring, &mut self.base);
-        self.next.renew(&self.ring, &self.marks);
+        let moved = self.base > base;
+        self.next
+            .consume(&self.ring, &self.marks, place, count, moved);
     }
 
     /// How many bytes wait to be read.

@@ -122,6 +122,8 @@ impl Marks {
         ensures run { EndsRun self.new.run ring.new.list }
         ensures settled { IsSettled self.new.given ring.new.list }
         ensures limit { base.new + self.new.top ≤ 2 ^ 62 }
+        ensures top { base.new + self.new.top ≡ base.old + self.old.top }
+        ensures same { base.new ≤ base.old → ring.new.list ≡ ring.old.list }
         ensures len { length ring.new.list ≡ length ring.old.list }
         ensures room { ring.new.room ≡ ring.old.room }
     {

@@ -1,12 +1,12 @@
 // The message that is read next, where it is kept in mind.
 
-ghost use Rattle.std.specs.Prelude.{◌≡◌, ℕ, ◌^◌, ◌<◌, ◌≤◌, length, IfSome, IfNone, None, true};
+ghost use Rattle.std.specs.Prelude.{◌≡◌, ℕ, ◌+◌, ◌^◌, ◌<◌, ◌≤◌, length, nat_le, IfSome, IfNone, None, true, false};
 ghost use Rattle.udt_model.specs.ReceiveBlocks.{message_from};
 ghost use Rattle.udt_rcv_buffer.specs.PlacedParts.{placed_from};
 ghost use Rattle.udt_rcv_buffer.specs.Marked.{IsMarked, EndsRun};
 ghost use Rattle.udt_rcv_buffer.specs.Messages.{IsFound};
-ghost use Rattle.udt_rcv_buffer.specs.Walked.{IsNext};
-ghost use Rattle.udt_rcv_buffer.specs.Walks.{WasNext, KnowsNext, end_of as end_of_found};
+ghost use Rattle.udt_rcv_buffer.specs.Walked.{IsNext, StartsAt};
+ghost use Rattle.udt_rcv_buffer.specs.Walks.{WasNext, WasConsumed, KnowsNext, end_of as end_of_found};
 
 use crate::head::Head;
 use crate::marks::Marks;
@@ -21,13 +21,15 @@ pub struct Next {
     pub found: Option<Found>,
 }
 
-// The message that is read next, by a walk from the first part on.
-fn search(ring: &Ring<Head>, marks: &Marks) -> Option<Found>
-    requires { IsMarked marks.now ring.now.list }
+// The message that is read next, by a walk from a part on.
+fn search(ring: &Ring<Head>, marks: &Marks, from: usize) -> Option<Found>
+    requires start { StartsAt from (nat_le from marks.now.run) ring.now.list }
+    requires within { from ≤ marks.now.top }
+    requires marked { IsMarked marks.now ring.now.list }
     ensures { IsNext result ring.now.list }
 {
     let never = Stop { from: 0, below: 0 };
-    match walk_from(ring, 0, true, marks.top, never) {
+    match walk_from(ring, from, from <= marks.run, marks.top, never) {
         Walk::Whole(found) => Some(found),
         Walk::Stopped(_) | Walk::Over => None,
     }
@@ -45,18 +47,44 @@ impl Next {
         if self.kept {
             self.found
         } else {
-            search(ring, marks)
+            search(ring, marks, 0)
         }
     }
 
-    /// Looks for the message that is read next after blocks were consumed.
+    /// Looks for the message that is read next, from the first part on.
     #[inline(always)]
     pub fn renew(&mut self, ring: &Ring<Head>, marks: &Marks)
         requires { IsMarked marks.now ring.now.list }
         ensures { KnowsNext self.new ring.now.list }
     {
         if self.kept {
-            self.found = search(ring, marks);
+            self.found = search(ring, marks, 0);
+        }
+    }
+
+    /// Takes in that so many parts from a place on were consumed, and whether the base has moved.
+    #[inline(always)]
+    pub fn consume(
+        &mut self,
+        ring: &Ring<Head>,
+        marks: &Marks,
+        place: usize,
+        count: usize,
+        moved: bool,
+    )
+        requires was { self.old.kept ≡ true → moved ≡ false
+            → WasConsumed self.old.found place count ring.now.list }
+        requires within { moved ≡ false → place + count ≤ marks.now.top }
+        requires marked { IsMarked marks.now ring.now.list }
+        requires run { EndsRun marks.now.run ring.now.list }
+        ensures { KnowsNext self.new ring.now.list }
+    {
+        if self.kept {
+            self.found = if moved {
+                search(ring, marks, 0)
+            } else {
+                pass(self.found, ring, marks, place, count)
+            };
         }
     }
 
@@ -73,6 +101,27 @@ impl Next {
             self.found = look(self.found, ring, marks, place);
         }
     }
+}
+
+// The message that is read next once parts were consumed: none begins before their end but one that
+// ends before them.
+fn pass(
+    found: Option<Found>,
+    ring: &Ring<Head>,
+    marks: &Marks,
+    place: usize,
+    count: usize,
+) -> Option<Found>
+    requires was { WasConsumed found place count ring.now.list }
+    requires within { place + count ≤ marks.now.top }
+    requires marked { IsMarked marks.now ring.now.list }
+    requires run { EndsRun marks.now.run ring.now.list }
+    ensures { IsNext result ring.now.list }
+{
+    if end_of(found, ring.count()) <= place {
+        return found;
+    }
+    search(ring, marks, place + count)
 }
 
 // Where a message ends, or else so many parts.

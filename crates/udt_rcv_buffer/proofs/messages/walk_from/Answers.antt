@@ -1,11 +1,10 @@
-use Rattle.std.proofs.Common.{◌≡◌, ℕ, ◌+◌, ◌&&◌, Some, None, length, refl, ap, ◌∙◌, sym, arith, inl, inr}
-use Rattle.std.specs.Prelude.{slice_get}
-use Rattle.std.proofs.lemmas.Bool.{cases_lt, false≢true}
+use Rattle.std.proofs.Common.{◌≡◌, ◌+◌, Some, refl, ◌∙◌, sym, arith, inl, inr}
+use Rattle.std.proofs.lemmas.Bool.{false≢true}
 use Rattle.udt_rcv_buffer.specs.declared.messages.Begun.{Begun}
 use Rattle.udt_rcv_buffer.specs.declared.head.Head.{Head}
 use Rattle.udt_ring.specs.Parts.{Part}
 use Rattle.udt_rcv_buffer.specs.Messages.{IsBegun}
-use Rattle.udt_rcv_buffer.specs.Walked.{gapless_at, begun_by, begun_at, NoneEnds}
+use Rattle.udt_rcv_buffer.specs.Walked.{begun_at}
 use Rattle.udt_rcv_buffer.proofs.WalkLemmas.{begun_fits, counted, ended_some, ended_none}
 use Rattle.udt_rcv_buffer.proofs.WalkedLemmas.{gapless-next, begun-next, none_ends-more, none_ends-all}
 use Rattle.udt_rcv_buffer.proofs.messages.walk_from.Goals as goal

@@ -1,4 +1,4 @@
-use Rattle.std.proofs.Common.{◌≡◌, ℕ, Some}
+use Rattle.std.proofs.Common.{◌≡◌, Some}
 use Rattle.std.specs.Prelude.{slice_get}
 use Rattle.udt_rcv_buffer.specs.declared.messages.Begun.{Begun}
 use Rattle.udt_rcv_buffer.specs.Messages.{IsBegun}

@@ -1,8 +1,7 @@
-use Rattle.std.proofs.Common.{◌≡◌, ℕ, ◌+◌, ◌<◌, ◌≤◌, max, length, refl, ◌∙◌, sym, arith}
-use Rattle.std.specs.Prelude.{not}
+use Rattle.std.proofs.Common.{◌≡◌, ◌+◌, ◌<◌, length, ◌∙◌, sym, arith}
 use Rattle.std.proofs.lemmas.Bool.{false≢true}
-use Rattle.udt_rcv_buffer.specs.Walked.{NoneEnds, IsNext}
-use Rattle.udt_rcv_buffer.specs.Walks.{StopsAt, end_of}
+use Rattle.udt_rcv_buffer.specs.Walked.{NoneEnds}
+use Rattle.udt_rcv_buffer.specs.Walks.{end_of}
 use Rattle.udt_rcv_buffer.proofs.WalkedLemmas.{none_ends-more, not_true}
 use Rattle.udt_rcv_buffer.proofs.NextLemmas.{none_below, stays_before, stays_next, starts-at}
 use Rattle.udt_rcv_buffer.proofs.next.look.Goals as goal
