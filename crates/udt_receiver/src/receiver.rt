@@ -74,7 +74,7 @@ impl Receiver {
         requires { start ≤ PACKET_LIMIT }
         ensures { IfOk result (λ half. half ≡ idle_receiving config.now start) }
     {
-        let buffer = RcvBuffer::new(alloc, config.rcv_blocks, config.payload, start)?;
+        let buffer = RcvBuffer::new(alloc, config.kind, config.rcv_blocks, config.payload, start)?;
         let lost = RcvLoss::new(alloc, config.rcv_blocks)?;
         let arrivals = Samples::new(alloc)?;
         let pairs = Samples::new(alloc)?;
