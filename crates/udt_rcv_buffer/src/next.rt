@@ -157,7 +157,10 @@ fn look(found: Option<Found>, ring: &Ring<Head>, marks: &Marks, place: usize) ->
     if !head.flags.last && stops(ring, stop, place + 1) {
         return found;
     }
-    let from = start_of(ring, place);
+    let (from, begins) = start_of(ring, place);
+    if !begins && marks.run <= place && place + 1 < below {
+        return found;
+    }
     match walk_from(ring, from, from <= marks.run, marks.top, stop) {
         Walk::Whole(whole) => Some(whole),
         Walk::Stopped(_) => found,
