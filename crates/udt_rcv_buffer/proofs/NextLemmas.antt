@@ -12,11 +12,11 @@ use Rattle.udt_ring.specs.Parts.{Part}
 use Rattle.udt_rcv_buffer.specs.PlacedParts.{placed_from, IsUsed, IsUnused}
 use Rattle.udt_rcv_buffer.specs.Marked.{IsMarked, EndsRun}
 use Rattle.udt_rcv_buffer.specs.Messages.{begun_then, sought, IsBegun, IsFound}
-use Rattle.udt_rcv_buffer.specs.Walked.{is_used, gapless_at, begun_by, begun_at, NoneEnds, EndsWith, IsNext, Breaks, StartsAt}
+use Rattle.udt_rcv_buffer.specs.Walked.{is_used, gapless_at, begun_by, begun_at, NoneEnds, EndsWith, IsNext, Breaks, NoneBegins, StartsAt}
 use Rattle.udt_rcv_buffer.specs.Walks.{end_of, WasNext}
 use Rattle.udt_rcv_buffer.proofs.MarkLemmas.{below_top}
 use Rattle.udt_rcv_buffer.proofs.WalkLemmas.{Passes, passes, counted, sought-past}
-use Rattle.udt_rcv_buffer.proofs.WalkedLemmas.{SameBelow, gapless-next, begun-next, begun-same, none_ends-same, begun-goes, fresh-at, get_within, gapless-in, gapless-past, none_ends-fewer}
+use Rattle.udt_rcv_buffer.proofs.WalkedLemmas.{SameBelow, gapless-next, begun-next, begun-same, none_ends-same, begun-goes, begun-unused, begun-none, none_ends-upto, fresh-at, get_within, gapless-in, gapless-past, none_ends-fewer}
 
 -- ---- what the walk finds
 
@@ -193,25 +193,40 @@ module _ (found : Option Found) (place run : ℕ) (parts : List (Part Head)) (wa
     | inr other ↦ breaks at before part next (sym (was.same at other) ∙ found_before) (sym (was.same i (λ is. omega (arith, is, after))) ∙ found_part)
   ]
 
-  module _ (i : ℕ) (ends : EndsRun run parts) (past : run ≤ i) (after : place < i) (below : i < end_of found (length parts)) (breaks : Breaks i parts) (none : NoneEnds i parts) where
+  -- where nothing goes on after a gap, the walk is then as it was
+  pub later-broken : (i : ℕ) → EndsRun run parts → run ≤ i → place < i → i < end_of found (length parts) → Breaks i parts → NoneEnds i parts
+      → (k : ℕ) → i ≤ k → begun_at (k + 1) was.before ≡ begun_at (k + 1) parts
+  later-broken i ends past after below breaks none k le =
+      let gapless_before = was.gapped i past in
+      let gapless_now = gapless-after run i parts ends past in
+      let none_before : NoneEnds i was.before = was-none found i was.before (rw (was.len) below) was.next in
+      let begun_before = begun-fresh i was.before none_before (broke i after breaks) gapless_before in
+      let begun_now = begun-fresh i parts none breaks gapless_now in
+      begun-merged (i + 1) (k + 1) was.before parts (omega (arith, le)) (λ n from. was.same n (λ is. omega (arith, is, from, after))) (gapless_before ∙ sym gapless_now)
+      (begun_before ∙ ap (begun_by None i false) (was.same i (λ is. omega (arith, is, after))) ∙ sym begun_now)
+
+  -- nothing was begun after the part while it was missing
+  unbegun : begun_at (place + 1) was.before ≡ None
+  unbegun = by_part (slice_get was.before place) refl
+    where
+      by_part : (o : Option (Part Head)) → slice_get was.before place ≡ o → begun_at (place + 1) was.before ≡ None
+      by_part None there = begun-next place was.before ∙ rw there refl
+      by_part (Some part) there = begun-unused place was.before part there (was.missing part there)
+
+  -- and where nothing is begun now, the walk is then as it was
+  pub later-unbegun : EndsRun run parts → run ≤ place → begun_at (place + 1) parts ≡ None → (k : ℕ) → place + 1 ≤ k → begun_at (k + 1) was.before ≡ begun_at (k + 1) parts
+  later-unbegun ends past nothing k le =
+      begun-merged (place + 1) (k + 1) was.before parts (omega (arith, le)) (λ n from. was.same n (λ is. omega (arith, is, from)))
+      (was.gapped place past ∙ sym (gapless-after run place parts ends past)) (unbegun ∙ sym nothing)
+
+  module _ (i : ℕ) (after : place < i) (below : i < end_of found (length parts)) (none : NoneEnds i parts) (later : (k : ℕ) → i ≤ k → begun_at (k + 1) was.before ≡ begun_at (k + 1) parts) where
     apart : (k : ℕ) → i ≤ k → k ≡ place → ⊥
     apart k le is = omega (arith, is, le, after)
-
-    -- from there on the walk is as it was
-    begun_later : (k : ℕ) → i ≤ k → begun_at (k + 1) was.before ≡ begun_at (k + 1) parts
-    begun_later k le =
-        let gapless_before = was.gapped i past in
-        let gapless_now = gapless-after run i parts ends past in
-        let none_before : NoneEnds i was.before = was-none found i was.before (rw (was.len) below) was.next in
-        let begun_before = begun-fresh i was.before none_before (broke i after breaks) gapless_before in
-        let begun_now = begun-fresh i parts none breaks gapless_now in
-        begun-merged (i + 1) (k + 1) was.before parts (omega (arith, le)) (λ n from. was.same n (apart n (omega (arith, from)))) (gapless_before ∙ sym gapless_now)
-        (begun_before ∙ ap (begun_by None i false) (was.same i (apart i (omega arith))) ∙ sym begun_now)
 
     none_later : (n : ℕ) → NoneEnds n was.before → NoneEnds n parts
     none_later n before at part lt there last = elim (cases_lt at i) [
       | inl low ↦ none at part low there last
-      | inr from ↦ sym (begun_later at from) ∙ before at part lt (was.same at (apart at from) ∙ there) last
+      | inr from ↦ sym (later at from) ∙ before at part lt (was.same at (apart at from) ∙ there) last
     ]
 
     -- so the same message is the next
@@ -232,10 +247,23 @@ module _ (found : Option Found) (place run : ℕ) (parts : List (Part Head)) (wa
               some = e.some;
               end = e.end;
               before = none_later e.place e.before;
-              begun = sym (begun_later e.place from) ∙ e.begun;
+              begun = sym (later e.place from) ∙ e.begun;
               there = sym (was.same e.place (apart e.place from)) ∙ e.there;
               last = e.last;
             }
+
+  -- where nothing goes on after a gap, the same message is the next
+  pub stops_next : (i : ℕ) → EndsRun run parts → run ≤ i → place < i → i < end_of found (length parts) → Breaks i parts → NoneEnds i parts → IsNext found parts
+  stops_next i ends past after below breaks none = stays_next i after below none (later-broken i ends past after below breaks none)
+
+  -- and where no block up to the new one is a first one
+  pub unbegun_next : (from : ℕ) → EndsRun run parts → run ≤ place → from ≤ place → place + 1 < end_of found (length parts) → Breaks from parts → NoneBegins from place parts → IsNext found parts
+  unbegun_next from ends past le below breaks first =
+      let before = none_below (omega (arith, below)) in
+      let e : from + (place - from) ≡ place = omega (arith, le) in
+      let nothing = rw e at (begun-none from (place - from) parts (none_ends-fewer from place parts le before) breaks (rw e first)) in
+      let none : NoneEnds (place + 1) parts = none_ends-upto place parts before nothing in
+      stays_next (place + 1) (omega arith) below none (later-unbegun ends past nothing)
 
 -- a walk may start where nothing goes on
 pub starts-at : (run place from : ℕ) (parts : List (Part Head)) → All IsUsed (take run parts) → run ≤ length parts → EndsRun run parts → NoneEnds place parts → from ≤ place → Breaks from parts

@@ -1,7 +1,7 @@
 -- What a walk over the parts has come to at a place, by the parts before it.
 use Rattle.std.proofs.Common.{◌≡◌, ℕ, zero, suc, ◌+◌, ◌<◌, ◌≤◌, Bool, true, false, not, ◌&&◌, ◌||◌, List, [], ◌∷◌, length, take, drop, Some, None, Option, refl, ap, ◌∙◌, sym, arith, inl, inr}
 use Rattle.std.specs.Prelude.{slice_get, All, ◌==◌}
-use Rattle.std.proofs.lemmas.Bool.{cases_Bool, cases_lt, and_parts, false≢true, eqb-true}
+use Rattle.std.proofs.lemmas.Bool.{or_parts, cases_Bool, cases_lt, and_parts, false≢true, eqb-true}
 use Rattle.std.proofs.lemmas.Option.{cond_some, same_Some}
 use Rattle.udt_rcv_buffer.specs.declared.head.Head.{Head}
 use Rattle.udt_rcv_buffer.specs.declared.messages.Begun.{Begun}
@@ -9,7 +9,7 @@ use Rattle.udt_ring.specs.Parts.{Part}
 use Rattle.udt_rcv_buffer.specs.PlacedParts.{IsUsed, IsUnused}
 use Rattle.udt_rcv_buffer.specs.Marked.{EndsRun}
 use Rattle.udt_rcv_buffer.specs.Messages.{begins, begun_then}
-use Rattle.udt_rcv_buffer.specs.Walked.{is_used, gapless_at, begun_by, begun_at, NoneEnds, goes_over, Breaks}
+use Rattle.udt_rcv_buffer.specs.Walked.{is_used, gapless_at, begun_by, begun_at, NoneEnds, goes_over, Breaks, NoneBegins}
 use Rattle.udt_rcv_buffer.proofs.MarkLemmas.{used_at, unused_at}
 
 -- ---- one part more
@@ -134,6 +134,51 @@ fresh-at (suc at) parts gapless none breaks = by_begun (begun_at (suc at) parts)
         ] in
         rw (is, there) (other_begins b prior.head part.head (suc at) (length part.bytes) (gapless && part.head.used) goes more (breaks at prior part next found there))
 
+-- ---- where no message begins
+
+pub none_begins-one : (place : ℕ) (parts : List (Part Head)) (part : Part Head) → slice_get parts place ≡ Some part → part.head.flags.first ≡ false → NoneBegins place place parts
+none_begins-one place parts part found first at other from to there =
+    let is : at ≡ place = omega (arith, from, to) in
+    let found_too : slice_get parts place ≡ Some other = rw is at there in
+    let same : part ≡ other = same_Some part other (sym found ∙ found_too) in
+    rw (← same) first
+
+pub none_begins-more : (earlier start place : ℕ) (parts : List (Part Head)) (part : Part Head) → earlier + 1 ≡ start → slice_get parts earlier ≡ Some part
+    → (begins : Bool) → (begins ≡ false → NoneBegins start place parts) → (begins || part.head.flags.first) ≡ false → NoneBegins earlier place parts
+none_begins-more earlier start place parts part next found begins before first at other from to there =
+    let both = or_parts begins part.head.flags.first first in
+    elim (cases_lt earlier at) [
+      | inl after ↦ before both.0 at other (omega (arith, after, next)) to there
+      | inr here ↦ none_begins-one earlier parts part found both.1 at other from (omega (arith, here)) there
+    ]
+
+begins-none : (head : Head) (place len : ℕ) (gapless : Bool) → head.flags.first ≡ false → begins head place len gapless ≡ None
+begins-none head place len gapless first = by_begins (begins head place len gapless) refl
+  where
+    by_begins : (o : Option Begun) → begins head place len gapless ≡ o → begins head place len gapless ≡ None
+    by_begins None is = is
+    by_begins (Some b) is =
+        let picked = cond_some (head.used && not head.consumed && head.flags.first && (not head.flags.order || gapless)) (record { first = place; number = head.flags.message; len = len }) b is in
+        let one = and_parts (head.used && not head.consumed && head.flags.first) (not head.flags.order || gapless) picked.0 in
+        let two = and_parts (head.used && not head.consumed) head.flags.first one.0 in
+        absurd (false≢true (sym first ∙ two.1))
+
+begun_by-none : (place : ℕ) (gapless : Bool) (o : Option (Part Head)) → ((part : Part Head) → o ≡ Some part → part.head.flags.first ≡ false) → begun_by None place gapless o ≡ None
+begun_by-none place gapless None first = refl
+begun_by-none place gapless (Some part) first = begins-none part.head place (length part.bytes) (gapless && part.head.used) (first part refl)
+
+-- nothing is begun after blocks of which none is a first one
+pub begun-none : (from more : ℕ) (parts : List (Part Head)) → NoneEnds from parts → Breaks from parts → NoneBegins from (from + more) parts → begun_at (from + more + 1) parts ≡ None
+begun-none from zero parts none breaks first =
+    let e : from + zero + 1 ≡ from + 1 = omega arith in
+    rw e (begun-next from parts ∙ fresh-at from parts (gapless_at from parts) none breaks
+    ∙ begun_by-none from (gapless_at from parts) (slice_get parts from) (λ part there. first from part (omega arith) (omega arith) there))
+begun-none from (suc more) parts none breaks first =
+    let e : from + suc more + 1 ≡ (from + more + 1) + 1 = omega arith in
+    let before = begun-none from more parts none breaks (λ at part low high there. first at part low (omega (arith, high)) there) in
+    rw e (begun-next (from + more + 1) parts ∙ rw before
+    (begun_by-none (from + more + 1) (gapless_at (from + more + 1) parts) (slice_get parts (from + more + 1)) (λ part there. first (from + more + 1) part (omega arith) (omega arith) there)))
+
 -- ---- whether a part is missing
 
 pub get_within : (parts : List (Part Head)) (i : ℕ) → i < length parts → slice_get parts i ≡ None → ⊥
@@ -176,6 +221,12 @@ none_ends-more place parts part none found here at other lt there last = elim (c
       let found_too : slice_get parts place ≡ Some other = rw is at there in
       let same : part ≡ other = same_Some part other (sym found ∙ found_too) in
       rw is (here (rw (← same) at last))
+]
+
+pub none_ends-upto : (place : ℕ) (parts : List (Part Head)) → NoneEnds place parts → begun_at (place + 1) parts ≡ None → NoneEnds (place + 1) parts
+none_ends-upto place parts none nothing at part lt there last = elim (cases_lt at place) [
+  | inl below ↦ none at part below there last
+  | inr from ↦ let is : at ≡ place = omega (arith, lt, from) in rw is nothing
 ]
 
 -- nor with parts that aren't used

@@ -1,5 +1,5 @@
 -- What a walk over the parts from the first one on has come to at a place.
-use Rattle.std.specs.Prelude.{◌≡◌, ℕ, zero, suc, ◌+◌, ◌<◌, ◌==◌, Bool, true, false, not, ◌&&◌, List, length, slice_get, Option, Some, None}
+use Rattle.std.specs.Prelude.{◌≡◌, ℕ, zero, suc, ◌+◌, ◌<◌, ◌≤◌, ◌==◌, Bool, true, false, not, ◌&&◌, List, length, slice_get, Option, Some, None}
 use Rattle.udt_rcv_buffer.specs.declared.head.Head.{Head}
 use Rattle.udt_rcv_buffer.specs.declared.messages.Begun.{Begun}
 use Rattle.udt_rcv_buffer.specs.declared.messages.Found.{Found}
@@ -60,6 +60,11 @@ abbrev pub Breaks : ℕ → List (Part Head) → Type 0
 Breaks place parts =
     (at : ℕ) (before part : Part Head) → place ≡ at + 1 → slice_get parts at ≡ Some before → slice_get parts place ≡ Some part
     → goes_over before.head part.head ≡ false
+
+-- no block from one place to another is its message's first
+abbrev pub NoneBegins : ℕ → ℕ → List (Part Head) → Type 0
+NoneBegins from to parts =
+    (place : ℕ) (part : Part Head) → from ≤ place → place ≤ to → slice_get parts place ≡ Some part → part.head.flags.first ≡ false
 
 -- a walk may start here, as if nothing was begun
 pub record StartsAt (place : ℕ) (gapless : Bool) (parts : List (Part Head)) : Type 0 where

@@ -1,9 +1,9 @@
 // Finding whole messages: a walk over the parts, from one on up to the highest used.
 
-ghost use Rattle.std.specs.Prelude.{◌≡◌, ◌+◌, ◌^◌, ◌<◌, ◌≤◌, length, drop, All, IsTrue, IfSome, None, if◌then◌else◌};
+ghost use Rattle.std.specs.Prelude.{◌≡◌, ◌+◌, ◌^◌, ◌<◌, ◌≤◌, length, drop, All, IsTrue, IfSome, None, false, if◌then◌else◌};
 ghost use Rattle.udt_rcv_buffer.specs.PlacedParts.{IsUnused};
 ghost use Rattle.udt_rcv_buffer.specs.Messages.{begins, begun_then};
-ghost use Rattle.udt_rcv_buffer.specs.Walked.{goes_over as goes_over_of, Breaks, StartsAt};
+ghost use Rattle.udt_rcv_buffer.specs.Walked.{goes_over as goes_over_of, Breaks, NoneBegins, StartsAt};
 ghost use Rattle.udt_rcv_buffer.specs.Walks.{StopsAt, IsWalk};
 
 use crate::head::Head;
@@ -83,19 +83,26 @@ fn breaks(ring: &Ring<Head>, place: usize) -> bool
     !goes_over(before, head)
 }
 
-/// Where the blocks begin that may be of one message with that of a part.
-pub fn start_of(ring: &Ring<Head>, place: usize) -> usize
-    ensures breaks { Breaks result ring.now.list }
-    ensures before { result ≤ place }
+/// Where the blocks begin that may be of one message with that of a part, and whether one of them up
+/// to that part may be its first.
+pub fn start_of(ring: &Ring<Head>, place: usize) -> (usize, bool)
+    requires { place < length ring.now.list }
+    ensures breaks { Breaks result.0 ring.now.list }
+    ensures before { result.0 ≤ place }
+    ensures none { result.1 ≡ false → NoneBegins result.0 place ring.now.list }
 {
+    let (head, _) = ring.part(place);
+    let mut begins = head.flags.first;
     let mut start = place;
     while start > 0 {
         if breaks(ring, start) {
             break;
         }
         start -= 1;
+        let (earlier, _) = ring.part(start);
+        begins |= earlier.flags.first;
     }
-    start
+    (start, begins)
 }
 
 /// Where a walk may stop: at a place from this one on and below that one, to which no message goes on.

@@ -22,6 +22,7 @@ pub struct Next {
 }
 
 // The message that is read next, by a walk from a part on.
+#[inline(never)]
 fn search(ring: &Ring<Head>, marks: &Marks, from: usize) -> Option<Found>
     requires start { StartsAt from (nat_le from marks.now.run) ring.now.list }
     requires within { from ≤ marks.now.top }
@@ -105,6 +106,7 @@ impl Next {
 
 // The message that is read next once parts were consumed: none begins before their end but one that
 // ends before them.
+#[inline(never)]
 fn pass(
     found: Option<Found>,
     ring: &Ring<Head>,
@@ -138,6 +140,7 @@ fn end_of(found: Option<Found>, parts: usize) -> usize
 
 // The message that is read next once a block was placed: only the messages around it, and those
 // that need no longer wait for an offset before them, are looked at.
+#[inline(never)]
 fn look(found: Option<Found>, ring: &Ring<Head>, marks: &Marks, place: usize) -> Option<Found>
     requires was { WasNext found place marks.now.run ring.now.list }
     requires marked { IsMarked marks.now ring.now.list }
@@ -157,7 +160,10 @@ fn look(found: Option<Found>, ring: &Ring<Head>, marks: &Marks, place: usize) ->
     if !head.flags.last && stops(ring, stop, place + 1) {
         return found;
     }
-    let from = start_of(ring, place);
+    let (from, begins) = start_of(ring, place);
+    if !begins && marks.run <= place && place + 1 < below {
+        return found;
+    }
     match walk_from(ring, from, from <= marks.run, marks.top, stop) {
         Walk::Whole(whole) => Some(whole),
         Walk::Stopped(_) => found,
