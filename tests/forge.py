@@ -1,10 +1,10 @@
 """Datagrams that no socket sent: likely ones, with numbers at and near where a socket stands, and mutated ones."""
 from controls import GREATEST_PERIOD
 from read import NEAR, NUMBERS
-from sockets import HEADERS, TYPE_NUMBERS, words
+from sockets import FIRST, HEADERS, LAST, ORDER, TYPE_NUMBERS, words
 
 # how often each kind of packet comes. A shutdown ends what can be tried with a socket
-KINDS = {"block": 80, "ack": 70, "nak": 50, "ack2": 40, "keepalive": 8, "handshake": 8, "drop": 10, "unknown": 10,
+KINDS = {"block": 80, "ack": 70, "nak": 50, "ack2": 40, "keepalive": 8, "handshake": 8, "drop": 20, "unknown": 10,
          "shutdown": 1}
 # how far a number lies from where the socket stands, in packets
 STEPS = [0] * 12 + [1, 1, -1, -1, 2, 3, 5, 31, 32, 33, NEAR, -NEAR, NEAR - 1]
@@ -43,12 +43,18 @@ class Forger:
         kind = chance.choices(list(KINDS), KINDS.values())[0]
         dest = chance.choice([socket.own] * 24 + [socket.own - 1, 0, 1025])
         if kind == "block":
-            head = words(self.block_number(socket), self.word(), self.word(), dest)
+            head = words(self.block_number(socket), self.message(), self.word(), dest)
             return head + chance.randbytes(self.length(socket))
         head = control_words(
             chance.choice([4, 8, chance.randrange(1 << 15)]) if kind == "unknown" else kind,
             self.info(kind, socket), dest, self.word(), chance.choice([0, 0, chance.randrange(1 << 16)]))
         return head + self.field(kind, socket)
+
+    def message(self):
+        """The second word of a block: now and then the same message number as another's."""
+        chance = self.chance
+        ends, order = chance.choice([0, FIRST, LAST, FIRST + LAST]), chance.choice([0, ORDER])
+        return self.word([ends + order + chance.choice([1, 1, 1, 2])])
 
     def block_number(self, socket):
         """The sequence number of a block: where a gap begins or ends, at the base, or near one of these."""
@@ -80,8 +86,11 @@ class Forger:
         if kind == "handshake":
             return chance.randbytes(chance.choice([48, 48, 47, 49, 0]))
         if kind == "drop":
-            top = socket.receiver.top
-            return words(self.number(socket, top), self.number(socket, top))[: chance.choice([8, 8, 7, 0])]
+            receiver = socket.receiver
+            first = chance.choice([receiver.base, receiver.ack_offset(), receiver.top])
+            reach = chance.choice([0, 0, 1, 2, 5, 31, -1])
+            told = self.number(socket, first), self.number(socket, first + reach)
+            return words(*told)[: chance.choice([8] * 8 + [7, 0])]
         return chance.randbytes(chance.choice([0, 0, 0, 1, 4]))
 
     def ack(self, socket):

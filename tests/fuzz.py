@@ -72,6 +72,31 @@ class Script:
         """Bytes come to a socket from its peer, or from or to elsewhere."""
         self.say(f"raw {self.now} {sender or socket.peer_host} {host or socket.host} {data.hex() or '-'}")
 
+    def give(self, socket, length):
+        """A socket is asked to send so many bytes."""
+        chance, given = self.chance, self.chance.randbytes(length).hex() or "-"
+        if socket.opening.kind == "stream":
+            self.say(f"{socket.name} send {self.now} {given}")
+        else:
+            ttl = chance.choice(["-", "-", "-", 0, 1_000, 50_000, 300_000, LAST_MOMENT])
+            self.say(f"{socket.name} sendmsg {self.now} {ttl} {chance.choice([0, 1])} {given}")
+
+    def take(self, socket, room, now=None):
+        """A socket is read: a message where it carries messages."""
+        call = {"stream": "recv", "message": "recvmsg"}[socket.opening.kind]
+        return self.say(f"{socket.name} {call} {self.now if now is None else now} {room}")[0].split()[2]
+
+    def take_all(self, socket):
+        """A socket is read until nothing waits."""
+        while socket.opening.kind == "message" and self.take(socket, 65_536) not in ("again", "refused"):
+            pass
+        self.take(socket, 65_536)
+
+    def misuse(self, socket):
+        """A call that a socket of this kind has not."""
+        calls = ["sendmsg %d - 1 00", "recvmsg %d 9"] if socket.opening.kind == "stream" else ["send %d 00", "recv %d 0"]
+        self.say(f"{socket.name} {self.chance.choice(calls) % self.now}")
+
     def hear(self):
         """All sockets hear from their peers."""
         for socket in self.player.sockets:
@@ -117,20 +142,25 @@ class Datagrams(Script):
         payload, room = chance.choice([1, 4, 6, 20]), chance.choice([16, 32, 32])
         isn = chance.choice([0, 5, NUMBERS - 1, chance.randrange(NUMBERS)])
         start = chance.choice([0, 0, NUMBERS - 3, LAST_START - 7])
-        self.say(f"pair stream a{own} b{own} {payload} {isn} {room} {start}")
+        kind = chance.choice(["stream", "message"])
+        self.say(f"pair {kind} a{own} b{own} {payload} {isn} {room} {start}")
         self.socket = self.player.sockets[-1]
         self.settle(self.socket, chance.choice(self.forger.rtts), chance.choice([0, 0, 0, 20]))
 
     def call(self):
         """The socket sends, reads, packs, ticks or tells what it counted."""
-        chance, name = self.chance, self.socket.name
+        chance, socket = self.chance, self.socket
         act = chance.choice(["send"] * 3 + ["recv"] * 2 + ["pack"] * 8 + ["tick"] * 5 + ["perf"])
         if act in ("pack", "tick"):
-            getattr(self, act)(self.socket)
-            return
-        given = chance.randbytes(chance.randrange(1, 30)).hex()
-        rest = {"send": [given], "recv": [chance.choice(["1", "7", "65536"])]}.get(act, [])
-        self.say(" ".join([name, act, str(self.now), *rest]))
+            getattr(self, act)(socket)
+        elif act == "perf":
+            self.say(f"{socket.name} perf {self.now}")
+        elif not chance.randrange(40):
+            self.misuse(socket)
+        elif act == "send":
+            self.give(socket, chance.randrange(1, 30))
+        else:
+            self.take(socket, chance.choice([1, 7, 65_536]))
 
     def stream(self):
         """Blocks in their order, with gaps that are filled again. No tick comes between, so light ACKs are due."""
@@ -140,7 +170,7 @@ class Datagrams(Script):
             offset = receiver.ack_offset() if fills else receiver.top + chance.choice([0] * 12 + [1, 2])
             self.raw(self.socket, self.forger.block(self.socket, self.socket.number_of(offset)))
             if not chance.randrange(6):
-                self.say(f"{self.socket.name} recv {self.now} 65536")
+                self.take_all(self.socket)
 
     def datagram(self):
         """One datagram arrives."""
@@ -152,7 +182,7 @@ class Datagrams(Script):
             data = data[:12] + words(s.own) + data[16:]
         self.raw(s, data, chance.choice([None] * 40 + [STRANGER, s.host]), chance.choice([None] * 60 + [STRANGER]))
         if s.phase == "broken":
-            self.say(f"{s.name} recv {self.now} 65536")
+            self.take_all(s)
             self.say(f"{s.name} perf {self.now}")
             self.pair()
 
@@ -171,10 +201,10 @@ class Story(Script):
         isn = chance.choice([0, 5, NUMBERS - 1, NUMBERS - 3, chance.randrange(NUMBERS)])
         for names in ["a b", "c d"][: chance.choice([1, 1, 2])]:
             start = chance.choice(["", " 0", " 7", f" {NUMBERS - 2}", f" {LAST_START}"])
-            self.say(f"pair stream {names} {payload} {isn} {room}{start}")
+            self.say(f"pair {chance.choice(['stream', 'message'])} {names} {payload} {isn} {room}{start}")
         if self.now:
             self.hear()
-        acts = {"send": 4, "recv": 3, "pack": 6, "tick": 5, "deliver": 8, "perf": 1, "close": 0.02,
+        acts = {"send": 4, "recv": 3, "pack": 6, "tick": 5, "deliver": 8, "perf": 1, "close": 0.02, "misuse": 0.1,
                 "forge": chance.choice([0, 4]), "flight": chance.choice([0, 1, 1]), "repeat": chance.choice([0, 0.3])}
         for act in chance.choices(list(acts), acts.values(), k=count):
             if self.length < PRINTED:
@@ -188,9 +218,11 @@ class Story(Script):
         # (now and then a moment before the last one)
         now = max(0, self.now - chance.choice([0] * 9 + [chance.randrange(100_000)]))
         if act == "send":
-            self.send(socket, chance.choice([0, 1, 2, 5, 9, 30]))
+            self.give(socket, chance.choice([0, 1, 2, 5, 9, 30]))
         elif act == "recv":
-            self.say(f"{socket.name} recv {now} {chance.choice([0, 1, 2, 5, 100, 65536])}")
+            self.take(socket, chance.choice([0, 1, 2, 5, 100, 65_536]), now)
+        elif act == "misuse":
+            self.misuse(socket)
         elif act == "pack":
             self.pack(socket)
         elif act == "tick":
@@ -203,9 +235,6 @@ class Story(Script):
             self.flight(socket)
         elif self.player.datagrams:
             self.deliver(now) if act == "deliver" else self.repeat()
-
-    def send(self, socket, length):
-        self.say(f"{socket.name} send {self.now} {self.chance.randbytes(length).hex() or '-'}")
 
     def deliver(self, now):
         """One of the last datagrams arrives, or one of all."""
@@ -220,12 +249,13 @@ class Story(Script):
         step, losses = chance.choice([0, 1, 30, 200, 2_000]), chance.choice([0, 0, 2, 10, 30])
         for _ in range(chance.choice([1, 2, 4, 8])):
             first = len(self.player.datagrams)
-            self.send(socket, chance.choice([3, 20, 150]) * socket.opening.payload)
+            for _ in range(1 if socket.opening.kind == "stream" else chance.choice([1, 3, 20])):
+                self.give(socket, chance.choice([1, 3, 20, 150]) * socket.opening.payload - chance.randrange(2))
             while self.pack(socket) != "nothing":
                 self.now += step
             self.arrive(first, step, losses)
             first = len(self.player.datagrams)
-            self.say(f"{peer.name} recv {self.now} 65536")
+            self.take_all(peer)
             self.now += chance.choice([10_000, 10_000, 250_000, 500_000])
             self.tick(peer)
             self.tick(socket)
@@ -311,7 +341,7 @@ class Spelling(Script):
     NUMBERS = ["0", "1", "2", "01", "-1", "+1", "1.", "", "255", "256", "8956", "8957", "65535", "65536", "65537",
                "2147483647", "2147483648", str(LAST_START), str(LAST_START + 1), str(LAST_MOMENT), str(LAST_MOMENT + 1),
                str(1 << 64), "9" * 40]
-    NAMES = ["a", "b", "c1", "raw", "pair", "tick", "deliver", "stream", "send", "perf", "a" * 16, "a" * 17, "1a", "A",
+    NAMES = ["a", "b", "c1", "raw", "pair", "tick", "deliver", "stream", "send", "recvmsg", "perf", "a" * 16, "a" * 17, "1a", "A",
              "a_b", "é", ""]
     BYTES = ["-", "", "00", "0", "0g", "FF", "ff00", "--", "-00"]
     ADDRESSES = ["10.0.0.1:9000", "10.0.0.2:9000", "10.0.0.1:0", "10.0.0.1:65536", "10.0.0.256:1", "10.0.0:1",
@@ -321,7 +351,8 @@ class Spelling(Script):
 
     def __init__(self, chance, control):
         super().__init__(chance, control)
-        self.say(f"pair stream a {chance.choice(['b', 'raw', 'pair', 'deliver', 'tick'])} 4 5 4")
+        kind = chance.choice(["stream", "message"])
+        self.say(f"pair {kind} a {chance.choice(['b', 'raw', 'pair', 'deliver', 'tick'])} 4 5 4")
         while self.say(self.edge() if len(self.lines) < 30 else ".") is not None:
             pass
 
@@ -334,11 +365,13 @@ class Spelling(Script):
         name, now, told = pick(names, self.NAMES), number("0", "5", "77"), pick(["00ff", "-", "aa"], self.BYTES)
         address = lambda: pick(self.ADDRESSES[:2], self.ADDRESSES)
         line = chance.choice([
-            lambda: ["pair", pick(["stream"], ["message", "Stream", ""]), pick(["x", "y", "z1", "stream"], self.NAMES),
+            lambda: ["pair", pick(["stream", "message"], ["messages", "Stream", ""]), pick(["x", "y", "z1", "stream"], self.NAMES),
                      pick(["u", "v", "w0"], self.NAMES), number("4", "8956"), number("5", "2147483647"),
                      number("2", "4", "9")] + chance.choice([[], [number("0", str(LAST_START))]]),
             lambda: [name, "send", now, told],
             lambda: [name, "recv", now, number("0", "9", "65536")],
+            lambda: [name, "sendmsg", now, pick(["-", "0", "77"], self.NUMBERS + ["--"]), number("0", "1"), told],
+            lambda: [name, "recvmsg", now, number("0", "9", "65536")],
             lambda: [name, "pack", now],
             lambda: [name, "tick", now],
             lambda: [name, "close", now],

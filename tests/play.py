@@ -14,7 +14,7 @@ import sys
 
 from controls import CONTROLS, NATIVE
 from read import NUMBERS
-from sockets import Opening, Refused, Socket
+from sockets import NEVER, Opening, Refused, Socket
 
 HOSTS = ("10.0.0.1:9000", "10.0.0.2:9000")
 MOST_PAYLOAD = 8_956
@@ -44,6 +44,15 @@ def room_in(word):
     return number_in(word, 0, MOST_ROOM)
 
 
+def ttl_in(word):
+    """A time to live, or a dash for none."""
+    return NEVER if word == "-" else moment_in(word)
+
+
+def order_in(word):
+    return number_in(word, 0, 1)
+
+
 def bytes_in(word):
     """The bytes that a word spells: pairs of small digits, or a dash for none."""
     return bytes.fromhex(word.replace("-", "")) if re.fullmatch("-|([0-9a-f]{2})+", word) else None
@@ -66,7 +75,8 @@ def is_address(word):
 
 
 # (what the words after the moment of a call are)
-CALLS = {"send": [bytes_in], "recv": [room_in], "pack": [], "tick": [], "close": [], "perf": []}
+CALLS = {"send": [bytes_in], "recv": [room_in], "sendmsg": [ttl_in, order_in, bytes_in], "recvmsg": [room_in], "pack": [],
+         "tick": [], "close": [], "perf": []}
 
 
 class Player:
@@ -91,14 +101,14 @@ class Player:
         return by_first[form[0]](*form[1:]) if form[0] in by_first else None
 
     def pair_line(self, kind, *rest):
-        if kind != "stream" or len(rest) not in (5, 6):
+        if kind not in ("stream", "message") or len(rest) not in (5, 6):
             return None
         ranges = [(1, MOST_PAYLOAD), (0, NUMBERS - 1), (LEAST_BLOCKS, MOST_BLOCKS), (0, LAST_START)]
         values = [number_in(word, *within) for word, within in zip(rest[2:], ranges)]
         new = [it for it in rest[:2] if re.fullmatch("[a-z][a-z0-9]{0,15}", it) and it not in self.named]
         if None in values or len(set(new)) < 2 or len(self.sockets) + 2 > MOST_SOCKETS:
             return None
-        return self.pair(rest[:2], *values)
+        return self.pair(kind, rest[:2], *values)
 
     def call_line(self, name, call, moment, *rest):
         if len(rest) != len(CALLS[call]) or name not in self.named or moment_in(moment) is None:
@@ -117,9 +127,9 @@ class Player:
         data = bytes_in(rest[2])
         return None if data is None else self.arrival(int(moment), rest[0], rest[1], data)
 
-    def pair(self, names, payload, isn, blocks, start=0):
+    def pair(self, kind, names, payload, isn, blocks, start=0):
         """Two sockets, each of which is the other's peer."""
-        opening, own = Opening(payload, isn, blocks, start, self.control), len(self.sockets) + 1
+        opening, own = Opening(kind, payload, isn, blocks, start, self.control), len(self.sockets) + 1
         ends = [(own, HOSTS[0], HOSTS[1], own + 1), (own + 1, HOSTS[1], HOSTS[0], own)]
         for name, end in zip(names, ends):
             self.named[name] = Socket(name, *end, opening)
@@ -142,8 +152,7 @@ class Player:
         if name == "tick":
             return "", socket.tick()
         told = getattr(socket, name)(*values)
-        texts = {"send": str, "recv": lambda given: given.hex() or "-", "perf": str, "close": lambda _: ""}
-        return texts[name](told), []
+        return told.hex() or "-" if isinstance(told, bytes) else "" if told is None else str(told), []
 
     def emitted(self, socket, data):
         """A datagram is on its way."""
@@ -198,7 +207,7 @@ class World:
 
     def __init__(self, seed, control=NATIVE):
         self.draws, self.player = drawn(seed), Player(control)
-        self.player.pair(["a", "b"], self.PAYLOAD, seed % NUMBERS, self.BLOCKS)
+        self.player.pair("stream", ["a", "b"], self.PAYLOAD, seed % NUMBERS, self.BLOCKS)
         self.a, self.b = self.player.sockets
         self.accepted, self.delivered, self.now = 0, 0, 0
         self.bytes = bytes(it % self.BYTES for it in range(self.BYTES + self.ROOM))

@@ -1,7 +1,8 @@
-"""The socket of a script's pair: a stream each way, connected from its opening on.
+"""The socket of a script's pair: a stream or messages each way, connected from its opening on.
 
 It is told of calls, arrivals and ticks, and answers each with words and the datagrams that it emits.
 """
+import math
 import struct
 from collections import Counter
 from dataclasses import dataclass
@@ -12,7 +13,7 @@ from timing import SYN, Path, Window
 PACKETS = 1 << 60               # the packets that a direction may ever have
 LAST_MESSAGE = (1 << 29) - 1    # 1 comes after it
 LAST_ACK_NUMBER = NUMBERS - 1   # 1 comes after it
-FIRST, LAST = 1 << 31, 1 << 30  # the flags of a message's first and last block
+FIRST, LAST, ORDER = 1 << 31, 1 << 30, 1 << 29  # the flags of a message's first and last block, and of its order
 HEADERS = 44                    # bytes of a packet besides its payload
 LEAST_FLOW, GREATEST_FLOW = 2, 65_536
 PROBE = 16                      # after a sequence number that this divides the next packet follows at once
@@ -22,6 +23,7 @@ FIRST_TRIPS = 2                 # round trips from the first report of a loss to
 MOST_TRIPS = (1 << 32) - 1
 LEAST_NAK_WORDS = 2
 LEAST_EXP_INTERVAL = 500_000    # microseconds, like all times here
+NEVER = math.inf                # when a message without a time to live expires
 MOST_EXP_COUNT, LEAST_SILENCE, GREATEST_SILENCE = 16, 3_000_000, 180_000_000
 
 TYPE_NUMBERS = {name: number for number, name in TYPES.items()}
@@ -68,11 +70,22 @@ class Refused(Exception):
 class Opening:
     """With what both sockets of a pair are opened."""
 
+    kind: str       # what they carry: a stream, or messages
     payload: int    # the most bytes of a block
     isn: int        # the initial sequence number both ways
     blocks: int     # the room for blocks each way
     start: int      # the offset at which both directions begin
     control: type
+
+
+@dataclass
+class Message:
+    """A message that was accepted: its number, its first and last offset, and the moment after which it is dropped."""
+
+    number: int
+    first: int
+    last: int
+    expires: float
 
 
 class Sender:
@@ -81,7 +94,7 @@ class Sender:
     def __init__(self, opening, path):
         self.opening, self.path = opening, path
         self.acked = self.next = self.end = opening.start   # (each block below these: acknowledged, sent, accepted)
-        self.kept = {}                                      # flags and bytes, by offset
+        self.kept = {}                                      # flags, bytes and message, by offset
         self.lost = set()
         self.flow = clamped(opening.blocks)
         self.control = opening.control(opening.payload + HEADERS, self.flow)
@@ -90,21 +103,46 @@ class Sender:
         self.sent = self.resent = 0
 
     def accept(self, given):
-        """Takes the bytes that fit, as blocks of one message, and says how many."""
+        """Takes the bytes of a stream that fit, as blocks of one message, and says how many."""
         left, free, payload = PACKETS - self.end, self.opening.blocks - len(self.kept), self.opening.payload
         if given and left == 0:
             raise Refused("refused 9001")
         if given and free == 0:
             raise Refused("again")
-        taken = given[: min(free, left) * payload]
+        return self.keep(given[: min(free, left) * payload], 0, NEVER)
+
+    def accept_message(self, given, order, expires):
+        """Takes a message whole, and says how many bytes it has."""
+        blocks = -(-len(given) // self.opening.payload)
+        if blocks > self.opening.blocks:
+            raise Refused("refused 5012")
+        if blocks > PACKETS - self.end:
+            raise Refused("refused 9001")
+        if blocks > self.opening.blocks - len(self.kept):
+            raise Refused("again")
+        return self.keep(given, order, expires)
+
+    def keep(self, taken, order, expires):
+        """Keeps these bytes, if there are any, as the blocks of one message."""
         if not taken:
             return 0
+        payload = self.opening.payload
+        message = Message(self.message, self.end, self.end + (len(taken) - 1) // payload, expires)
         for at in range(0, len(taken), payload):
-            flags = (FIRST if at == 0 else 0) + (LAST if at + payload >= len(taken) else 0) + self.message
-            self.kept[self.end] = flags, taken[at : at + payload]
+            ends = (FIRST if self.end == message.first else 0) + (LAST if self.end == message.last else 0)
+            self.kept[self.end] = ends + order * ORDER + message.number, taken[at : at + payload], message
             self.end += 1
         self.message = self.message % LAST_MESSAGE + 1
         return len(taken)
+
+    def drop(self, now):
+        """The message of the least lost block, where it has expired. None of its blocks is sent any more."""
+        message = self.kept[min(self.lost)][2] if self.lost else None
+        if message is None or now <= message.expires:
+            return None
+        self.lost.difference_update(range(message.first, message.last + 1))
+        self.next = max(self.next, message.last + 1)
+        return message
 
     def choose(self, now):
         """The offset of the block that goes out: the least lost one, or the next one where both windows allow it."""
@@ -182,7 +220,7 @@ class Receiver:
     def __init__(self, opening, path):
         self.opening, self.path = opening, path
         self.base = self.top = self.confirmed = opening.start   # (not read yet; highest that arrived, plus one)
-        self.placed = {}                                        # bytes, by offset
+        self.placed = {}                                        # flags and bytes, by offset; None once consumed
         self.given = 0                                          # bytes of the base's block that were read already
         self.lost = {}                                          # reports, by offset
         self.arrivals, self.pairs = Window(), Window()
@@ -196,14 +234,47 @@ class Receiver:
         """The first bytes that wait, as many as there is room for. A block whose bytes are all read is consumed."""
         given = []
         while room and self.base in self.placed:
-            block = self.placed[self.base]
+            block = self.placed[self.base][1]
             given.append(block[self.given : self.given + room])
             room -= len(given[-1])
             self.given += len(given[-1])
             if self.given == len(block):
-                del self.placed[self.base]
-                self.base, self.given = self.base + 1, 0
+                self.consume([self.base])
         return b"".join(given)
+
+    def consume(self, offsets):
+        """These offsets are done with. The base moves over all that are."""
+        self.placed.update(dict.fromkeys(offsets))
+        while self.base in self.placed and self.placed[self.base] is None:
+            del self.placed[self.base]
+            self.base, self.given = self.base + 1, 0
+
+    def message_at(self, first):
+        """The offsets of the message that is readable from this one on, or none."""
+        flags = self.placed[first][0]
+        waits = flags["order"] and any(offset not in self.placed for offset in range(self.base, first))
+        if not flags["first"] or waits:
+            return range(0)
+        last = first
+        while not self.placed[last][0]["last"]:
+            last += 1
+            if self.placed.get(last) is None or self.placed[last][0]["message"] != flags["message"]:
+                return range(0)
+        return range(first, last + 1)
+
+    def next_message(self):
+        """The offsets of the next message, or none."""
+        live = sorted(offset for offset, block in self.placed.items() if block is not None)
+        return next(filter(None, map(self.message_at, live)), range(0))
+
+    def read_message(self, room):
+        """The bytes of the next message, or none where no message is readable."""
+        offsets = self.next_message()
+        given = b"".join(self.placed[offset][1] for offset in offsets)
+        if len(given) > room:
+            raise Refused("refused 5012")
+        self.consume(offsets)
+        return given
 
     def ack_offset(self):
         """The first offset that has not arrived."""
@@ -227,21 +298,37 @@ class Receiver:
             return "above"
         return "double" if offset in self.placed else "placed"
 
-    def on_block(self, number, block, now):
+    def on_block(self, number, flags, block, now):
         """What becomes of a block; the range that is lost by it, or None; and whether a light ACK is due."""
         self.measure(number, now)
         offset = near(self.opening.isn, self.top, number)
-        outcome, gap = self.placing(offset), None
+        outcome = self.placing(offset)
         if outcome != "placed":
             return outcome, None, False
-        self.placed[offset] = block
-        self.lost.pop(offset, None)
-        if offset > self.top:
-            gap = self.top, offset - 1
-            self.lost.update({lost: Report(now) for lost in range(self.top, offset)})
-        self.top = max(self.top, offset + 1)
+        self.placed[offset] = flags, block
+        gap = self.arrived(offset, offset, now)
         self.fresh = (self.fresh + 1) % LIGHT_ACK_BLOCKS
         return outcome, gap, self.fresh == 0
+
+    def arrived(self, first, last, now):
+        """These offsets are missing no more. The range that is lost by it, or None."""
+        gap = (self.top, first - 1) if first > self.top else None
+        self.lost.update({lost: Report(now) for lost in range(self.top, first)})
+        for offset in range(max(first, self.base), last + 1):
+            self.lost.pop(offset, None)
+        self.top = max(self.top, last + 1)
+        return gap
+
+    def on_drop(self, first, last, now):
+        """Whether a drop request takes offsets, and the range that is lost by it, or None."""
+        first, last = (near(self.opening.isn, self.top, number) for number in (first, last))
+        if first is None or last is None or first > last or last >= PACKETS:
+            return False, None
+        if not self.base <= last < self.base + self.opening.blocks:
+            return False, None
+        gap = self.arrived(first, last, now)
+        self.consume(range(max(first, self.base), last + 1))
+        return True, gap
 
     def on_ack2(self, number, now):
         """Whether an ACK2 answers an ACK that is remembered. It measures the round trip and confirms the offset."""
@@ -309,17 +396,39 @@ class Socket:
 
     # ---- calls
 
+    def check(self, kind):
+        """A socket that carries messages has no calls of a stream, and the other way round."""
+        if kind != self.opening.kind:
+            raise Refused("refused 5010" if kind == "stream" else "refused 5009")
+
     def send(self, given):
         """How many of these bytes are accepted."""
+        self.check("stream")
         if self.phase != "connected":
             raise self.cut_off()
         return self.sender.accept(given)
 
+    def sendmsg(self, ttl, order, given):
+        """How many bytes the message has."""
+        self.check("message")
+        if self.phase != "connected":
+            raise self.cut_off()
+        return self.sender.accept_message(given, order, self.now + ttl)
+
     def recv(self, room):
         """The first bytes that wait."""
+        self.check("stream")
+        return self.received(room, self.receiver.read)
+
+    def recvmsg(self, room):
+        """The next message."""
+        self.check("message")
+        return self.received(room, self.receiver.read_message)
+
+    def received(self, room, read_into):
         if self.phase not in ("connected", "broken"):
             raise self.cut_off()
-        given = self.receiver.read(room)
+        given = read_into(room) if room else b""
         if room and not given:
             raise Refused("again") if self.phase == "connected" else self.cut_off()
         return given
@@ -362,10 +471,14 @@ class Socket:
         if 1000 * self.now < self.sender.due:
             # (rounded up to microseconds)
             return f"notyet {(self.sender.due + 999) // 1000}", []
+        message = self.sender.drop(self.now)
+        if message:
+            ends = self.number_of(message.first), self.number_of(message.last)
+            return "drop", [self.control_packet("drop", message.number, *ends)]
         offset = self.sender.choose(self.now)
         if offset is None:
             return "nothing", []
-        flags, block = self.sender.kept[offset]
+        flags, block, _ = self.sender.kept[offset]
         return "data", [self.packet(self.number_of(offset), flags) + block]
 
     # ---- timers
@@ -426,25 +539,32 @@ class Socket:
         self.heard = self.exp_from = self.now
         self.exp_count = 1
         if kind == "block":
-            return self.take_block(packet["seq"], bytes.fromhex(packet["bytes"]))
+            return self.take_block(packet["seq"], packet["flags"], bytes.fromhex(packet["bytes"]))
         if kind == "ack":
             return self.take_ack(packet["number"], packet["body"])
         if kind == "nak":
             return "nak" if self.sender.on_nak(packet["ranges"]) else "stale", []
         if kind == "ack2":
             return "ack2" if self.receiver.on_ack2(packet["number"], self.now) else "stale", []
+        if kind == "drop":
+            return self.take_drop(packet["first"], packet["last"])
         if kind == "shutdown":
             self.phase, self.cause = "broken", "shutdown"
         return {"keepalive": "alive", "shutdown": "shutdown"}.get(kind, "stale"), []
 
-    def take_block(self, number, block):
+    def take_block(self, number, flags, block):
         """A block is placed or not. A gap is reported at once, and a light ACK follows where it is due."""
         if not 1 <= len(block) <= self.opening.payload:
             return "badlength", []
-        outcome, gap, is_light = self.receiver.on_block(number, block, self.now)
+        outcome, gap, is_light = self.receiver.on_block(number, flags, block, self.now)
         report = [self.nak([gap])] if gap else []
         ack = [self.control_packet("ack", 0, self.number_of(self.receiver.ack_offset()))] if is_light else []
         return outcome, report + ack
+
+    def take_drop(self, first, last):
+        """A drop request takes offsets or not. A gap is reported at once."""
+        taken, gap = self.opening.kind == "message" and self.receiver.on_drop(first, last, self.now) or (False, None)
+        return "dropped" if taken else "stale", [self.nak([gap])] if gap else []
 
     def take_ack(self, number, body):
         """An ACK releases blocks or not. One that isn't light is answered by an ACK2."""

@@ -6,7 +6,7 @@ use std::alloc::Global;
 use std::io;
 use std::rt::Clock;
 use std::time::Instant;
-use udt_rcv_buffer::{Flags, RcvBuffer};
+use udt_rcv_buffer::{Flags, Kind, RcvBuffer};
 use udt_snd_buffer::SndBuffer;
 
 // The bytes of a block.
@@ -79,7 +79,7 @@ fn bench<R: Print + Clock>(rt: &R, alloc: Global, load: Load) -> io::Result<()> 
         report(rt, "block", load, spent.second)?;
         report(rt, "release", load, spent.third)?;
     }
-    if let Ok(mut ring) = RcvBuffer::new(alloc, load.blocks, BLOCK, 0) {
+    if let Ok(mut ring) = RcvBuffer::new(alloc, Kind::Stream, load.blocks, BLOCK, 0) {
         let spent = receive(rt, rounds, &mut ring, IN_ORDER, &from, &mut into)?;
         report(rt, "place", load, spent.first)?;
         report(rt, "read", load, spent.second)?;

@@ -2,18 +2,22 @@
 use Rattle.std.proofs.Common.{◌≡◌, ℕ, List, [], ◌∷◌, Bool, true, false, Option, Some, None, refl}
 use Rattle.std.specs.Prelude.{if◌then◌else◌}
 use Rattle.udt_model.specs.declared.addresses.Addr.{Addr}
+use Rattle.udt_model.specs.declared.answers.Dropped.{Dropped}
+use Rattle.udt_model.specs.declared.answers.Dropped.TheVariants as dropped
 use Rattle.udt_model.specs.declared.answers.Heard.TheVariants as heard
+use Rattle.udt_model.specs.declared.packets.Kind.{Kind}
+use Rattle.udt_model.specs.declared.packets.Kind.TheVariants as kind
 use Rattle.udt_model.specs.declared.answers.Phase.{Phase}
 use Rattle.udt_model.specs.declared.answers.Phase.TheVariants as phase
 use Rattle.udt_model.specs.declared.answers.Placed.{Placed}
 use Rattle.udt_model.specs.declared.answers.Placed.TheVariants as placing
 use Rattle.udt_model.specs.declared.packets.AckBody.{AckBody}
 use Rattle.udt_model.specs.declared.sockets.SentAck.{SentAck}
-use Rattle.udt_model.specs.Arrivals.{heard_of, has_bad_length, count_stale, count_foreign, arrived_so, confirmed_so, is_own, heard_now, acked_so, reported_so, on_own, packet_in}
+use Rattle.udt_model.specs.Arrivals.{heard_of, has_bad_length, count_stale, count_foreign, arrived_so, dropped_so, drop_as, confirmed_so, is_own, heard_now, acked_so, reported_so, on_own, packet_in}
 use Rattle.udt_model.specs.Events.{DidHear, answered}
 use Rattle.udt_model.specs.Losses.{LostRange}
 use Rattle.udt_model.specs.Rate.{Ways}
-use Rattle.udt_model.specs.ReceiveHalf.{after_block, block_answer}
+use Rattle.udt_model.specs.ReceiveHalf.{Receiving, after_block, block_answer, after_drop, drop_answer}
 use Rattle.udt_model.specs.SendReports.{Acking, Acks, IsStale, acking, acked_number, entering}
 use Rattle.udt_model.specs.State.{State}
 use Rattle.udt_model.specs.Timing.{last_under}
@@ -24,6 +28,16 @@ placed-own placing.New is = cc
 placed-own placing.Double is = cc
 placed-own placing.Below is = cc
 placed-own placing.Above is = cc
+
+module _ {C : Type 0} where
+  dropped-own : (s : State C) (receiving : Receiving) (d : Dropped) → (dropped_so s receiving d).reply ≡ DidHear heard.Foreign → ⊥
+  dropped-own s receiving (dropped.Taken gap) is = cc
+  dropped-own s receiving dropped.Stale is = cc
+
+  drop-own : (s : State C) (first last : ℕ) (k : Kind) → (drop_as s first last k).reply ≡ DidHear heard.Foreign → ⊥
+  drop-own s first last kind.Stream is = cc
+  drop-own s first last kind.Message is =
+      dropped-own s (after_drop s.receiving s.last first last) (drop_answer s.receiving first last) is
 
 module _ {C : Type 0} (w : Ways C) where
   acked-own : (s : State C) (number : ℕ) (body : AckBody) (q : Acking) → (acked_so w s number body q).reply ≡ DidHear heard.Foreign → ⊥
@@ -55,7 +69,7 @@ module _ {C : Type 0} (w : Ways C) where
   own-own s (Nak stamp dest ranges) is = reported-own s ranges (entering s.sending ranges) is
   own-own s (Shutdown stamp dest) is = cc
   own-own s (Ack2 number stamp dest) is = confirmed-own s number (last_under number s.receiving.history) is
-  own-own s (DropAsk message stamp dest first last) is = cc
+  own-own s (DropAsk message stamp dest first last) is = drop-own s first last s.kind is
 
   -- what is foreign is counted, and changes nothing else
   pub foreign-counts : (s : State C) (from : Addr) (packet : Packet) (p : Phase) → (packet_in w s from packet p).reply ≡ DidHear heard.Foreign

@@ -3,7 +3,7 @@ use Rattle.std.proofs.Common.{◌≡◌, List, [], ◌∷◌, map, refl}
 use Rattle.udt_model.specs.Calls.{stamp_of, emitted_by_packing}
 use Rattle.udt_model.specs.Losses.{LostRange}
 use Rattle.udt_model.specs.Rate.{Ways}
-use Rattle.udt_model.specs.SendHalf.{Packing, Waits, Retransmits, Sends, Idles, packet_of}
+use Rattle.udt_model.specs.SendHalf.{Packing, Waits, Retransmits, Drops, Sends, Idles, packet_of}
 use Rattle.udt_model.specs.State.{State, Emission}
 use Rattle.udt_model.specs.Ticks.{nak_of}
 use Rattle.udt_core.specs.Emitted.{datagrams_to, nak_where_any}
@@ -20,5 +20,6 @@ module _ {C : Type 0} (s : State C) where
       → map (λ (e : Emission). e.datagram) (emitted_by_packing w s p) ≡ datagrams_to s.peer.addr (packet_of s.sending (stamp_of s) s.peer.id p)
   packing-datagrams w (Waits until) = refl
   packing-datagrams w (Retransmits offset block) = refl
+  packing-datagrams w (Drops message) = refl
   packing-datagrams w (Sends block) = refl
   packing-datagrams w Idles = refl

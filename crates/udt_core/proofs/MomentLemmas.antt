@@ -15,7 +15,8 @@ use Rattle.udt_model.specs.Moments.{IsIdle, IsFirst, IsNextMoment, sooner, not_b
 use Rattle.udt_model.specs.Rate.{Ways}
 use Rattle.udt_model.specs.ReceiveHalf.{Receiving}
 use Rattle.udt_model.specs.ReceiveReports.{AckOutcome, IsEarly, IsKnown, EmitsAck, ack_offset, is_just_acked, number_after, ack_outcome, after_ack_outcome, after_ack_timer, nak_report, after_nak_timer}
-use Rattle.udt_model.specs.SendHalf.{Sending, Packing, Waits, Retransmits, Sends, Idles, due_moment, leaves_next, packing, moment_of, pack_moment}
+use Rattle.udt_model.specs.SendBlocks.{KeptBlock, kept_at}
+use Rattle.udt_model.specs.SendHalf.{Sending, Packing, Waits, Retransmits, Drops, Sends, Idles, has_passed, retransmits, due_moment, leaves_next, packing, moment_of, pack_moment}
 use Rattle.udt_model.specs.SendReports.{has_unacknowledged}
 use Rattle.udt_model.specs.State.{State, Emission}
 use Rattle.udt_model.specs.Step.{step}
@@ -200,28 +201,47 @@ module _ {C : Type 0} (w : Ways C) where
       let early_now : 1000 * now < s.due = omega (arith, before) in
       rw (lt-ltb (1000 * now) s.due early_now) refl
 
-  leaves : (s : Sending C) (now : ℕ) → due_moment w s ≤ now → packing w s now ≡ leaves_next w s s.lost
+  leaves : (s : Sending C) (now : ℕ) → due_moment w s ≤ now → packing w s now ≡ leaves_next w s now s.lost
   unfolding packing
   leaves s now due =
       let due_now : s.due ≤ 1000 * now = omega (arith, due) in
       rw (le-ltb (1000 * now) s.due due_now) refl
 
+  -- whether something leaves next is the same at any moment
+  alike-by : (offset : ℕ) (block : KeptBlock) (one two : Bool) (moment : ℕ)
+      → moment_of w (if one then Drops block.message else Retransmits offset block) moment ≡ moment_of w (if two then Drops block.message else Retransmits offset block) moment
+  alike-by offset block true true moment = refl
+  alike-by offset block true false moment = refl
+  alike-by offset block false true moment = refl
+  alike-by offset block false false moment = refl
+
+  retransmits-alike : (now other offset : ℕ) (found : Option KeptBlock) (moment : ℕ) → moment_of w (retransmits w now offset found) moment ≡ moment_of w (retransmits w other offset found) moment
+  retransmits-alike now other offset None moment = refl
+  retransmits-alike now other offset (Some block) moment = alike-by offset block (has_passed now block.message.expires) (has_passed other block.message.expires) moment
+
+  next-alike : (s : Sending C) (now other : ℕ) (lost : List ℕ) (moment : ℕ) → moment_of w (leaves_next w s now lost) moment ≡ moment_of w (leaves_next w s other lost) moment
+  next-alike s now other [] moment = refl
+  next-alike s now other (offset ∷ others) moment = retransmits-alike now other offset (kept_at s.blocks offset) moment
+
   -- what packing emits where nothing leaves next
   nothing_leaves : (s : State C) (q : Packing) (moment : ℕ) → moment_of w q moment ≡ None → emitted_by_packing w s q ≡ []
   nothing_leaves s (Waits until) moment none = refl
   nothing_leaves s (Retransmits offset block) moment none = absurd (cc)
+  nothing_leaves s (Drops message) moment none = absurd (cc)
   nothing_leaves s (Sends block) moment none = absurd (cc)
   nothing_leaves s Idles moment none = refl
 
   some_leaves : (s : State C) (q : Packing) (moment t : ℕ) → moment_of w q moment ≡ Some t → emitted_by_packing w s q ≡ [] → ⊥
   some_leaves s (Waits until) moment t some none = cc
   some_leaves s (Retransmits offset block) moment t some none = cc
+  some_leaves s (Drops message) moment t some none = cc
   some_leaves s (Sends block) moment t some none = cc
   some_leaves s Idles moment t some none = cc
 
   some_moment : (q : Packing) (moment t : ℕ) → moment_of w q moment ≡ Some t → moment ≡ t
   some_moment (Waits until) moment t some = absurd (cc)
   some_moment (Retransmits offset block) moment t some = cc
+  some_moment (Drops message) moment t some = cc
   some_moment (Sends block) moment t some = cc
   some_moment Idles moment t some = absurd (cc)
 
@@ -230,7 +250,7 @@ module _ {C : Type 0} (w : Ways C) where
       → emitted_by_packing w s (packing w s.sending s.last) ≡ []
   unfolding pack_moment
   idle-pack s last m after now before =
-      let next = leaves_next w s.sending s.sending.lost in
+      let next = leaves_next w s.sending s.last s.sending.lost in
       let due = due_moment w s.sending in
       elim (cases_lt s.last due) [
         | inl early_now ↦ rw (waits s.sending s.last early_now) refl
@@ -240,7 +260,8 @@ module _ {C : Type 0} (w : Ways C) where
               | None ↦ λ none. nothing_leaves s next due none
               | Some t ↦ λ some.
                   let is : due ≡ t = some_moment next due t some in
-                  let moment : not_before_any last (moment_of w next due) ≡ not_before last t = ap (λ (found : Option ℕ). not_before_any last found) some in
+                  let moment : not_before_any last (pack_moment w s.sending) ≡ not_before last t =
+                  ap (λ (found : Option ℕ). not_before_any last found) (next-alike s.sending due s.last s.sending.lost due ∙ some) in
                   absurd (omega (arith, early last t m after (λ u there. before u (moment ∙ there)), is, due_now, now))
             ] refl)
       ]
@@ -248,9 +269,11 @@ module _ {C : Type 0} (w : Ways C) where
   pack-emits : (s : State C) (t : ℕ) → pack_moment w s.sending ≡ Some t → t ≤ s.last → emitted_by_packing w s (packing w s.sending s.last) ≡ [] → ⊥
   unfolding pack_moment
   pack-emits s t some due none =
-      let next = leaves_next w s.sending s.sending.lost in
-      let is = some_moment next (due_moment w s.sending) t some in
-      some_leaves s next (due_moment w s.sending) t some
+      let due_at = due_moment w s.sending in
+      let next = leaves_next w s.sending s.last s.sending.lost in
+      let now : moment_of w next due_at ≡ Some t = next-alike s.sending s.last due_at s.sending.lost due_at ∙ some in
+      let is = some_moment next due_at t now in
+      some_leaves s next due_at t now
       (ap (λ (q : Packing). emitted_by_packing w s q) (sym (leaves s.sending s.last (omega (arith, is, due)))) ∙ none)
 
   -- ---- both

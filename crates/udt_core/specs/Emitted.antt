@@ -21,10 +21,10 @@ datagrams_to addr (Some packet) = datagram_to addr packet ∷ []
 abbrev pub datagrams_of : List Emission → List Datagram
 datagrams_of emissions = map (λ emission. emission.datagram) emissions
 
--- what packing wrote down, where it wrote down a block
+-- what packing wrote down, where it wrote down a packet
 abbrev pub written_by : Packed → Datagram → List Datagram
 written_by (packed.Block size) datagram = datagram ∷ []
-written_by (packed.DropAsk size) datagram = []
+written_by (packed.DropAsk size) datagram = datagram ∷ []
 written_by (packed.NotYet until) datagram = []
 written_by packed.Nothing datagram = []
 

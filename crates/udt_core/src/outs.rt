@@ -96,7 +96,7 @@ impl Outs {
         self.used += 1;
     }
 
-    /// Has the sending half pack, and adds the datagram to its peer, where a block leaves.
+    /// Has the sending half pack, and adds the datagram to its peer, where a packet leaves.
     pub(crate) fn emit_block<C: Control>(
         &mut self,
         sender: &mut Sender<C>,
@@ -115,7 +115,7 @@ impl Outs {
         ensures blocks { sender.new.blocks ≡ sender.old.blocks }
     {
         let packed = self.slots[self.used].write_block(sender, now, stamp, peer);
-        if let Packed::Block(_) = packed {
+        if let Packed::Block(_) | Packed::DropAsk(_) = packed {
             self.used += 1;
         }
         packed

@@ -1,7 +1,6 @@
 // The socket: two halves and what they share.
 
 ghost use Rattle.std.specs.Prelude.{◌≡◌, ◌<◌, ◌≤◌, ◌^◌, IfOk, IsErrOf, IsTrue, ◌↔◌};
-ghost use Rattle.udt_model.specs.declared.packets.Kind.TheVariants.{Stream};
 ghost use Rattle.udt_model.specs.Calls.{stamp_of};
 ghost use Rattle.udt_model.specs.Events.{at_moment};
 ghost use Rattle.udt_model.specs.Opening.{opening, CanOpen};
@@ -33,7 +32,7 @@ pub enum OpenNo {
 /// One end of a connection, as a machine of events. Contracts see it as the state of the protocol's
 /// definitions, and each event as its step.
 ///
-/// The application calls `send`, `recv`, `perf` and `close`. What owns the port gives each datagram
+/// The application calls `send`, `recv`, or `send_message`, `recv_message`, and `perf` and `close`. What owns the port gives each datagram
 /// that came for this socket to `arrive`, and calls `tick` for what time gives and `pack` to have
 /// the next datagram; `next_moment` says when. Each event carries its moment in microseconds: one
 /// before the last counts as the last, and one at or past 2^53 as 2^53 - 1. `count`, `bits` and
@@ -80,7 +79,6 @@ impl<C: Control + Drop> Socket<C> {
         peer: Peer,
         now: u64,
     ) -> Result<Socket<C>, OpenNo>
-        requires stream { config.kind ≡ Stream }
         requires number { peer.isn < 2 ^ 31 }
         ensures ok { IfOk result (λ socket. socket ≡ opening C.ways own config peer now 0) }
         ensures refused { IsErrOf result OpenNo.BadParameter ↔ ¬ (CanOpen config peer 0) }
@@ -97,7 +95,6 @@ impl<C: Control + Drop> Socket<C> {
         now: u64,
         start: u64,
     ) -> Result<Socket<C>, OpenNo>
-        requires stream { config.kind ≡ Stream }
         requires number { peer.isn < 2 ^ 31 }
         ensures ok { IfOk result (λ socket. socket ≡ opening C.ways own config peer now start) }
         ensures refused { IsErrOf result OpenNo.BadParameter ↔ ¬ (CanOpen config peer start) }

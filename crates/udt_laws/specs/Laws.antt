@@ -1,18 +1,18 @@
 -- The main theorems, as statements about histories and records, over any rate control.
-use Rattle.std.specs.Prelude.{◌≡◌, ℕ, ◌+◌, ◌-◌, ◌%◌, ◌^◌, ◌<◌, ◌≤◌, List, [], ◌∷◌, drop, length, map, Some, Ok, slice_get, true, false, ◌||◌}
+use Rattle.std.specs.Prelude.{◌≡◌, ℕ, ◌+◌, ◌-◌, ◌%◌, ◌^◌, ◌<◌, ◌≤◌, List, [], ◌∷◌, ◌++◌, drop, length, map, Some, Ok, slice_get, true, false}
 use Rattle.std.specs.List.{Contains, concat}
 use Rattle.udt_model.specs.declared.packets.Flags.{Flags}
-use Rattle.udt_model.specs.declared.packets.Kind.TheVariants.{Stream}
+use Rattle.udt_model.specs.declared.packets.Kind.TheVariants.{Stream, Message}
 use Rattle.udt_model.specs.declared.addresses.Addr.{Addr}
 use Rattle.udt_model.specs.Emissions.{IsPrefix, emitted, sent, arrivals, IsMadeOf}
-use Rattle.udt_model.specs.History.{History, IsLegal, state_of, start_of, accepted, delivered, acked, arrived}
+use Rattle.udt_model.specs.History.{AskedMessage, ShownMessage, History, IsLegal, state_of, start_of, accepted, delivered, acked, arrived, asked, shown, placed_offsets, dropped_offsets}
 use Rattle.udt_model.specs.Honest.{IsHonest}
 use Rattle.udt_model.specs.Lines.{AreEmitted}
 use Rattle.udt_model.specs.Network.{ScriptSocket}
 use Rattle.udt_model.specs.Numbers.{sequence_number}
 use Rattle.udt_model.specs.Rate.{Ways}
 use Rattle.udt_model.specs.Records.{Enrolled, IsSocket, EndpointRecord, StandsAt, PeerPair, own_peer, ArePaired, AreLawful}
-use Rattle.udt_model.specs.Script.{network_after}
+use Rattle.udt_model.specs.Script.{size_of, network_after}
 use Rattle.udt_model.specs.SendBlocks.{KeptBlock}
 use Rattle.udt_model.specs.State.{Datagram, Emission}
 use Rattle.udt_model.specs.Wire.{Packet, Block, is_handshake, destination, read, target}
@@ -21,6 +21,10 @@ module _ {C : Type 0} where
   -- the socket carries a stream of bytes
   abbrev pub IsStream : History C → Type 0
   IsStream h = h.opening.kind ≡ Stream
+
+  -- the socket carries messages
+  abbrev pub CarriesMessages : History C → Type 0
+  CarriesMessages h = h.opening.kind ≡ Message
 
   -- a datagram has the bytes of one that the socket emitted
   abbrev pub WasSentBy : Enrolled C → Datagram → Type 0
@@ -126,23 +130,77 @@ module _ {C : Type 0} (w : Ways C) where
       → ComesFrom socket peer_addr other → length (sent socket.history) < 2 ^ 30
       → acked w socket.history ≤ arrived w other.history
 
-  -- Pair honest: the records of two sockets that were made as a pair, of which each got from the other alone, and that
+  -- Pair honest: the records of two stream sockets that were made as a pair, of which each got from the other alone, and that
   -- emitted fewer than 2^30 datagrams each, are lawful and honest
   abbrev pub PairHonest : Type 0
   PairHonest =
       (addr other_addr : Addr) (socket other : Enrolled C) → (addr ≡ other_addr → ⊥) → IsSocket w socket → IsSocket w other
       → ArePaired addr socket.own socket.way other_addr other.own other.way
-      → AllComesFrom socket other_addr other → AllComesFrom other addr socket
+      → IsStream socket.history → AllComesFrom socket other_addr other → AllComesFrom other addr socket
       → length (sent socket.history) < 2 ^ 30 → length (sent other.history) < 2 ^ 30
       → AreLawful w (both_records addr socket other_addr other) × IsHonest w (both_records addr socket other_addr other)
 
-  -- Script prefix: whatever the lines of a script deliver, lose, repeat and reorder, the same holds of each socket of it and
-  -- its own peer, where no line gives bytes of its own
+  -- Script prefix: whatever the lines of a script deliver, lose, repeat and reorder, the same holds of each stream socket of
+  -- it and its own peer, where no line gives bytes of its own
   abbrev pub ScriptPrefix : Type 0
   ScriptPrefix =
       (lines : List (List ℕ)) (place peer_place : ℕ) (script_socket peer : ScriptSocket C)
       → length lines < 2 ^ 30 → AreEmitted lines
       → slice_get (network_after w lines).sockets place ≡ Some script_socket
       → slice_get (network_after w lines).sockets peer_place ≡ Some peer
+      → IsStream script_socket.history
       → own_peer w script_socket.history ≡ Some (record { addr = peer.host; id = peer_place + 1 })
       → AreInStep script_socket.history peer.history
+
+  -- ---- messages
+
+  -- a message that was shown was asked: one was accepted whose first offset is that of the shown one, and each that was has
+  -- its bytes
+  pub record WasAsked (other : History C) (message : ShownMessage) : Type 0 where
+    pub asked_one : AskedMessage
+    pub among : Contains (asked w other) asked_one
+    pub at : asked_one.first ≡ message.first
+    pub same : (another : AskedMessage) → Contains (asked w other) another → another.first ≡ message.first
+        → another.bytes ≡ message.bytes
+
+  -- the message that was asked at this offset must be delivered in order
+  pub record IsOrdered (other : History C) (first : ℕ) : Type 0 where
+    pub asked_one : AskedMessage
+    pub among : Contains (asked w other) asked_one
+    pub at : asked_one.first ≡ first
+    pub ordered : asked_one.order ≡ true
+
+  -- what is promised of a message socket's history and that of its own peer: each message that the one showed is one that
+  -- the other was asked to send, whole, so one that is dropped is shown whole or not at all; none is shown twice; those that
+  -- must be delivered in order are shown in order; and what is acknowledged of the other was placed at the one, or taken by
+  -- a message drop request
+  pub record ShowsMessages (own other : History C) : Type 0 where
+    pub whole : (message : ShownMessage) → Contains (shown w own) message → WasAsked other message
+    pub once : (m n : ℕ) (one another : ShownMessage) → slice_get (shown w own) m ≡ Some one
+        → slice_get (shown w own) n ≡ Some another → one.first ≡ another.first → m ≡ n
+    pub in_order : (m n : ℕ) (one another : ShownMessage) → m < n → slice_get (shown w own) m ≡ Some one
+        → slice_get (shown w own) n ≡ Some another → IsOrdered other one.first → IsOrdered other another.first
+        → one.first < another.first
+    pub acknowledged : (offset : ℕ) → start_of other ≤ offset → offset < start_of other + acked w other
+        → Contains (placed_offsets w own ++ dropped_offsets w own) offset
+
+  -- Messages: where records are lawful and honest, this holds of each message socket and its own peer
+  abbrev pub Messages : Type 0
+  Messages =
+      (net : List (EndpointRecord C)) (addr : Addr) (socket other : Enrolled C) (peer : PeerPair)
+      → AreLawful w net → IsHonest w net
+      → StandsAt net addr socket → CarriesMessages socket.history → own_peer w socket.history ≡ Some peer
+      → StandsAt net peer.addr other → other.own ≡ peer.id
+      → ShowsMessages socket.history other.history
+
+  -- Script messages: whatever the lines of a script deliver, lose, repeat and reorder, the same holds of each message socket
+  -- of it and its own peer, where no line gives bytes of its own
+  abbrev pub ScriptMessages : Type 0
+  ScriptMessages =
+      (lines : List (List ℕ)) (place peer_place : ℕ) (script_socket peer : ScriptSocket C)
+      → size_of lines < 2 ^ 30 → AreEmitted lines
+      → slice_get (network_after w lines).sockets place ≡ Some script_socket
+      → slice_get (network_after w lines).sockets peer_place ≡ Some peer
+      → CarriesMessages script_socket.history
+      → own_peer w script_socket.history ≡ Some (record { addr = peer.host; id = peer_place + 1 })
+      → ShowsMessages script_socket.history peer.history

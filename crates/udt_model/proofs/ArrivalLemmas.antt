@@ -1,5 +1,5 @@
--- What an arrival may do: either it passes by, or it is an arrival from the peer, which may carry a block, an ACK, a NAK, an
--- ACK2 or the end.
+-- What an arrival may do: either it passes by, or it is an arrival from the peer, which may carry a block, a message drop
+-- request, an ACK, a NAK, an ACK2 or the end.
 use Rattle.std.proofs.Common.{◌≡◌, ℕ, true, false, List, [], ◌∷◌, ◌++◌, Ok, Err, refl, subst}
 use Rattle.std.specs.Prelude.{Result, Option, Some, None, ◌==◌, if◌then◌else◌}
 use Rattle.std.proofs.lemmas.Bool.{and_parts, eqb-true}
@@ -12,15 +12,17 @@ use Rattle.udt_model.specs.declared.answers.Phase.{Phase}
 use Rattle.udt_model.specs.declared.answers.Phase.TheVariants as phase
 use Rattle.udt_model.specs.declared.packets.AckBody.{AckBody}
 use Rattle.udt_model.specs.declared.packets.Flags.{Flags}
+use Rattle.udt_model.specs.declared.packets.Kind.{Kind}
+use Rattle.udt_model.specs.declared.packets.Kind.TheVariants as kind
 use Rattle.udt_model.specs.declared.packets.Malformed.{Malformed}
 use Rattle.udt_model.specs.declared.sockets.Counters.{Counters}
 use Rattle.udt_model.specs.declared.sockets.SentAck.{SentAck}
 use Rattle.udt_model.specs.Addresses.{same_addr}
-use Rattle.udt_model.specs.Arrivals.{count_stale, count_control, count_foreign, has_bad_length, heard_now, emitted_by_ack2, acked_so, reported_so, confirmed_so, arrived_so, on_control, on_block, on_own, on_connected, is_own, packet_in, on_read}
+use Rattle.udt_model.specs.Arrivals.{count_stale, count_control, count_foreign, has_bad_length, heard_now, emitted_by_gap, emitted_by_ack2, acked_so, reported_so, confirmed_so, arrived_so, dropped_so, drop_as, on_control, on_block, on_own, on_connected, is_own, packet_in, on_read}
 use Rattle.udt_model.specs.Events.{Outcome, answered, DidHear}
 use Rattle.udt_model.specs.Losses.{LostRange}
 use Rattle.udt_model.specs.Rate.{Ways}
-use Rattle.udt_model.specs.ReceiveHalf.{block_answer, after_block}
+use Rattle.udt_model.specs.ReceiveHalf.{block_answer, after_block, gap_before, drop_range, with_taken, after_taking, taken_as, after_drop, drop_answer}
 use Rattle.udt_model.specs.ReceiveReports.{after_ack2, round_trip_to}
 use Rattle.udt_model.specs.SendReports.{Acking, Acks, IsStale, acking, acked_number, after_ack, round_trip_after, entering, after_nak}
 use Rattle.udt_model.specs.State.{State}
@@ -43,6 +45,14 @@ module _ {C : Type 0} (w : Ways C) where
         → P (arrived_so
         (record (heard_now s) { receiving = after_block s.receiving s.last number flags bytes })
         (block_answer s.receiving number))
+    -- it asks to drop a message, of which it takes these offsets
+    pub dropped : (message stamp first last : ℕ) (range : LostRange) → s.phase ≡ phase.Connected → from ≡ s.peer.addr
+        → result ≡ Ok (DropAsk message stamp s.own first last) → s.kind ≡ kind.Message
+        → drop_range s.receiving first last ≡ Some range
+        → P (on_control
+        (record (heard_now s) { receiving = with_taken s.receiving s.last range })
+        heard.Dropped
+        (emitted_by_gap (heard_now s) (gap_before s.receiving.top range.first)))
     -- it acknowledges all before an offset
     pub acknowledged : (number stamp : ℕ) (body : AckBody) (offset : ℕ) → s.phase ≡ phase.Connected → from ≡ s.peer.addr
         → result ≡ Ok (Ack number stamp s.own body) → acking s.sending (acked_number body) ≡ Acks offset
@@ -80,6 +90,23 @@ module _ {C : Type 0} (w : Ways C) where
           | false ↦ cases.brought number flags stamp bytes connected sender carries
         ]
 
+    range-shows : (message stamp dest first last : ℕ) (found : Option LostRange) → from ≡ s.peer.addr → dest ≡ s.own
+        → result ≡ Ok (DropAsk message stamp dest first last) → s.kind ≡ kind.Message → drop_range s.receiving first last ≡ found
+        → P (dropped_so (heard_now s) (after_taking s.receiving s.last found) (taken_as s.receiving found))
+    range-shows message stamp dest first last None sender own is messages found =
+        cases.noticed (count_stale s.counters) heard.Stale (λ same. cc) connected
+    range-shows message stamp dest first last (Some range) sender own is messages found =
+        let asks = subst (λ (id : ℕ). result ≡ Ok (DropAsk message stamp id first last)) own is in
+        cases.dropped message stamp first last range connected sender asks messages found
+
+    drop-shows : (message stamp dest first last : ℕ) (k : Kind) → from ≡ s.peer.addr → dest ≡ s.own
+        → result ≡ Ok (DropAsk message stamp dest first last) → s.kind ≡ k → P (drop_as (heard_now s) first last k)
+    unfolding after_drop drop_answer
+    drop-shows message stamp dest first last kind.Stream sender own is carries =
+        cases.noticed (count_stale s.counters) heard.Stale (λ same. cc) connected
+    drop-shows message stamp dest first last kind.Message sender own is carries =
+        range-shows message stamp dest first last (drop_range s.receiving first last) sender own is carries refl
+
     ack-shows : (number stamp dest : ℕ) (body : AckBody) (a : Acking) → from ≡ s.peer.addr → dest ≡ s.own
         → result ≡ Ok (Ack number stamp dest body) → acking s.sending (acked_number body) ≡ a → P (acked_so w (heard_now s) number body a)
     ack-shows number stamp dest body (Acks offset) sender own is acks =
@@ -111,7 +138,9 @@ module _ {C : Type 0} (w : Ways C) where
         nak-shows stamp dest ranges (entering s.sending ranges) (same_addr-is from s.peer.addr parts.0) (eqb-true dest s.own parts.1) is
     own-shows (Shutdown stamp dest) is own = cases.ended connected
     own-shows (Ack2 number stamp dest) is own = ack2-shows number (last_under number s.receiving.history) refl
-    own-shows (DropAsk message stamp dest first last) is own = cases.noticed (count_stale s.counters) heard.Stale (λ same. cc) connected
+    own-shows (DropAsk message stamp dest first last) is own =
+        let parts = and_parts (same_addr from s.peer.addr) (dest == s.own) own in
+        drop-shows message stamp dest first last s.kind (same_addr-is from s.peer.addr parts.0) (eqb-true dest s.own parts.1) is refl
 
     connected-shows : (packet : Packet) → result ≡ Ok packet → P (on_connected w s from packet)
     connected-shows packet is =

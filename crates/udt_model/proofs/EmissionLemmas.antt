@@ -1,4 +1,4 @@
--- What a socket emits: blocks, ACKs, NAKs, ACK2s, keep-alives and a shutdown, each at a moment of its history.
+-- What a socket emits: blocks, message drop requests, ACKs, NAKs, ACK2s, keep-alives and a shutdown, each at a moment of its history.
 use Rattle.std.proofs.Common.{◌≡◌, ℕ, true, false, List, [], ◌∷◌, ◌++◌, Ok, refl, ap, sym, subst, inl, inr, arith}
 use Rattle.std.specs.Prelude.{Bool, Option, Some, None, Result, map}
 use Rattle.std.specs.List.{Contains, concat}
@@ -10,35 +10,39 @@ use Rattle.udt_model.specs.declared.answers.Phase.TheVariants as phase
 use Rattle.udt_model.specs.declared.packets.AckBody.{AckBody}
 use Rattle.udt_model.specs.declared.packets.AckBody.TheVariants.{Light, Buffer, Full}
 use Rattle.udt_model.specs.declared.packets.Flags.{Flags}
+use Rattle.udt_model.specs.declared.packets.Kind.{Kind}
+use Rattle.udt_model.specs.declared.packets.Kind.TheVariants as kind
 use Rattle.udt_model.specs.declared.packets.Malformed.{Malformed}
 use Rattle.udt_model.specs.declared.sockets.ExpOutcome.{ExpOutcome}
 use Rattle.udt_model.specs.declared.sockets.ExpOutcome.TheVariants as exp
 use Rattle.udt_model.specs.declared.sockets.SentAck.{SentAck}
 use Rattle.udt_model.specs.Arrivals.{heard_now, heard_of, emitted_by_gap, emitted_by_light, emitted_by_ack2, on_read}
-use Rattle.udt_model.specs.Calls.{stamp_of, emission as emits, block_emission, send_in, recv_in, packed_so, pack_in, emitted_by_packing}
+use Rattle.udt_model.specs.Calls.{stamp_of, emission as emits, block_emission, drop_emission, send_in, send_as, recv_in, recv_as, send_message_in, send_message_as, recv_message_in, recv_message_as, packed_so, pack_in, emitted_by_packing}
 use Rattle.udt_model.specs.Emissions.{emitted_by}
-use Rattle.udt_model.specs.Events.{Act, Send, Recv, Pack, Tick, Close, Measure, Arrive, Event, Reply, DidHear, Outcome, at_moment}
+use Rattle.udt_model.specs.Events.{Act, Send, Recv, SendMessage, RecvMessage, Pack, Tick, Close, Measure, Arrive, Event, Reply, DidHear, Outcome, at_moment}
 use Rattle.udt_model.specs.History.{Item, after_items}
 use Rattle.udt_model.specs.Losses.{LostRange}
 use Rattle.udt_model.specs.Rate.{Ways}
-use Rattle.udt_model.specs.ReceiveHalf.{block_answer, after_block}
+use Rattle.udt_model.specs.ReceiveHalf.{block_answer, after_block, gap_before, drop_range}
 use Rattle.udt_model.specs.ReceiveReports.{AckOutcome, IsEarly, IsKnown, EmitsAck, ack_outcome, full_ack, light_ack, ack_offset, nak_report}
-use Rattle.udt_model.specs.SendBlocks.{KeptBlock}
-use Rattle.udt_model.specs.SendHalf.{Packing, Waits, Retransmits, Sends, Idles, packing}
+use Rattle.udt_model.specs.SendBlocks.{Message, KeptBlock}
+use Rattle.udt_model.specs.SendHalf.{Packing, Waits, Retransmits, Drops, Sends, Idles, packing}
 use Rattle.udt_model.specs.State.{State, Datagram, Emission}
 use Rattle.udt_model.specs.Step.{on_act, step}
 use Rattle.udt_model.specs.Ticks.{emitted_by_ack, numbers_of, ends_of, nak_of, emitted_by_reports, exp_outcome, emitted_by_exp, tick_in}
-use Rattle.udt_model.specs.Wire.{Packet, Block, KeepAlive, Ack, Nak, Shutdown, Ack2, read}
+use Rattle.udt_model.specs.Wire.{Packet, Block, KeepAlive, Ack, Nak, Shutdown, Ack2, DropAsk, read}
 use Rattle.udt_model.proofs.ArrivalLemmas.{arrival-shows}
 
 module _ {C : Type 0} (w : Ways C) where
-  -- what a socket in this state emits: a new block, a lost one again, a full or a light ACK, a NAK of what is due or of a gap, an
-  -- ACK2, a keep-alive, or the end
+  -- what a socket in this state emits: a new block, a lost one again, a message drop request, a full or a light ACK, a NAK of
+  -- what is due or of a gap, an ACK2, a keep-alive, or the end
   pub data Emitting (s : State C) (act : Act) (reply : Reply) (emission : Emission) : Type 0 where
     NewBlock : (block : KeptBlock) → s.phase ≡ phase.Connected → packing w s.sending s.last ≡ Sends block
         → emission ≡ block_emission s s.sending.next block → Emitting s act reply emission
     LostBlock : (offset : ℕ) → (block : KeptBlock) → s.phase ≡ phase.Connected → packing w s.sending s.last ≡ Retransmits offset block
         → emission ≡ block_emission s offset block → Emitting s act reply emission
+    DropRequest : (message : Message) → s.phase ≡ phase.Connected → packing w s.sending s.last ≡ Drops message
+        → emission ≡ drop_emission s message → Emitting s act reply emission
     FullAck : (ack : SentAck) → s.phase ≡ phase.Connected → ack_outcome s.receiving s.last s.rtt ≡ EmitsAck ack
         → emission ≡ emits s (Ack ack.number (stamp_of s) s.peer.id (full_ack s.receiving s.rtt ack.offset)) (ack.offset ∷ [])
         → Emitting s act reply emission
@@ -61,6 +65,14 @@ module _ {C : Type 0} (w : Ways C) where
         → emission ≡ emits s
         (Nak (stamp_of s) s.peer.id
         (numbers_of (record s { receiving = after_block s.receiving s.last number flags bytes }) (record { first = ends.0; last = ends.1 }) ∷ []))
+        (ends.0 ∷ ends.1 ∷ [])
+        → Emitting s act reply emission
+    ReportsDropGap : (from : Addr) → (raw : List ℕ) → (message stamp first last : ℕ) → (range : LostRange) → (ends : ℕ × ℕ)
+        → s.phase ≡ phase.Connected → act ≡ Arrive from raw → read raw ≡ Ok (DropAsk message stamp s.own first last)
+        → from ≡ s.peer.addr → s.kind ≡ kind.Message → drop_range s.receiving first last ≡ Some range
+        → gap_before s.receiving.top range.first ≡ Some ends
+        → emission ≡ emits s
+        (Nak (stamp_of s) s.peer.id (numbers_of s (record { first = ends.0; last = ends.1 }) ∷ []))
         (ends.0 ∷ ends.1 ∷ [])
         → Emitting s act reply emission
     AnswersAck : (number : ℕ) → s.phase ≡ phase.Connected → emission ≡ emits s (Ack2 number (stamp_of s) s.peer.id) []
@@ -94,6 +106,7 @@ module _ {C : Type 0} (w : Ways C) where
     packed-emitting : (p : Packing) → s.phase ≡ phase.Connected → packing w s.sending s.last ≡ p → AllEmitting s act reply (emitted_by_packing w s p)
     packed-emitting (Waits until) connected is = none-emitting
     packed-emitting (Retransmits offset block) connected is = one-emitting _ (λ emission same. LostBlock offset block connected is same)
+    packed-emitting (Drops message) connected is = one-emitting _ (λ emission same. DropRequest message connected is same)
     packed-emitting (Sends block) connected is = one-emitting _ (λ emission same. NewBlock block connected is same)
     packed-emitting Idles connected is = none-emitting
 
@@ -141,6 +154,36 @@ module _ {C : Type 0} (w : Ways C) where
     recv-emitting room phase.Closing = none-emitting
     recv-emitting room phase.Closed = none-emitting
 
+    send_as-emitting : (bytes : List ℕ) (k : Kind) → AllEmitting s act reply (send_as s bytes k).emissions
+    send_as-emitting bytes kind.Stream = send-emitting bytes s.phase
+    send_as-emitting bytes kind.Message = none-emitting
+
+    recv_as-emitting : (room : ℕ) (k : Kind) → AllEmitting s act reply (recv_as s room k).emissions
+    recv_as-emitting room kind.Stream = recv-emitting room s.phase
+    recv_as-emitting room kind.Message = none-emitting
+
+    send_message-emitting : (ttl : Option ℕ) (order : Bool) (bytes : List ℕ) (phase : Phase)
+        → AllEmitting s act reply (send_message_in s ttl order bytes phase).emissions
+    send_message-emitting ttl order bytes phase.Connected = none-emitting
+    send_message-emitting ttl order bytes (phase.Broken why) = none-emitting
+    send_message-emitting ttl order bytes phase.Closing = none-emitting
+    send_message-emitting ttl order bytes phase.Closed = none-emitting
+
+    send_message_as-emitting : (ttl : Option ℕ) (order : Bool) (bytes : List ℕ) (k : Kind)
+        → AllEmitting s act reply (send_message_as s ttl order bytes k).emissions
+    send_message_as-emitting ttl order bytes kind.Stream = none-emitting
+    send_message_as-emitting ttl order bytes kind.Message = send_message-emitting ttl order bytes s.phase
+
+    recv_message-emitting : (room : ℕ) (phase : Phase) → AllEmitting s act reply (recv_message_in s room phase).emissions
+    recv_message-emitting room phase.Connected = none-emitting
+    recv_message-emitting room (phase.Broken why) = none-emitting
+    recv_message-emitting room phase.Closing = none-emitting
+    recv_message-emitting room phase.Closed = none-emitting
+
+    recv_message_as-emitting : (room : ℕ) (k : Kind) → AllEmitting s act reply (recv_message_as s room k).emissions
+    recv_message_as-emitting room kind.Stream = none-emitting
+    recv_message_as-emitting room kind.Message = recv_message-emitting room s.phase
+
     ack2-emitting : (number : ℕ) (body : AckBody) → s.phase ≡ phase.Connected → AllEmitting s act reply (emitted_by_ack2 (heard_now s) number body)
     ack2-emitting number (Light ack) connected = none-emitting
     ack2-emitting number (Buffer ack rtt var buffer) connected = one-emitting _ (λ emission same. AnswersAck number connected same)
@@ -166,6 +209,15 @@ module _ {C : Type 0} (w : Ways C) where
     light-emitting number flags stamp bytes reply true connected carries sender is =
         one-emitting s (Arrive from raw) reply _ (λ emission same. LightAck from raw number flags stamp bytes connected refl carries sender is same)
 
+    drop-emitting : (message stamp first last : ℕ) (range : LostRange) (reply : Reply) (gap : Option (ℕ × ℕ)) → s.phase ≡ phase.Connected
+        → read raw ≡ Ok (DropAsk message stamp s.own first last) → from ≡ s.peer.addr → s.kind ≡ kind.Message
+        → drop_range s.receiving first last ≡ Some range → gap_before s.receiving.top range.first ≡ gap
+        → AllEmitting s (Arrive from raw) reply (emitted_by_gap (heard_now s) gap)
+    drop-emitting message stamp first last range reply None connected asks sender messages taken is = none-emitting s (Arrive from raw) reply
+    drop-emitting message stamp first last range reply (Some ends) connected asks sender messages taken is =
+        one-emitting s (Arrive from raw) reply _ (λ emission same.
+        ReportsDropGap from raw message stamp first last range ends connected refl asks sender messages taken is same)
+
     read-emitting : AllEmitting s (Arrive from raw) (on_read w s from (read raw)).reply (on_read w s from (read raw)).emissions
     read-emitting = arrival-shows w s from (λ outcome. AllEmitting s (Arrive from raw) outcome.reply outcome.emissions) (read raw) (record {
       passed = λ counters answer differs. none-emitting s (Arrive from raw) _;
@@ -174,6 +226,8 @@ module _ {C : Type 0} (w : Ways C) where
           both-emitting s (Arrive from raw) _ _ _
           (gap-emitting number flags stamp bytes _ (block_answer s.receiving number).gap connected is sender refl)
           (light-emitting number flags stamp bytes _ (block_answer s.receiving number).light connected is sender refl);
+      dropped = λ message stamp first last range connected sender is messages taken.
+          drop-emitting message stamp first last range _ (gap_before s.receiving.top range.first) connected is sender messages taken refl;
       acknowledged = λ number stamp body offset connected sender is acks. ack2-emitting s (Arrive from raw) _ number body connected;
       reported = λ stamp ranges connected sender is. none-emitting s (Arrive from raw) _;
       confirmed = λ number ack connected found. none-emitting s (Arrive from raw) _;
@@ -181,8 +235,11 @@ module _ {C : Type 0} (w : Ways C) where
     })
 
   act-emitting : (s : State C) (act : Act) → AllEmitting s act (on_act w s act).reply (on_act w s act).emissions
-  act-emitting s (Send bytes) = send-emitting s (Send bytes) _ bytes s.phase
-  act-emitting s (Recv room) = recv-emitting s (Recv room) _ room s.phase
+  act-emitting s (Send bytes) = send_as-emitting s (Send bytes) _ bytes s.kind
+  act-emitting s (Recv room) = recv_as-emitting s (Recv room) _ room s.kind
+  act-emitting s (SendMessage ttl order bytes) =
+      send_message_as-emitting s (SendMessage ttl order bytes) _ ttl order bytes s.kind
+  act-emitting s (RecvMessage room) = recv_message_as-emitting s (RecvMessage room) _ room s.kind
   act-emitting s Pack = pack-emitting s Pack _ s.phase refl
   act-emitting s Tick = tick-emitting s Tick _ s.phase refl
   act-emitting s Close = none-emitting s Close _

@@ -22,10 +22,10 @@ use Rattle.udt_model.specs.Rate.{Feedback, Call, OnAck, OnNak, OnTimeout, Pacing
 use Rattle.udt_model.specs.Controls.{aimd_after}
 use Rattle.udt_model.specs.Timing.{unmeasured, after_sample, with_sample, speed_of, capacity_of, in_order, put_in_order}
 use Rattle.udt_model.specs.SendBlocks.{blocks_of}
-use Rattle.udt_model.specs.SendHalf.{Sending, message_after, idle_sending, linked_sending, send_answer, after_send, packing, pack_moment}
+use Rattle.udt_model.specs.SendHalf.{Sending, message_after, idle_sending, linked_sending, send_answer, after_send, message_answer, after_send_message, packing, pack_moment}
 use Rattle.udt_model.specs.SendReports.{averaged, flow_after, with_ranges, acking, after_ack, entering, after_nak, after_timeout}
-use Rattle.udt_model.specs.ReceiveBlocks.{placing_of, put_block, after_place, bytes_from, beginning}
-use Rattle.udt_model.specs.ReceiveHalf.{Receiving, measured, offset_of, after_block, block_answer}
+use Rattle.udt_model.specs.ReceiveBlocks.{placing_of, put_block, after_place, bytes_from, beginning, with_consumed, up_to_last, message_from}
+use Rattle.udt_model.specs.ReceiveHalf.{Receiving, measured, offset_of, after_block, block_answer, drop_range, after_drop, drop_answer}
 use Rattle.udt_model.specs.ReceiveReports.{number_after, ack_outcome, after_ack_timer, nak_report, after_nak_timer, after_ack2}
 use Rattle.udt_model.specs.Step.{step}
 use Rattle.udt_model.specs.Ticks.{exp_interval, exp_outcome}
@@ -1327,3 +1327,90 @@ answering-spelled = refl
 answering-read : read answering_spelled ≡ Ok answering
 unfolding read read_control answering answering_spelled
 answering-read = refl
+
+-- ---- messages
+
+-- a message of more blocks than a socket keeps is refused, and one that finds too few free; a stream's call is refused. A
+-- message is received once its last block is there, and where there is room for it
+whole_message : List ℕ
+whole_message =
+    line (codes "pair message a b 4 5 2")
+    ++ line (codes "a sendmsg 0 - 0 000102030405060708")
+    ++ line (codes "a sendmsg 0 - 0 0001020304050607")
+    ++ line (codes "a sendmsg 0 - 0 00")
+    ++ line (codes "a send 0 01")
+    ++ line (codes "a pack 0")
+    ++ line (codes "deliver 0 0")
+    ++ line (codes "b recvmsg 0 8")
+    ++ line (codes "a pack 0")
+    ++ line (codes "deliver 1 0")
+    ++ line (codes "b recvmsg 0 7")
+    ++ line (codes "b recvmsg 0 8")
+
+whole_message_printed : List ℕ
+whole_message_printed =
+    line (codes "pair a 1 b 2")
+    ++ line (codes "a sendmsg refused 5012")
+    ++ line (codes "a sendmsg 8")
+    ++ line (codes "a sendmsg again")
+    ++ line (codes "a send refused 5010")
+    ++ line (codes "a pack data")
+    ++ line (codes "datagram 0 10.0.0.1:9000 10.0.0.2:9000 0000000580000001000000000000000200010203")
+    ++ line (codes "b arrive placed")
+    ++ line (codes "b recvmsg again")
+    ++ line (codes "a pack data")
+    ++ line (codes "datagram 1 10.0.0.1:9000 10.0.0.2:9000 0000000640000001000000000000000204050607")
+    ++ line (codes "b arrive placed")
+    ++ line (codes "b recvmsg refused 5012")
+    ++ line (codes "b recvmsg 0001020304050607")
+
+whole_message-played : (played Native whole_message).text ≡ whole_message_printed
+unfolding digits line near spelling read_control read target send_answer message_answer blocks_of after_send_message packing placing_of put_block after_place beginning with_consumed up_to_last message_from offset_of after_block block_answer step opening after_items words_of number_of pairs_of hex_pairs pair_line call_of call_line deliver_line line_by_words read_line address_text place_of datagram_text datagrams_text event_text paired event_at route played_line network_from printed_after pieces_of played_from played whole_message whole_message_printed
+whole_message-played = refl
+
+-- a message that expires before its second block has arrived is dropped, and the next one is received
+expired_message : List ℕ
+expired_message =
+    line (codes "pair message a b 4 5 8")
+    ++ line (codes "a sendmsg 0 50000 1 000102030405060708090a0b")
+    ++ line (codes "a pack 0")
+    ++ line (codes "a pack 0")
+    ++ line (codes "a pack 0")
+    ++ line (codes "deliver 0 1000")
+    ++ line (codes "deliver 2 1000")
+    ++ line (codes "deliver 3 2000")
+    ++ line (codes "a pack 60000")
+    ++ line (codes "a sendmsg 60000 - 1 6d32")
+    ++ line (codes "a pack 60000")
+    ++ line (codes "deliver 4 61000")
+    ++ line (codes "deliver 5 61000")
+    ++ line (codes "b recvmsg 61000 100")
+    ++ line (codes "b recvmsg 61000 100")
+
+expired_message_printed : List ℕ
+expired_message_printed =
+    line (codes "pair a 1 b 2")
+    ++ line (codes "a sendmsg 12")
+    ++ line (codes "a pack data")
+    ++ line (codes "datagram 0 10.0.0.1:9000 10.0.0.2:9000 00000005a0000001000000000000000200010203")
+    ++ line (codes "a pack data")
+    ++ line (codes "datagram 1 10.0.0.1:9000 10.0.0.2:9000 0000000620000001000000000000000204050607")
+    ++ line (codes "a pack data")
+    ++ line (codes "datagram 2 10.0.0.1:9000 10.0.0.2:9000 00000007600000010000000000000002" ++ codes "08090a0b")
+    ++ line (codes "b arrive placed")
+    ++ line (codes "b arrive placed")
+    ++ line (codes "datagram 3 10.0.0.2:9000 10.0.0.1:9000 8003000000000000000003e80000000100000006")
+    ++ line (codes "a arrive nak")
+    ++ line (codes "a pack drop")
+    ++ line (codes "datagram 4 10.0.0.1:9000 10.0.0.2:9000 80070000000000010000ea60000000020000000500000007")
+    ++ line (codes "a sendmsg 2")
+    ++ line (codes "a pack data")
+    ++ line (codes "datagram 5 10.0.0.1:9000 10.0.0.2:9000 00000008e00000020000ea60000000026d32")
+    ++ line (codes "b arrive dropped")
+    ++ line (codes "b arrive placed")
+    ++ line (codes "b recvmsg 6d32")
+    ++ line (codes "b recvmsg again")
+
+expired_message-played : (played Native expired_message).text ≡ expired_message_printed
+unfolding digits line near spelling read_control read target send_answer message_answer blocks_of after_send_message packing placing_of put_block after_place beginning with_consumed up_to_last message_from offset_of after_block block_answer step opening after_items words_of number_of pairs_of hex_pairs pair_line call_of call_line deliver_line line_by_words read_line address_text place_of datagram_text datagrams_text event_text paired event_at route played_line network_from printed_after pieces_of played_from played drop_range after_drop drop_answer with_missing without_missing without_range with_range with_ranges entering after_nak ranges_bytes ranges_from wire.words_of wire.ranges_of expired_message expired_message_printed
+expired_message-played = refl

@@ -2,7 +2,7 @@
 use Rattle.std.proofs.Common.{◌≡◌, ℕ, zero, suc, Bool, true, false, List, [], ◌∷◌, Ok, Err, refl, ◌∙◌}
 use Rattle.std.proofs.Common.{arith, ◌-◌}
 use Rattle.std.proofs.lemmas.Bool.{cases_Bool}
-use Rattle.std.specs.Prelude.{Result, Option, Some, None, length, nat_lt, if◌then◌else◌}
+use Rattle.std.specs.Prelude.{Result, Option, Some, None, length, ◌==◌, nat_lt, nat_le, if◌then◌else◌}
 use Rattle.udt_model.specs.declared.answers.Placed.{Placed}
 use Rattle.udt_model.specs.declared.answers.Placed.TheVariants as placing
 use Rattle.udt_model.specs.declared.answers.SendNo.{SendNo}
@@ -12,10 +12,10 @@ use Rattle.udt_model.specs.declared.packets.Flags.{Flags}
 use Rattle.udt_model.specs.declared.sockets.SentAck.{SentAck}
 use Rattle.udt_model.specs.Losses.{LostRange}
 use Rattle.udt_model.specs.Rate.{Ways}
-use Rattle.udt_model.specs.ReceiveBlocks.{ReceiveBlocks, PlacedBlock, placing_of, arrived_at, after_placing_of, after_place, after_bytes}
-use Rattle.udt_model.specs.ReceiveHalf.{Receiving, measured as measured_arrival, offset_of, placing_at, with_new, after_placing, after_block, after_receive}
+use Rattle.udt_model.specs.ReceiveBlocks.{ReceiveBlocks, PlacedBlock, WholeMessage, placing_of, arrived_at, after_placing_of, after_place, after_bytes, next_message, after_found, after_read_message}
+use Rattle.udt_model.specs.ReceiveHalf.{Receiving, measured as measured_arrival, offset_of, placing_at, with_new, after_placing, after_block, with_taken, after_receive, after_receive_message}
 use Rattle.udt_model.specs.ReceiveReports.{AckOutcome, IsEarly, IsKnown, EmitsAck, ack_outcome, after_ack_outcome, after_ack_timer, confirmed_by, after_ack2, after_nak_timer}
-use Rattle.udt_model.specs.SendHalf.{Sending, send_answer, after_answer, after_send, Packing, Waits, Retransmits, Sends, Idles, packing, after_packing, after_pack}
+use Rattle.udt_model.specs.SendHalf.{Sending, send_answer, message_answer, expiry_of, after_answer, after_send, after_send_message, Packing, Waits, Retransmits, Drops, Sends, Idles, packing, after_packing, after_pack}
 use Rattle.udt_model.specs.SendReports.{Acking, Acks, IsStale, acking, acked_number, sampled, released, measured, after_acking, after_ack, entering, after_entering, after_nak, has_unacknowledged, after_timeout}
 use Rattle.udt_model.specs.Timing.{RoundTrip, last_under}
 use Rattle.udt_model.specs.Wire.{WireRange}
@@ -53,19 +53,26 @@ module _ {C : Type 0} where
 
   -- ---- the sending half
 
-  answer-keeps : (s : Sending C) (bytes : List ℕ) (answer : Result ℕ SendNo) → KeepsSending s (after_answer s bytes answer)
-  answer-keeps s bytes (Ok zero) = record { isn = refl; payload = refl; blocks = refl }
-  answer-keeps s bytes (Ok (suc n)) = record { isn = refl; payload = refl; blocks = refl }
-  answer-keeps s bytes (Err why) = record { isn = refl; payload = refl; blocks = refl }
+  answer-keeps : (s : Sending C) (order : Bool) (expires : Option ℕ) (bytes : List ℕ) (answer : Result ℕ SendNo)
+      → KeepsSending s (after_answer s order expires bytes answer)
+  answer-keeps s order expires bytes (Ok zero) = record { isn = refl; payload = refl; blocks = refl }
+  answer-keeps s order expires bytes (Ok (suc n)) = record { isn = refl; payload = refl; blocks = refl }
+  answer-keeps s order expires bytes (Err why) = record { isn = refl; payload = refl; blocks = refl }
 
   pub after_send-keeps : (s : Sending C) (bytes : List ℕ) → KeepsSending s (after_send s bytes)
   unfolding after_send
-  after_send-keeps s bytes = answer-keeps s bytes (send_answer s (length bytes))
+  after_send-keeps s bytes = answer-keeps s false None bytes (send_answer s (length bytes))
+
+  pub after_send_message-keeps : (s : Sending C) (now : ℕ) (ttl : Option ℕ) (order : Bool) (bytes : List ℕ)
+      → KeepsSending s (after_send_message s now ttl order bytes)
+  unfolding after_send_message
+  after_send_message-keeps s now ttl order bytes = answer-keeps s order (expiry_of now ttl) bytes (message_answer s (length bytes))
 
 module _ {C : Type 0} (w : Ways C) where
   pub packing-keeps : (s : Sending C) (now : ℕ) (p : Packing) → KeepsSending s (after_packing w s now p)
   packing-keeps s now (Waits until) = record { isn = refl; payload = refl; blocks = refl }
   packing-keeps s now (Retransmits offset block) = record { isn = refl; payload = refl; blocks = refl }
+  packing-keeps s now (Drops message) = record { isn = refl; payload = refl; blocks = refl }
   packing-keeps s now (Sends block) = record { isn = refl; payload = refl; blocks = refl }
   packing-keeps s now Idles = record { isn = refl; payload = refl; blocks = refl }
 
@@ -104,6 +111,20 @@ module _ {C : Type 0} (w : Ways C) where
 
 pub after_receive-keeps : (r : Receiving) (count : ℕ) → KeepsReceiving r (after_receive r count)
 after_receive-keeps r count = record { isn = refl; payload = refl; capacity = refl }
+
+found-keeps : (b : ReceiveBlocks) (room : ℕ) (found : Option WholeMessage) → (after_found b room found).capacity ≡ b.capacity
+found-keeps b room None = refl
+found-keeps b room (Some m) = grind (arith, cases_Bool (nat_le (length m.bytes) room))
+
+pub after_receive_message-keeps : (r : Receiving) (room : ℕ) → KeepsReceiving r (after_receive_message r room)
+after_receive_message-keeps r room =
+    elim (room == 0) as (λ none. KeepsReceiving r (if none then r else record r { blocks = after_read_message r.blocks room })) [
+      | true ↦ same_receiving r
+      | false ↦ record { isn = refl; payload = refl; capacity = found-keeps r.blocks room (next_message r.blocks) }
+    ]
+
+pub with_taken-keeps : (r : Receiving) (now : ℕ) (range : LostRange) → KeepsReceiving r (with_taken r now range)
+with_taken-keeps r now range = record { isn = refl; payload = refl; capacity = refl }
 
 placed-keeps : (b : ReceiveBlocks) (block : PlacedBlock) (p : Placed) → (after_placing_of b block p).capacity ≡ b.capacity
 placed-keeps b block placing.New = refl

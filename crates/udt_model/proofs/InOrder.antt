@@ -1,14 +1,14 @@
 -- Blocks, the top and the missing packets stay in order.
-use Rattle.std.proofs.Common.{◌≡◌, ℕ, ◌+◌, ◌-◌, ◌<◌, ◌≤◌, Bool, true, false, cond, ltb, leb, List, [], ◌∷◌, max, refl, sym, ap, ◌∙◌, arith, inl, inr, ◌⊎◌}
-use Rattle.std.proofs.lemmas.Bool.{cases_lt, cases_Bool, cases_eq, cases_order, lt-ltb, le-ltb, false_from_ne_true, true≢false, ltb-true, ltb-false, leb-true, leb-false}
+use Rattle.std.proofs.Common.{◌≡◌, ℕ, ◌+◌, ◌-◌, ◌<◌, ◌≤◌, Bool, true, false, cond, ltb, leb, ◌||◌, List, [], ◌∷◌, max, refl, sym, ap, ◌∙◌, arith, inl, inr, ◌⊎◌}
+use Rattle.std.proofs.lemmas.Bool.{cases_lt, cases_Bool, cases_eq, cases_order, lt-ltb, le-ltb, or_left, or_right, or_cases, false_from_ne_true, true≢false, ltb-true, ltb-false, leb-true, leb-false}
 use Rattle.udt_model.specs.declared.answers.Placed.{Placed}
 use Rattle.udt_model.specs.declared.answers.Placed.TheVariants as placing
 use Rattle.udt_model.specs.declared.packets.Flags.{Flags}
 use Rattle.udt_model.specs.Losses.{Missing, LostRange, is_missing, with_missing, without_missing, after_report}
-use Rattle.udt_model.specs.ReceiveBlocks.{ReceiveBlocks, PlacedBlock, is_taken, placing_of, put_block, arrived_at, after_place, after_placing_of, after_bytes, beginning}
-use Rattle.udt_model.specs.ReceiveOrder.{IsInOrder, missing_then}
-use Rattle.udt_model.proofs.TakenOffsets.{put_own, put_keeps, put_only, begins_later, passed_taken, left_only, left_keeps}
-use Rattle.udt_model.proofs.MissingOffsets.{added_only, added_keeps, added_has, arrived_only, arrived_keeps, reported_same}
+use Rattle.udt_model.specs.ReceiveBlocks.{ReceiveBlocks, PlacedBlock, is_taken, placing_of, put_block, arrived_at, after_place, after_placing_of, after_bytes, beginning, begins_at, with_consumed, given_after, after_consuming, after_skip}
+use Rattle.udt_model.specs.ReceiveOrder.{IsInOrder, missing_then, missing_past}
+use Rattle.udt_model.proofs.TakenOffsets.{put_own, put_keeps, put_only, consumed_has, consumed_keeps, consumed_only, begins_later, passed_taken, left_only, left_keeps}
+use Rattle.udt_model.proofs.MissingOffsets.{added_only, added_keeps, added_has, arrived_only, arrived_keeps, taken_only, taken_keeps, reported_same}
 
 -- ---- blocks that are placed
 
@@ -143,6 +143,155 @@ read_in_order blocks top count missing o =
       placed = λ n taken. o.placed n (left_only n blocks.placed blocks.base given taken);
       all = λ n from to none. left_keeps n blocks.placed blocks.base given from (o.all n (omega (arith, later, from)) to none);
     }
+
+-- ---- offsets that are consumed
+
+-- blocks at the same offsets are as much in order
+pub same_in_order : (blocks : ReceiveBlocks) (placed : List PlacedBlock) (top : ℕ) (missing : List Missing)
+    → ((n : ℕ) → is_taken n blocks.placed ≡ true → is_taken n placed ≡ true)
+    → ((n : ℕ) → is_taken n placed ≡ true → is_taken n blocks.placed ≡ true)
+    → IsInOrder blocks top missing → IsInOrder (record blocks { placed = placed }) top missing
+same_in_order blocks placed top missing to from o = record {
+  base = o.base;
+  room = o.room;
+  from = o.from;
+  below = o.below;
+  absent = λ n there. false_from_ne_true _ (λ taken. true≢false (sym (from n taken) ∙ o.absent n there));
+  placed = λ n taken. o.placed n (from n taken);
+  all = λ n low high none. to n (o.all n low high none);
+}
+
+-- the base moves over what was given and consumed
+pub begun_in_order : (blocks : ReceiveBlocks) (placed : List PlacedBlock) (given top : ℕ) (missing : List Missing)
+    → IsInOrder (record blocks { placed = placed }) top missing
+    → IsInOrder (begins_at blocks (beginning blocks.base given placed)) top missing
+begun_in_order blocks placed given top missing o =
+    let later = begins_later placed blocks.base given in
+    record {
+      base = elim (cases_lt top (beginning blocks.base given placed).base) [
+        | inl passed ↦ absurd (omega (arith, o.placed top (passed_taken top placed blocks.base given o.base passed)))
+        | inr within ↦ within
+      ];
+      room = omega (arith, o.room, later);
+      from = λ n there. elim (cases_lt n (beginning blocks.base given placed).base) [
+        | inl passed ↦ absurd (true≢false (sym (passed_taken n placed blocks.base given (o.from n there) passed) ∙ o.absent n there))
+        | inr left ↦ left
+      ];
+      below = o.below;
+      absent = λ n there. false_from_ne_true _ (λ taken. true≢false (sym (left_only n placed blocks.base given taken) ∙ o.absent n there));
+      placed = λ n taken. o.placed n (left_only n placed blocks.base given taken);
+      all = λ n from to none. left_keeps n placed blocks.base given from (o.all n (omega (arith, later, from)) to none);
+    }
+
+-- offsets that have blocks may be consumed
+pub consumed_in_order : (blocks : ReceiveBlocks) (from count top : ℕ) (missing : List Missing)
+    → ((n : ℕ) → from ≤ n → n < from + count → is_taken n blocks.placed ≡ true) → IsInOrder blocks top missing
+    → IsInOrder (after_consuming blocks from count) top missing
+consumed_in_order blocks from count top missing taken o =
+    begun_in_order blocks (with_consumed from count blocks.placed) (given_after blocks from count) top missing
+    (same_in_order blocks (with_consumed from count blocks.placed) top missing (λ n was. consumed_keeps n from count blocks.placed was)
+    (λ n is. elim (consumed_only n from count blocks.placed is) [
+      | inl was ↦ was
+      | inr within ↦ taken n within.0 within.1
+    ]) o)
+
+-- where a range lies that a message drop request takes
+pub record IsTakable (blocks : ReceiveBlocks) (first last : ℕ) : Type 0 where
+  pub some : first ≤ last
+  pub not_below : blocks.base ≤ last
+  pub room : last < blocks.base + blocks.capacity
+
+-- from this offset on it is consumed
+abbrev from_of : ReceiveBlocks → ℕ → ℕ
+from_of blocks first = max first blocks.base
+
+abbrev placed_past : ReceiveBlocks → ℕ → ℕ → List PlacedBlock
+placed_past blocks first last = with_consumed (from_of blocks first) (last + 1 - from_of blocks first) blocks.placed
+
+-- a range above the top
+past_above : (blocks : ReceiveBlocks) (first last top now : ℕ) (missing : List Missing) → IsInOrder blocks top missing → IsTakable blocks first last → top < first
+    → IsInOrder (record blocks { placed = placed_past blocks first last }) (max top (last + 1)) (with_missing top (first - 1) now missing)
+past_above blocks first last top now missing o takes above =
+    let from = from_of blocks first in
+    let count = last + 1 - from in
+    record {
+      base = omega (arith, o.base);
+      room = omega (arith, o.room, takes.room);
+      from = λ n there. elim (added_only top (first - 1) now n missing there) [ inl old ↦ o.from n old | inr row ↦ omega (arith, o.base, row.0) ];
+      below = λ n there. elim (added_only top (first - 1) now n missing there) [ inl old ↦ omega (arith, o.below n old) | inr row ↦ omega (arith, row.1, above, takes.some) ];
+      absent = λ n there. false_from_ne_true _ (λ taken. elim (consumed_only n from count blocks.placed taken) [
+        | inl old ↦ elim (added_only top (first - 1) now n missing there) [
+          | inl was ↦ true≢false (sym old ∙ o.absent n was)
+          | inr row ↦ omega (arith, o.placed n old, row.0)
+        ]
+        | inr within ↦ elim (added_only top (first - 1) now n missing there) [
+          | inl was ↦ omega (arith, o.below n was, within.0, above)
+          | inr row ↦ omega (arith, row.1, within.0, above)
+        ]
+      ]);
+      placed = λ n taken. elim (consumed_only n from count blocks.placed taken) [
+        | inl old ↦ omega (arith, o.placed n old)
+        | inr within ↦ omega (arith, within.0, within.1, takes.some, takes.not_below)
+      ];
+      all = λ n low high none. elim (cases_lt n top) [
+        | inl below ↦ consumed_keeps n from count blocks.placed (o.all n low below (false_from_ne_true _ (λ there. true≢false (sym (added_keeps top (first - 1) now n missing there) ∙ none))))
+        | inr past ↦ elim (cases_lt n first) [
+          | inl before ↦ absurd (true≢false (sym (added_has top (first - 1) now n missing past (omega (arith, before, above))) ∙ none))
+          | inr here ↦ consumed_has n from count blocks.placed (omega (arith, here, low)) (omega (arith, here, high, above, takes.some, takes.not_below))
+        ]
+      ];
+    }
+
+-- a range that begins at the top or below it
+past_below : (blocks : ReceiveBlocks) (first last top : ℕ) (missing : List Missing) → IsInOrder blocks top missing → IsTakable blocks first last → first ≤ top
+    → IsInOrder (record blocks { placed = placed_past blocks first last }) (max top (last + 1)) (without_missing first last missing)
+past_below blocks first last top missing o takes most =
+    let from = from_of blocks first in
+    let count = last + 1 - from in
+    record {
+      base = omega (arith, o.base);
+      room = omega (arith, o.room, takes.room);
+      from = λ n there. o.from n (taken_only first last n missing there).0;
+      below = λ n there. omega (arith, o.below n (taken_only first last n missing there).0);
+      absent = λ n there. false_from_ne_true _ (λ taken.
+          let was = taken_only first last n missing there in
+          elim (consumed_only n from count blocks.placed taken) [
+            | inl old ↦ true≢false (sym old ∙ o.absent n was.0)
+            | inr within ↦ elim (or_cases (ltb n first) (ltb last n) was.1) [
+              | inl before ↦ omega (arith, ltb-true n first before, within.0)
+              | inr after ↦ omega (arith, ltb-true last n after, within.0, within.1, takes.some, takes.not_below)
+            ]
+          ]);
+      placed = λ n taken. elim (consumed_only n from count blocks.placed taken) [
+        | inl old ↦ omega (arith, o.placed n old)
+        | inr within ↦ omega (arith, within.0, within.1, takes.some, takes.not_below)
+      ];
+      all = λ n low high none. elim (cases_lt n first) [
+        | inl before ↦
+            consumed_keeps n from count blocks.placed
+            (o.all n low (omega (arith, before, most)) (false_from_ne_true _ (λ there.
+            true≢false (sym (taken_keeps first last n missing there (or_left (ltb n first) (ltb last n) (lt-ltb n first before))) ∙ none))))
+        | inr here ↦ elim (cases_lt last n) [
+          | inl after ↦
+              consumed_keeps n from count blocks.placed
+              (o.all n low (omega (arith, after, high)) (false_from_ne_true _ (λ there.
+              true≢false (sym (taken_keeps first last n missing there (or_right (ltb n first) (ltb last n) (lt-ltb last n after))) ∙ none))))
+          | inr within ↦ consumed_has n from count blocks.placed (omega (arith, here, low)) (omega (arith, here, low, within, takes.some, takes.not_below))
+        ]
+      ];
+    }
+
+-- a range that a message drop request takes
+pub skipped_in_order : (blocks : ReceiveBlocks) (first last top now : ℕ) (missing : List Missing) → IsInOrder blocks top missing → IsTakable blocks first last
+    → IsInOrder (after_skip blocks first last) (max top (last + 1)) (missing_past top now first last missing)
+skipped_in_order blocks first last top now missing o takes =
+    let from = from_of blocks first in
+    let count = last + 1 - from in
+    begun_in_order blocks (placed_past blocks first last) (given_after blocks from count) (max top (last + 1)) (missing_past top now first last missing)
+    (elim (cases_lt top first) [
+      | inl above ↦ rw (lt-ltb top first above) (past_above blocks first last top now missing o takes above)
+      | inr most ↦ rw (le-ltb top first most) (past_below blocks first last top missing o takes most)
+    ])
 
 -- ---- packets that are reported
 

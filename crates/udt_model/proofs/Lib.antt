@@ -13,8 +13,12 @@ pub mod HistoryLemmas
 pub mod ArrivalLemmas
 pub mod StepLemmas
 pub mod ReceivingSteps
+pub mod SendingSteps
+pub mod StreamLemmas
 pub mod EmissionLemmas
 pub mod RecordLemmas
 pub mod TakenOffsets
 pub mod MissingOffsets
 pub mod InOrder
+pub mod MessageLemmas
+pub mod DropLemmas

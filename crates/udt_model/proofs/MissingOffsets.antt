@@ -1,5 +1,5 @@
 -- Which offsets are missing, once some are added, one arrives, and some are reported.
-use Rattle.std.proofs.Common.{◌≡◌, ℕ, zero, suc, ◌+◌, ◌-◌, ◌<◌, ◌≤◌, Bool, true, false, cond, eqb, ◌||◌, ltb, List, [], ◌∷◌, ◌++◌, map, filter, refl, sym, ap, ◌∙◌, arith, inl, inr, ◌⊎◌, Option, Some, None}
+use Rattle.std.proofs.Common.{◌≡◌, ℕ, zero, suc, ◌+◌, ◌-◌, ◌<◌, ◌≤◌, Bool, true, false, cond, eqb, ◌||◌, ltb, List, [], ◌∷◌, ◌++◌, map, filter, refl, sym, ap, subst, ◌∙◌, arith, inl, inr, ◌⊎◌, Option, Some, None}
 use Rattle.std.specs.Prelude.{if◌then◌else◌}
 use Rattle.std.specs.List.{range_with_len}
 use Rattle.std.proofs.lemmas.Bool.{cases_lt, cases_Bool, cases_eq, cases_order, eqb-true, eq-eqb, ne_eqb, lt-ltb, le-ltb, or_left, or_right, or_from, or_cases, false_from_ne_true, true≢false}
@@ -81,6 +81,37 @@ arrived_keeps offset n (m ∷ ms) h other = elim (cases_eq m.offset offset) [
     | inl here ↦ or_left (eqb m.offset n) _ here
     | inr later ↦ or_right (eqb m.offset n) _ (arrived_keeps offset n ms later other)
   ])
+]
+
+-- ---- a range that is taken
+
+-- what is missing then was missing, and is outside of the range
+pub taken_only : (first last n : ℕ) (ms : List Missing) → is_missing n (without_missing first last ms) ≡ true → (is_missing n ms ≡ true) × ((ltb n first || ltb last n) ≡ true)
+unfolding without_missing
+taken_only first last n [] h = absurd (true≢false (sym h))
+taken_only first last n (m ∷ ms) h = elim (cases_Bool (ltb m.offset first || ltb last m.offset)) [
+  | inl outside ↦ elim (or_cases (eqb m.offset n) _ (rw outside at h)) [
+    | inl here ↦ (or_left (eqb m.offset n) _ here, subst (λ (k : ℕ). (ltb k first || ltb last k) ≡ true) (eqb-true m.offset n here) outside)
+    | inr later ↦ let rest = taken_only first last n ms later in (or_right (eqb m.offset n) _ rest.0, rest.1)
+  ]
+  | inr inside ↦ let rest = taken_only first last n ms (rw inside at h) in (or_right (eqb m.offset n) _ rest.0, rest.1)
+]
+
+-- and what is outside of it stays missing
+pub taken_keeps : (first last n : ℕ) (ms : List Missing) → is_missing n ms ≡ true → (ltb n first || ltb last n) ≡ true → is_missing n (without_missing first last ms) ≡ true
+unfolding without_missing
+taken_keeps first last n [] h outside = h
+taken_keeps first last n (m ∷ ms) h outside = elim (cases_Bool (ltb m.offset first || ltb last m.offset)) [
+  | inl out ↦ rw out (elim (or_cases (eqb m.offset n) _ h) [
+    | inl here ↦ or_left (eqb m.offset n) _ here
+    | inr later ↦ or_right (eqb m.offset n) _ (taken_keeps first last n ms later outside)
+  ])
+  | inr inside ↦ elim (or_cases (eqb m.offset n) _ h) [
+    | inl here ↦
+        let own = subst (λ (k : ℕ). (ltb k first || ltb last k) ≡ false) (eqb-true m.offset n here) inside in
+        absurd (true≢false (sym outside ∙ own))
+    | inr later ↦ rw inside (taken_keeps first last n ms later outside)
+  ]
 ]
 
 -- ---- offsets that are reported

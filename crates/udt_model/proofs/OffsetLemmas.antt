@@ -1,11 +1,11 @@
 -- Rising offsets between two bounds, and what lists of lost packets make of them.
-use Rattle.std.proofs.Common.{◌≡◌, ℕ, zero, suc, ◌+◌, ◌-◌, ◌<◌, ◌≤◌, Bool, true, false, List, [], ◌∷◌, ◌++◌, drop, refl, sym, subst, arith}
+use Rattle.std.proofs.Common.{◌≡◌, ℕ, zero, suc, ◌+◌, ◌-◌, ◌<◌, ◌≤◌, Bool, true, false, ◌||◌, List, [], ◌∷◌, ◌++◌, drop, refl, sym, subst, arith}
 use Rattle.std.specs.Prelude.{nat_lt, nat_le, if◌then◌else◌}
 use Rattle.std.specs.List.{filter, range_with_len}
 use Rattle.std.proofs.lemmas.Bool.{leb-true, leb-false, ltb-true, ltb-false}
 use Rattle.std.proofs.lemmas.Bool.Decides.{nat_tests}
 use Rattle.std.proofs.lemmas.List.{append-nil}
-use Rattle.udt_model.specs.Losses.{offsets_between, with_range, from_offset}
+use Rattle.udt_model.specs.Losses.{offsets_between, with_range, from_offset, without_range}
 
 -- the offsets rise, none is below the one bound, and all are below the other
 abbrev pub AreWithin : ℕ → ℕ → List ℕ → Type 0
@@ -100,6 +100,12 @@ filter-within test from to (offset ∷ others) within =
       | true ↦ (within.0, within.1, rest)
       | false ↦ AreWithin-wider (offset + 1) to from to _ (omega (arith, within.0)) (omega arith) rest
     ]
+
+-- so do those outside of a range
+pub without_range-within : (first last from to : ℕ) (offsets : List ℕ) → AreWithin from to offsets
+    → AreWithin from to (without_range first last offsets)
+unfolding without_range
+without_range-within first last from to offsets within = filter-within (λ n. nat_lt n first || nat_lt last n) from to offsets within
 
 below-within : (bound from to : ℕ) (offsets : List ℕ) → AreWithin from to offsets → AreWithin from bound (filter (λ n. nat_lt n bound) offsets)
 below-within bound from to [] within = tt

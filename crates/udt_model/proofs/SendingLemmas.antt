@@ -1,7 +1,7 @@
 -- How the sending half keeps its blocks: a message cut into blocks is its bytes, and the kept blocks are the last
 -- ones accepted, whatever is sent, acknowledged and lost.
 use Rattle.std.proofs.Common.{◌≡◌, ℕ, zero, suc, ◌+◌, ◌-◌, ◌*◌, ◌^◌, ◌<◌, ◌≤◌, Bool, true, false, List, [], ◌∷◌, ◌++◌, length, take, drop, Some, None, refl, ap, ◌∙◌, sym, subst, arith}
-use Rattle.std.specs.Prelude.{Option, slice_get, map, nat_lt, nat_le, ◌&&◌, if◌then◌else◌}
+use Rattle.std.specs.Prelude.{Option, slice_get, map, max, nat_lt, nat_le, ◌&&◌, if◌then◌else◌}
 use Rattle.std.specs.List.{concat}
 use Rattle.std.specs.Option.{option_map}
 use Rattle.std.proofs.lemmas.Bool.{ltb-true, ltb-false, leb-true, and_parts}
@@ -16,11 +16,11 @@ use Rattle.udt_model.specs.Losses.{LostRange, with_range}
 use Rattle.udt_model.specs.Numbers.{near}
 use Rattle.udt_model.specs.Rate.{Ways}
 use Rattle.udt_model.specs.SendBlocks.{Message, KeptBlock, SendBlocks, count_for, blocks_of, following_message, with_bytes, end_of, kept_at}
-use Rattle.udt_model.specs.SendHalf.{Sending, acked_of, message_after, with_message, Retransmits, Sends, Idles, Waits, Packing, sends, retransmits, leaves_next, packing, after_packing, after_pack}
+use Rattle.udt_model.specs.SendHalf.{Sending, acked_of, message_after, with_message, Retransmits, Drops, Sends, Idles, Waits, Packing, has_passed, sends, retransmits, leaves_next, packing, after_packing, after_pack}
 use Rattle.udt_model.specs.SendReports.{Acking, Acks, IsStale, acking_near, acking, acked_number, released, measured, after_acking, after_ack, entering_range, from_first, entering, with_ranges, after_entering, after_nak, has_unacknowledged, after_timeout, sampled}
 use Rattle.udt_model.specs.Timing.{RoundTrip}
 use Rattle.udt_model.specs.Wire.{WireRange}
-use Rattle.udt_model.proofs.OffsetLemmas.{AreWithin, AreWithin-wider, AreWithin-drop, from_offset-within, with_range-within, with_range-among}
+use Rattle.udt_model.proofs.OffsetLemmas.{AreWithin, AreWithin-wider, AreWithin-drop, without_range-within, from_offset-within, with_range-within, with_range-among}
 
 -- the bytes of blocks, one by one
 abbrev pub bytes_of : List KeptBlock → List (List ℕ)
@@ -29,16 +29,16 @@ bytes_of kept = map (λ (block : KeptBlock). block.bytes) kept
 -- each block's message number fits its place
 abbrev pub MessagesFit : List KeptBlock → Type 0
 MessagesFit [] = Unit {0}
-MessagesFit (block ∷ others) = (block.flags.message < 2 ^ 29) × MessagesFit others
+MessagesFit (block ∷ others) = (block.flags.message < 2 ^ 29) × (block.message.number < 2 ^ 29) × MessagesFit others
 
 pub MessagesFit-append : (kept more : List KeptBlock) → MessagesFit kept → MessagesFit more → MessagesFit (kept ++ more)
 MessagesFit-append [] more fit next = next
-MessagesFit-append (block ∷ others) more fit next = (fit.0, MessagesFit-append others more fit.1 next)
+MessagesFit-append (block ∷ others) more fit next = (fit.0, fit.1, MessagesFit-append others more fit.2 next)
 
 pub MessagesFit-drop : (n : ℕ) (kept : List KeptBlock) → MessagesFit kept → MessagesFit (drop n kept)
 MessagesFit-drop zero kept fit = fit
 MessagesFit-drop (suc n) [] fit = tt
-MessagesFit-drop (suc n) (block ∷ others) fit = MessagesFit-drop n others fit.1
+MessagesFit-drop (suc n) (block ∷ others) fit = MessagesFit-drop n others fit.2
 
 pub MessagesFit-at : (kept : List KeptBlock) (n : ℕ) (block : KeptBlock) → MessagesFit kept → slice_get kept n ≡ Some block
     → block.flags.message < 2 ^ 29
@@ -46,15 +46,61 @@ MessagesFit-at [] n block fit found = absurd (cc)
 MessagesFit-at (first ∷ others) zero block fit found =
     let is : first ≡ block = cc in
     subst (λ (b : KeptBlock). b.flags.message < 2 ^ 29) is fit.0
-MessagesFit-at (first ∷ others) (suc n) block fit found = MessagesFit-at others n block fit.1 found
+MessagesFit-at (first ∷ others) (suc n) block fit found = MessagesFit-at others n block fit.2 found
+
+pub MessagesFit-number : (kept : List KeptBlock) (n : ℕ) (block : KeptBlock) → MessagesFit kept → slice_get kept n ≡ Some block
+    → block.message.number < 2 ^ 29
+MessagesFit-number [] n block fit found = absurd (cc)
+MessagesFit-number (first ∷ others) zero block fit found =
+    let is : first ≡ block = cc in
+    subst (λ (b : KeptBlock). b.message.number < 2 ^ 29) is fit.1
+MessagesFit-number (first ∷ others) (suc n) block fit found = MessagesFit-number others n block fit.2 found
+
+-- the message of each block ends before this offset
+abbrev pub EndBefore : ℕ → List KeptBlock → Type 0
+EndBefore end [] = Unit {0}
+EndBefore end (block ∷ others) = (block.message.last < end) × EndBefore end others
+
+pub EndBefore-later : (end later : ℕ) (kept : List KeptBlock) → end ≤ later → EndBefore end kept → EndBefore later kept
+EndBefore-later end later [] up ends = tt
+EndBefore-later end later (block ∷ others) up ends = (omega (arith, ends.0), EndBefore-later end later others up ends.1)
+
+pub EndBefore-append : (end : ℕ) (kept more : List KeptBlock) → EndBefore end kept → EndBefore end more → EndBefore end (kept ++ more)
+EndBefore-append end [] more ends next = next
+EndBefore-append end (block ∷ others) more ends next = (ends.0, EndBefore-append end others more ends.1 next)
+
+pub EndBefore-drop : (end n : ℕ) (kept : List KeptBlock) → EndBefore end kept → EndBefore end (drop n kept)
+EndBefore-drop end zero kept ends = ends
+EndBefore-drop end (suc n) [] ends = tt
+EndBefore-drop end (suc n) (block ∷ others) ends = EndBefore-drop end n others ends.1
+
+pub EndBefore-at : (end : ℕ) (kept : List KeptBlock) (n : ℕ) (block : KeptBlock) → EndBefore end kept → slice_get kept n ≡ Some block
+    → block.message.last < end
+EndBefore-at end [] n block ends found = absurd (cc)
+EndBefore-at end (first ∷ others) zero block ends found =
+    let is : first ≡ block = cc in
+    subst (λ (b : KeptBlock). b.message.last < end) is ends.0
+EndBefore-at end (first ∷ others) (suc n) block ends found = EndBefore-at end others n block ends.1 found
 
 -- ---- a message cut into blocks
+
+pub blocks_of-ends : (m : Message) (payload offset count end : ℕ) (bytes : List ℕ) → (1 ≤ count → m.last < end)
+    → EndBefore end (blocks_of m payload offset count bytes)
+unfolding blocks_of
+blocks_of-ends m payload offset zero end bytes before = tt
+blocks_of-ends m payload offset (suc count) end bytes before =
+    (before (omega arith), blocks_of-ends m payload (offset + 1) count end (drop payload bytes) (λ some. before (omega arith)))
+
+pub length-blocks_of : (m : Message) (payload offset count : ℕ) (bytes : List ℕ) → length (blocks_of m payload offset count bytes) ≡ count
+unfolding blocks_of
+length-blocks_of m payload offset zero bytes = refl
+length-blocks_of m payload offset (suc count) bytes = ap suc (length-blocks_of m payload (offset + 1) count (drop payload bytes))
 
 pub blocks_of-fit : (m : Message) (payload offset count : ℕ) (bytes : List ℕ) → m.number < 2 ^ 29
     → MessagesFit (blocks_of m payload offset count bytes)
 unfolding blocks_of
 blocks_of-fit m payload offset zero bytes fits = tt
-blocks_of-fit m payload offset (suc count) bytes fits = (fits, blocks_of-fit m payload (offset + 1) count (drop payload bytes) fits)
+blocks_of-fit m payload offset (suc count) bytes fits = (fits, fits, blocks_of-fit m payload (offset + 1) count (drop payload bytes) fits)
 
 -- this many blocks joined are a front of the bytes
 pub blocks_of-joined : (m : Message) (payload offset count : ℕ) (bytes : List ℕ)
@@ -116,20 +162,26 @@ module _ {C : Type 0} where
     pub sent_to : s.next ≤ s.blocks.first + length s.blocks.kept
     pub lost : AreWithin s.blocks.first s.next s.lost
     pub messages : MessagesFit s.blocks.kept
+    pub ends : EndBefore (s.blocks.first + length s.blocks.kept) s.blocks.kept
     pub message : s.message < 2 ^ 29
     pub payload : 1 ≤ s.blocks.payload
 
   -- the blocks into which a message of these bytes is cut
-  abbrev pub new_blocks : Sending C → List ℕ → List KeptBlock
-  new_blocks s bytes =
+  abbrev pub new_blocks : Sending C → Bool → Option ℕ → List ℕ → List KeptBlock
+  new_blocks s order expires bytes =
       let count = count_for (length bytes) s.blocks.payload in
-      blocks_of (following_message s.blocks count s.message false None) s.blocks.payload (end_of s.blocks) count bytes
+      blocks_of (following_message s.blocks count s.message order expires) s.blocks.payload (end_of s.blocks) count bytes
 
   -- a message adds the blocks into which it is cut
-  pub cut-with_message : (s : Sending C) (start : ℕ) (blocks : List (List ℕ)) (bytes : List ℕ) → IsCut s start blocks
-      → IsCut (with_message s bytes) start (blocks ++ bytes_of (new_blocks s bytes))
-  cut-with_message s start blocks bytes is_cut =
-      let more = new_blocks s bytes in
+  pub cut-with_message : (s : Sending C) (start : ℕ) (blocks : List (List ℕ)) (order : Bool) (expires : Option ℕ) (bytes : List ℕ)
+      → IsCut s start blocks
+      → IsCut (with_message s order expires bytes) start (blocks ++ bytes_of (new_blocks s order expires bytes))
+  cut-with_message s start blocks order expires bytes is_cut =
+      let more = new_blocks s order expires bytes in
+      let count = count_for (length bytes) s.blocks.payload in
+      let filled = length-blocks_of (following_message s.blocks count s.message order expires) s.blocks.payload (end_of s.blocks) count bytes in
+      let end = s.blocks.first + length (s.blocks.kept ++ more) in
+      let longer = length-append s.blocks.kept more in
       let known : s.blocks.first - start ≤ length blocks = omega (arith, is_cut.not_before, is_cut.count) in
       record {
         not_before = is_cut.not_before;
@@ -141,6 +193,9 @@ module _ {C : Type 0} where
         sent_to = omega (arith, is_cut.sent_to, length-append s.blocks.kept more);
         lost = is_cut.lost;
         messages = MessagesFit-append s.blocks.kept more is_cut.messages (blocks_of-fit _ s.blocks.payload _ _ bytes is_cut.message);
+        ends = EndBefore-append end s.blocks.kept more
+            (EndBefore-later (s.blocks.first + length s.blocks.kept) end s.blocks.kept (omega (arith, longer)) is_cut.ends)
+            (blocks_of-ends _ s.blocks.payload _ _ end bytes (λ some. omega (arith, longer, filled, some)));
         message = message_after-fits s.message is_cut.message;
         payload = is_cut.payload;
       }
@@ -163,6 +218,13 @@ module _ {C : Type 0} where
     pub lost : s.lost ≡ offset ∷ others
     pub kept : kept_at s.blocks offset ≡ Some block
 
+  -- the message of the least lost block
+  pub record IsOfLeastLost (s : Sending C) (message : Message) : Type 0 where
+    pub offset : ℕ
+    pub block : KeptBlock
+    pub least : IsLeastLost s offset block
+    pub is : block.message ≡ message
+
 module _ {C : Type 0} (w : Ways C) where
   sends-unsent : (s : Sending C) (o : Option KeptBlock) (block : KeptBlock) → sends w s o ≡ Sends block → o ≡ Some block
   sends-unsent s None block is = absurd (cc)
@@ -172,24 +234,68 @@ module _ {C : Type 0} (w : Ways C) where
   sends-none_again s None offset block is = cc
   sends-none_again s (Some first) offset block is = grind (arith, nat_tests)
 
-  retransmit-block : (found offset : ℕ) (o : Option KeptBlock) (block : KeptBlock) → retransmits w found o ≡ Retransmits offset block
+  sends-no_drop : (s : Sending C) (o : Option KeptBlock) (message : Message) → sends w s o ≡ Drops message → ⊥
+  sends-no_drop s None message is = cc
+  sends-no_drop s (Some first) message is = grind (arith, nat_tests)
+
+  retransmit-by : (found offset : ℕ) (first block : KeptBlock) (expired : Bool)
+      → (if expired then Drops first.message else Retransmits found first) ≡ Retransmits offset block → (found ≡ offset) × (first ≡ block)
+  retransmit-by found offset first block true is = absurd (cc)
+  retransmit-by found offset first block false is = (cc, cc)
+
+  retransmit-block : (now found offset : ℕ) (o : Option KeptBlock) (block : KeptBlock) → retransmits w now found o ≡ Retransmits offset block
       → (found ≡ offset) × (o ≡ Some block)
-  retransmit-block found offset None block is = absurd (cc)
-  retransmit-block found offset (Some first) block is = (cc, cc)
+  retransmit-block now found offset None block is = absurd (cc)
+  retransmit-block now found offset (Some first) block is =
+      let same = retransmit-by found offset first block (has_passed now first.message.expires) is in
+      (same.0, ap (λ (b : KeptBlock). Some b) same.1)
 
-  retransmit-unsent : (found : ℕ) (o : Option KeptBlock) (block : KeptBlock) → retransmits w found o ≡ Sends block → ⊥
-  retransmit-unsent found None block is = cc
-  retransmit-unsent found (Some first) block is = cc
+  unsent-by : (found : ℕ) (first block : KeptBlock) (expired : Bool)
+      → (if expired then Drops first.message else Retransmits found first) ≡ Sends block → ⊥
+  unsent-by found first block true is = cc
+  unsent-by found first block false is = cc
 
-  first-unsent : (s : Sending C) (lost : List ℕ) (block : KeptBlock) → leaves_next w s lost ≡ Sends block → kept_at s.blocks s.next ≡ Some block
-  first-unsent s [] block is = sends-unsent s (kept_at s.blocks s.next) block is
-  first-unsent s (offset ∷ others) block is = absurd (retransmit-unsent offset (kept_at s.blocks offset) block is)
+  retransmit-unsent : (now found : ℕ) (o : Option KeptBlock) (block : KeptBlock) → retransmits w now found o ≡ Sends block → ⊥
+  retransmit-unsent now found None block is = cc
+  retransmit-unsent now found (Some first) block is = unsent-by found first block (has_passed now first.message.expires) is
 
-  first-lost : (s : Sending C) (lost : List ℕ) (offset : ℕ) (block : KeptBlock) → s.lost ≡ lost → leaves_next w s lost ≡ Retransmits offset block
+  drops-by : (found : ℕ) (first : KeptBlock) (message : Message) (expired : Bool)
+      → (if expired then Drops first.message else Retransmits found first) ≡ Drops message → first.message ≡ message
+  drops-by found first message true is = cc
+  drops-by found first message false is = absurd (cc)
+
+  -- the message of a block that has expired is dropped
+  pub record IsKeptOf (o : Option KeptBlock) (message : Message) : Type 0 where
+    pub block : KeptBlock
+    pub kept : o ≡ Some block
+    pub is : block.message ≡ message
+
+  drops-block : (now found : ℕ) (o : Option KeptBlock) (message : Message) → retransmits w now found o ≡ Drops message → IsKeptOf o message
+  drops-block now found None message is = absurd (cc)
+  drops-block now found (Some first) message is =
+      record { block = first; kept = refl; is = drops-by found first message (has_passed now first.message.expires) is }
+
+  first-unsent : (s : Sending C) (now : ℕ) (lost : List ℕ) (block : KeptBlock) → leaves_next w s now lost ≡ Sends block → kept_at s.blocks s.next ≡ Some block
+  first-unsent s now [] block is = sends-unsent s (kept_at s.blocks s.next) block is
+  first-unsent s now (offset ∷ others) block is = absurd (retransmit-unsent now offset (kept_at s.blocks offset) block is)
+
+  first-dropped : (s : Sending C) (now : ℕ) (lost : List ℕ) (message : Message) → s.lost ≡ lost → leaves_next w s now lost ≡ Drops message
+      → IsOfLeastLost s message
+  first-dropped s now [] message same is = absurd (sends-no_drop s (kept_at s.blocks s.next) message is)
+  first-dropped s now (offset ∷ others) message same is =
+      let found = drops-block now offset (kept_at s.blocks offset) message is in
+      record {
+        offset = offset;
+        block = found.block;
+        least = record { others = others; lost = same; kept = found.kept };
+        is = found.is;
+      }
+
+  first-lost : (s : Sending C) (now : ℕ) (lost : List ℕ) (offset : ℕ) (block : KeptBlock) → s.lost ≡ lost → leaves_next w s now lost ≡ Retransmits offset block
       → IsLeastLost s offset block
-  first-lost s [] offset block same is = absurd (sends-none_again s (kept_at s.blocks s.next) offset block is)
-  first-lost s (first ∷ others) offset block same is =
-      let found = retransmit-block first offset (kept_at s.blocks first) block is in
+  first-lost s now [] offset block same is = absurd (sends-none_again s (kept_at s.blocks s.next) offset block is)
+  first-lost s now (first ∷ others) offset block same is =
+      let found = retransmit-block now first offset (kept_at s.blocks first) block is in
       record {
         others = others;
         lost = same ∙ ap (λ (n : ℕ). n ∷ others) found.0;
@@ -200,15 +306,22 @@ module _ {C : Type 0} (w : Ways C) where
   pub packing-sends : (s : Sending C) (now : ℕ) (block : KeptBlock) → packing w s now ≡ Sends block → kept_at s.blocks s.next ≡ Some block
   unfolding packing
   packing-sends s now block is =
-      let due : leaves_next w s s.lost ≡ Sends block = grind (arith, nat_tests) in
-      first-unsent s s.lost block due
+      let due : leaves_next w s now s.lost ≡ Sends block = grind (arith, nat_tests) in
+      first-unsent s now s.lost block due
 
   -- or the least lost one again
   pub packing-again : (s : Sending C) (now offset : ℕ) (block : KeptBlock) → packing w s now ≡ Retransmits offset block → IsLeastLost s offset block
   unfolding packing
   packing-again s now offset block is =
-      let due : leaves_next w s s.lost ≡ Retransmits offset block = grind (arith, nat_tests) in
-      first-lost s s.lost offset block refl due
+      let due : leaves_next w s now s.lost ≡ Retransmits offset block = grind (arith, nat_tests) in
+      first-lost s now s.lost offset block refl due
+
+  -- or asks the peer to drop the message of the least lost one
+  pub packing-drops : (s : Sending C) (now : ℕ) (message : Message) → packing w s now ≡ Drops message → IsOfLeastLost s message
+  unfolding packing
+  packing-drops s now message is =
+      let due : leaves_next w s now s.lost ≡ Drops message = grind (arith, nat_tests) in
+      first-dropped s now s.lost message refl due
 
   -- after it the blocks are cut as before
   pub cut-after_packing : (s : Sending C) (start now : ℕ) (blocks : List (List ℕ)) (p : Packing) → packing w s now ≡ p → IsCut s start blocks
@@ -222,9 +335,29 @@ module _ {C : Type 0} (w : Ways C) where
     sent_to = is_cut.sent_to;
     lost = AreWithin-drop s.blocks.first s.next s.lost is_cut.lost;
     messages = is_cut.messages;
+    ends = is_cut.ends;
     message = is_cut.message;
     payload = is_cut.payload;
   }
+  cut-after_packing s start now blocks (Drops message) is is_cut =
+      let found = packing-drops s now message is in
+      let at = kept_at-is s.blocks found.offset found.block found.least.kept in
+      let ends = EndBefore-at _ s.blocks.kept (found.offset - s.blocks.first) found.block is_cut.ends at.found in
+      let last : message.last < s.blocks.first + length s.blocks.kept =
+      subst (λ (m : Message). m.last < s.blocks.first + length s.blocks.kept) found.is ends in
+      record {
+        not_before = is_cut.not_before;
+        count = is_cut.count;
+        kept = is_cut.kept;
+        sent_from = omega (arith, is_cut.sent_from);
+        sent_to = omega (arith, is_cut.sent_to, last);
+        lost = AreWithin-wider s.blocks.first s.next s.blocks.first (max s.next (message.last + 1)) _ (omega arith) (omega arith)
+            (without_range-within message.first message.last s.blocks.first s.next s.lost is_cut.lost);
+        messages = is_cut.messages;
+        ends = is_cut.ends;
+        message = is_cut.message;
+        payload = is_cut.payload;
+      }
   cut-after_packing s start now blocks (Sends block) is is_cut =
       let at = kept_at-is s.blocks s.next block (packing-sends s now block is) in
       let found = slice_get_within s.blocks.kept (s.next - s.blocks.first) block at.found in
@@ -236,6 +369,7 @@ module _ {C : Type 0} (w : Ways C) where
         sent_to = omega (arith, is_cut.sent_from, is_cut.sent_to, found);
         lost = AreWithin-wider s.blocks.first s.next s.blocks.first (s.next + 1) s.lost (omega arith) (omega arith) is_cut.lost;
         messages = is_cut.messages;
+        ends = is_cut.ends;
         message = is_cut.message;
         payload = is_cut.payload;
       }
@@ -289,6 +423,9 @@ module _ {C : Type 0} where
         sent_to = omega (arith, is_cut.sent_to, acked.not_below, acked.not_above, left);
         lost = from_offset-within offset s.blocks.first s.next s.lost is_cut.lost;
         messages = MessagesFit-drop gone s.blocks.kept is_cut.messages;
+        ends = EndBefore-later (s.blocks.first + length s.blocks.kept) _ _
+            (omega (arith, is_cut.sent_to, acked.not_below, acked.not_above, left))
+            (EndBefore-drop _ gone s.blocks.kept is_cut.ends);
         message = is_cut.message;
         payload = is_cut.payload;
       }
@@ -304,6 +441,7 @@ module _ {C : Type 0} where
     sent_to = rw (same, next) is_cut.sent_to;
     lost = rw (same, next, lost) is_cut.lost;
     messages = rw same is_cut.messages;
+    ends = rw same is_cut.ends;
     message = rw message is_cut.message;
     payload = rw same is_cut.payload;
   }
@@ -319,6 +457,7 @@ module _ {C : Type 0} where
     sent_to = rw (same, next) is_cut.sent_to;
     lost = rw (same, next) lost;
     messages = rw same is_cut.messages;
+    ends = rw same is_cut.ends;
     message = rw message is_cut.message;
     payload = rw same is_cut.payload;
   }

@@ -1,17 +1,19 @@
 -- What events of a socket don't change: who it is, who its peer is, and the initial sequence numbers.
-use Rattle.std.proofs.Common.{◌≡◌, ℕ, List, [], ◌∷◌, refl, ◌∙◌}
-use Rattle.std.specs.Prelude.{Result, length}
+use Rattle.std.proofs.Common.{◌≡◌, ℕ, Bool, List, [], ◌∷◌, refl, ◌∙◌}
+use Rattle.std.specs.Prelude.{Option, Result, length}
 use Rattle.udt_model.specs.declared.addresses.Addr.{Addr}
 use Rattle.udt_model.specs.declared.answers.Cause.TheVariants as cause
 use Rattle.udt_model.specs.declared.answers.Phase.{Phase}
 use Rattle.udt_model.specs.declared.answers.Phase.TheVariants as phase
 use Rattle.udt_model.specs.declared.answers.Refusal.TheVariants as refusal
+use Rattle.udt_model.specs.declared.packets.Kind.{Kind}
+use Rattle.udt_model.specs.declared.packets.Kind.TheVariants as kind
 use Rattle.udt_model.specs.declared.packets.Malformed.{Malformed}
 use Rattle.udt_model.specs.declared.sockets.ExpOutcome.{ExpOutcome}
 use Rattle.udt_model.specs.declared.sockets.ExpOutcome.TheVariants as exp
 use Rattle.udt_model.specs.Arrivals.{on_read}
-use Rattle.udt_model.specs.Calls.{send_in, received_by, recv_in, pack_in, on_close, packed_so}
-use Rattle.udt_model.specs.Events.{Act, Send, Recv, Pack, Tick, Close, Measure, Arrive, Event, at_moment}
+use Rattle.udt_model.specs.Calls.{send_in, send_as, received_by, recv_in, recv_as, send_message_in, send_message_as, recv_message_in, recv_message_as, pack_in, on_close, packed_so}
+use Rattle.udt_model.specs.Events.{Act, Send, Recv, SendMessage, RecvMessage, Pack, Tick, Close, Measure, Arrive, Event, at_moment}
 use Rattle.udt_model.specs.History.{Item, after_items}
 use Rattle.udt_model.specs.Rate.{Ways}
 use Rattle.udt_model.specs.ReceiveHalf.{Receiving}
@@ -21,7 +23,7 @@ use Rattle.udt_model.specs.Step.{on_act, step}
 use Rattle.udt_model.specs.Ticks.{exp_outcome, after_exp, after_reports, tick_in}
 use Rattle.udt_model.specs.Wire.{Packet, read}
 use Rattle.udt_model.proofs.ArrivalLemmas.{arrival-shows}
-use Rattle.udt_model.proofs.HalfLemmas.{KeepsSending, KeepsReceiving, same_sending, same_receiving, sending_on, receiving_on, after_send-keeps, packing-keeps, after_ack-keeps, after_nak-keeps, after_timeout-keeps, after_receive-keeps, after_block-keeps, after_ack_timer-keeps, after_nak_timer-keeps, after_ack2-keeps}
+use Rattle.udt_model.proofs.HalfLemmas.{KeepsSending, KeepsReceiving, same_sending, same_receiving, sending_on, receiving_on, after_send-keeps, after_send_message-keeps, packing-keeps, after_ack-keeps, after_nak-keeps, after_timeout-keeps, after_receive-keeps, after_receive_message-keeps, with_taken-keeps, after_block-keeps, after_ack_timer-keeps, after_nak_timer-keeps, after_ack2-keeps}
 
 module _ {C : Type 0} where
   pub record KeepsIdentity (s t : State C) : Type 0 where
@@ -80,6 +82,37 @@ module _ {C : Type 0} where
   recv-keeps s room phase.Closing = same_identity s
   recv-keeps s room phase.Closed = same_identity s
 
+  send_as-keeps : (s : State C) (bytes : List ℕ) (k : Kind) → KeepsIdentity s (send_as s bytes k).after
+  send_as-keeps s bytes kind.Stream = send-keeps s bytes s.phase
+  send_as-keeps s bytes kind.Message = same_identity s
+
+  recv_as-keeps : (s : State C) (room : ℕ) (k : Kind) → KeepsIdentity s (recv_as s room k).after
+  recv_as-keeps s room kind.Stream = recv-keeps s room s.phase
+  recv_as-keeps s room kind.Message = same_identity s
+
+  send_message-keeps : (s : State C) (ttl : Option ℕ) (order : Bool) (bytes : List ℕ) (phase : Phase)
+      → KeepsIdentity s (send_message_in s ttl order bytes phase).after
+  send_message-keeps s ttl order bytes phase.Connected =
+      sending-keeps s _ (after_send_message-keeps s.sending s.last ttl order bytes)
+  send_message-keeps s ttl order bytes (phase.Broken why) = same_identity s
+  send_message-keeps s ttl order bytes phase.Closing = same_identity s
+  send_message-keeps s ttl order bytes phase.Closed = same_identity s
+
+  send_message_as-keeps : (s : State C) (ttl : Option ℕ) (order : Bool) (bytes : List ℕ) (k : Kind)
+      → KeepsIdentity s (send_message_as s ttl order bytes k).after
+  send_message_as-keeps s ttl order bytes kind.Stream = same_identity s
+  send_message_as-keeps s ttl order bytes kind.Message = send_message-keeps s ttl order bytes s.phase
+
+  recv_message-keeps : (s : State C) (room : ℕ) (phase : Phase) → KeepsIdentity s (recv_message_in s room phase).after
+  recv_message-keeps s room phase.Connected = receiving-keeps s _ (after_receive_message-keeps s.receiving room)
+  recv_message-keeps s room (phase.Broken why) = receiving-keeps s _ (after_receive_message-keeps s.receiving room)
+  recv_message-keeps s room phase.Closing = same_identity s
+  recv_message-keeps s room phase.Closed = same_identity s
+
+  recv_message_as-keeps : (s : State C) (room : ℕ) (k : Kind) → KeepsIdentity s (recv_message_as s room k).after
+  recv_message_as-keeps s room kind.Stream = same_identity s
+  recv_message_as-keeps s room kind.Message = recv_message-keeps s room s.phase
+
   close-keeps : (s : State C) → KeepsIdentity s (on_close s).after
   close-keeps s = others-keep s s _ (same_identity s) refl refl refl refl refl refl
 
@@ -119,6 +152,9 @@ module _ {C : Type 0} (w : Ways C) where
     brought = λ number flags stamp bytes connected sender is.
         others-keep s (record s { receiving = _ }) _ (receiving-keeps s _ (after_block-keeps s.receiving s.last number flags bytes))
         refl refl refl refl refl refl;
+    dropped = λ message stamp first last range connected sender is messages taken.
+        others-keep s (record s { receiving = _ }) _ (receiving-keeps s _ (with_taken-keeps s.receiving s.last range))
+        refl refl refl refl refl refl;
     acknowledged = λ number stamp body offset connected sender is acks.
         others-keep s (record s { sending = _ }) _ (sending-keeps s _ (after_ack-keeps w s.sending s.rtt body)) refl refl refl refl refl refl;
     reported = λ stamp ranges connected sender is.
@@ -129,8 +165,10 @@ module _ {C : Type 0} (w : Ways C) where
   })
 
   on_act-keeps : (s : State C) (act : Act) → KeepsIdentity s (on_act w s act).after
-  on_act-keeps s (Send bytes) = send-keeps s bytes s.phase
-  on_act-keeps s (Recv room) = recv-keeps s room s.phase
+  on_act-keeps s (Send bytes) = send_as-keeps s bytes s.kind
+  on_act-keeps s (Recv room) = recv_as-keeps s room s.kind
+  on_act-keeps s (SendMessage ttl order bytes) = send_message_as-keeps s ttl order bytes s.kind
+  on_act-keeps s (RecvMessage room) = recv_message_as-keeps s room s.kind
   on_act-keeps s Pack = pack-keeps s s.phase
   on_act-keeps s Tick = tick-keeps s s.phase
   on_act-keeps s Close = close-keeps s

@@ -1,7 +1,7 @@
--- Which offsets have blocks, once one more is placed, and once bytes were read.
-use Rattle.std.proofs.Common.{◌≡◌, ℕ, suc, ◌+◌, ◌-◌, ◌<◌, ◌≤◌, Bool, true, false, cond, eqb, leb, ◌&&◌, ◌||◌, ltb, List, [], ◌∷◌, length, refl, sym, ap, ◌∙◌, arith, inl, inr, ◌⊎◌}
+-- Which offsets have blocks, once one more is placed, once some are consumed, and once bytes were read.
+use Rattle.std.proofs.Common.{◌≡◌, ℕ, zero, suc, ◌+◌, ◌-◌, ◌<◌, ◌≤◌, Bool, true, false, cond, eqb, leb, ◌&&◌, ◌||◌, ltb, List, [], ◌∷◌, length, refl, sym, ap, ◌∙◌, arith, inl, inr, ◌⊎◌}
 use Rattle.std.proofs.lemmas.Bool.{cases_lt, cases_Bool, cases_eq, eqb-true, eq-eqb, ne_eqb, and_parts, or_left, or_right, or_cases}
-use Rattle.udt_model.specs.ReceiveBlocks.{PlacedBlock, is_taken, beginning, put_block}
+use Rattle.udt_model.specs.ReceiveBlocks.{PlacedBlock, is_taken, beginning, put_block, consumed_at, with_consumed}
 
 -- a block has its own offset, and any other offset that has one keeps it
 pub put_own : (block : PlacedBlock) (blocks : List PlacedBlock) → is_taken block.offset (put_block block blocks) ≡ true
@@ -55,6 +55,36 @@ put_only n block (first ∷ others) h = elim (cases_Bool (ltb block.offset first
         | inr other ↦ inr (or_right (eqb first.offset n) (is_taken n others) other)
       ]
     ]
+  ]
+]
+
+-- offsets that are consumed have blocks, which are empty
+pub consumed_has : (n from count : ℕ) (blocks : List PlacedBlock) → from ≤ n → n < from + count → is_taken n (with_consumed from count blocks) ≡ true
+unfolding with_consumed
+consumed_has n from zero blocks low high = absurd (omega arith)
+consumed_has n from (suc count) blocks low high = elim (cases_eq n (from + count)) [
+  | inl own ↦ rw own (put_own (consumed_at (from + count)) (with_consumed from count blocks))
+  | inr other ↦
+      let below : n < from + count = elim (cases_lt n (from + count)) [ inl less ↦ less | inr more ↦ absurd (other (omega (arith, more, high))) ] in
+      put_keeps n (consumed_at (from + count)) (with_consumed from count blocks) (consumed_has n from count blocks low below)
+]
+
+-- the others keep theirs
+pub consumed_keeps : (n from count : ℕ) (blocks : List PlacedBlock) → is_taken n blocks ≡ true → is_taken n (with_consumed from count blocks) ≡ true
+unfolding with_consumed
+consumed_keeps n from zero blocks h = h
+consumed_keeps n from (suc count) blocks h =
+    put_keeps n (consumed_at (from + count)) (with_consumed from count blocks) (consumed_keeps n from count blocks h)
+
+-- and no further one comes to have one
+pub consumed_only : (n from count : ℕ) (blocks : List PlacedBlock) → is_taken n (with_consumed from count blocks) ≡ true → (is_taken n blocks ≡ true) ⊎ ((from ≤ n) × (n < from + count))
+unfolding with_consumed
+consumed_only n from zero blocks h = inl h
+consumed_only n from (suc count) blocks h = elim (put_only n (consumed_at (from + count)) (with_consumed from count blocks) h) [
+  | inl own ↦ inr (omega (arith, own), omega (arith, own))
+  | inr old ↦ elim (consumed_only n from count blocks old) [
+    | inl was ↦ inl was
+    | inr within ↦ inr (within.0, omega (arith, within.1))
   ]
 ]
 

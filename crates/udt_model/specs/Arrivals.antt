@@ -2,17 +2,21 @@
 use Rattle.std.specs.Prelude.{ℕ, ◌==◌, Bool, ◌&&◌, ◌||◌, List, [], ◌∷◌, ◌++◌, length, true, false, Option, Some, None, Result, Ok, Err, nat_lt, if◌then◌else◌}
 use Rattle.udt_model.specs.declared.addresses.Addr.{Addr}
 use Rattle.udt_model.specs.declared.answers.Arrived.{Arrived}
+use Rattle.udt_model.specs.declared.answers.Dropped.{Dropped}
 use Rattle.udt_model.specs.declared.answers.Heard.{Heard}
 use Rattle.udt_model.specs.declared.answers.Phase.{Phase}
 use Rattle.udt_model.specs.declared.answers.Placed.{Placed}
 use Rattle.udt_model.specs.declared.packets.AckBody.{AckBody}
 use Rattle.udt_model.specs.declared.packets.AckBody.TheVariants.{Light, Buffer, Full}
 use Rattle.udt_model.specs.declared.packets.Flags.{Flags}
+use Rattle.udt_model.specs.declared.packets.Kind.{Kind}
 use Rattle.udt_model.specs.declared.packets.Malformed.{Malformed}
 use Rattle.udt_model.specs.declared.answers.Cause.TheVariants as cause
+use Rattle.udt_model.specs.declared.answers.Dropped.TheVariants as dropped
 use Rattle.udt_model.specs.declared.answers.Heard.TheVariants as heard
 use Rattle.udt_model.specs.declared.answers.Phase.TheVariants as phase
 use Rattle.udt_model.specs.declared.answers.Placed.TheVariants as placing
+use Rattle.udt_model.specs.declared.packets.Kind.TheVariants as kind
 use Rattle.udt_model.specs.declared.sockets.Counters.{Counters}
 use Rattle.udt_model.specs.declared.sockets.SentAck.{SentAck}
 use Rattle.udt_model.specs.Addresses.{same_addr}
@@ -20,7 +24,7 @@ use Rattle.udt_model.specs.Calls.{stamp_of, emission}
 use Rattle.udt_model.specs.Events.{DidHear, Outcome, answered, risen}
 use Rattle.udt_model.specs.Losses.{LostRange}
 use Rattle.udt_model.specs.Rate.{Ways}
-use Rattle.udt_model.specs.ReceiveHalf.{Receiving, block_answer, after_block}
+use Rattle.udt_model.specs.ReceiveHalf.{Receiving, block_answer, after_block, drop_answer, after_drop}
 use Rattle.udt_model.specs.ReceiveReports.{ack_offset, light_ack, after_ack2, round_trip_to}
 use Rattle.udt_model.specs.SendReports.{Acking, Acks, IsStale, acking, acked_number, after_ack, round_trip_after, entering, after_nak}
 use Rattle.udt_model.specs.State.{State, Emission}
@@ -100,6 +104,23 @@ module _ {C : Type 0} where
       (record s { receiving = after_block s.receiving s.last number flags bytes })
       (block_answer s.receiving number)
 
+  -- ---- message drop requests
+
+  -- the request has done this, and this is the receiving half after it: the gap that it shows is reported at once
+  abbrev pub dropped_so : State C → Receiving → Dropped → Outcome C
+  dropped_so s receiving (dropped.Taken gap) =
+      on_control (record s { receiving = receiving }) heard.Dropped (emitted_by_gap s gap)
+  dropped_so s receiving dropped.Stale = on_stale s
+
+  -- a stream has no messages to drop
+  abbrev pub drop_as : State C → ℕ → ℕ → Kind → Outcome C
+  drop_as s first last kind.Stream = on_stale s
+  drop_as s first last kind.Message =
+      dropped_so s (after_drop s.receiving s.last first last) (drop_answer s.receiving first last)
+
+  abbrev pub on_drop : State C → ℕ → ℕ → Outcome C
+  on_drop s first last = drop_as s first last s.kind
+
   -- ---- control packets
 
   -- an ACK is answered by an ACK2 with its number, unless it is light
@@ -151,7 +172,7 @@ module _ {C : Type 0} (w : Ways C) where
   abbrev pub on_nak : State C → List WireRange → Outcome C
   on_nak s ranges = reported_so s ranges (entering s.sending ranges)
 
-  -- a packet from the peer. No use is made of message drop requests and handshakes yet
+  -- a packet from the peer. No use is made of handshakes yet
   abbrev pub on_own : State C → Packet → Outcome C
   on_own s (Block number flags stamp dest bytes) = on_block s number flags bytes
   on_own s (Handshake stamp dest shake) = on_stale s
@@ -160,7 +181,7 @@ module _ {C : Type 0} (w : Ways C) where
   on_own s (Nak stamp dest ranges) = on_nak s ranges
   on_own s (Shutdown stamp dest) = on_control (record s { phase = phase.Broken cause.PeerShutdown }) heard.Shutdown []
   on_own s (Ack2 number stamp dest) = on_ack2 s number
-  on_own s (DropAsk message stamp dest first last) = on_stale s
+  on_own s (DropAsk message stamp dest first last) = on_drop s first last
 
   abbrev pub on_connected : State C → Addr → Packet → Outcome C
   on_connected s from packet =

@@ -1,5 +1,5 @@
--- What the calls of a socket answer, leave and emit: send, receive, close, pack and perf.
-use Rattle.std.specs.Prelude.{ℕ, ◌-◌, ◌==◌, ◌%◌, ◌^◌, List, [], ◌∷◌, length, take, Result, Ok, Err, if◌then◌else◌}
+-- What the calls of a socket answer, leave and emit: send and receive of bytes and of messages, close, pack and perf.
+use Rattle.std.specs.Prelude.{ℕ, ◌-◌, ◌==◌, ◌%◌, ◌^◌, Bool, List, [], ◌∷◌, length, take, Option, Some, None, Result, Ok, Err, nat_le, if◌then◌else◌}
 use Rattle.udt_model.specs.declared.answers.Cause.{Cause}
 use Rattle.udt_model.specs.declared.answers.Perf.{Perf}
 use Rattle.udt_model.specs.declared.answers.Phase.{Phase}
@@ -9,14 +9,16 @@ use Rattle.udt_model.specs.declared.answers.Packed.TheVariants as packed
 use Rattle.udt_model.specs.declared.answers.Phase.TheVariants as phase
 use Rattle.udt_model.specs.declared.answers.Refusal.TheVariants as refusal
 use Rattle.udt_model.specs.declared.answers.SendNo.TheVariants as no
+use Rattle.udt_model.specs.declared.packets.Kind.{Kind}
+use Rattle.udt_model.specs.declared.packets.Kind.TheVariants as kind
 use Rattle.udt_model.specs.declared.sockets.Counters.{Counters}
 use Rattle.udt_model.specs.Rate.{Ways}
-use Rattle.udt_model.specs.ReceiveBlocks.{waiting_of}
-use Rattle.udt_model.specs.ReceiveHalf.{Receiving, after_receive}
-use Rattle.udt_model.specs.SendBlocks.{KeptBlock}
-use Rattle.udt_model.specs.SendHalf.{acked_of, send_answer, after_send, window_in, period_in, Packing, Waits, Retransmits, Sends, Idles, packing, packed_as, block_packet, after_packing}
+use Rattle.udt_model.specs.ReceiveBlocks.{WholeMessage, waiting_of, next_message}
+use Rattle.udt_model.specs.ReceiveHalf.{Receiving, after_receive, after_receive_message}
+use Rattle.udt_model.specs.SendBlocks.{Message, KeptBlock}
+use Rattle.udt_model.specs.SendHalf.{acked_of, send_answer, after_send, message_answer, after_send_message, window_in, period_in, Packing, Waits, Retransmits, Drops, Sends, Idles, packing, packed_as, block_packet, drop_packet, after_packing}
 use Rattle.udt_model.specs.State.{State, Datagram, Emission}
-use Rattle.udt_model.specs.Events.{Sent, Received, DidPack, DidClose, DidMeasure, Outcome, answered, risen}
+use Rattle.udt_model.specs.Events.{Sent, Received, SentMessage, ReceivedMessage, DidPack, DidClose, DidMeasure, Outcome, answered, risen}
 use Rattle.udt_model.specs.Wire.{Packet, spelling}
 
 -- why a socket takes no bytes
@@ -37,6 +39,15 @@ received_by r room = take room (waiting_of r.blocks)
 abbrev pub answer_with : Refusal → ℕ → List ℕ → Result (List ℕ) Refusal
 answer_with why room bytes = if room == 0 then Ok [] else (if length bytes == 0 then Err why else Ok bytes)
 
+-- the bytes of a message that fits into so much room
+abbrev pub fitted : ℕ → WholeMessage → Result (List ℕ) Refusal
+fitted room m = if nat_le (length m.bytes) room then Ok m.bytes else Err refusal.TooLarge
+
+-- what a receive of a message answers: the next one whole, or a refusal. Without room it takes none
+abbrev pub answer_message : Refusal → ℕ → Option WholeMessage → Result (List ℕ) Refusal
+answer_message why room None = if room == 0 then Ok [] else Err why
+answer_message why room (Some m) = if room == 0 then Ok [] else fitted room m
+
 -- a connected socket has yet to send its peer a shutdown
 abbrev pub closed_from : Phase → Phase
 closed_from phase.Connected = phase.Closing
@@ -48,6 +59,7 @@ closed_from phase.Closed = phase.Closed
 abbrev pub count_packing : Packing → Counters → Counters
 count_packing (Waits until) counters = counters
 count_packing (Retransmits offset block) counters = record counters { resent = risen counters.resent }
+count_packing (Drops message) counters = counters
 count_packing (Sends block) counters = record counters { sent = risen counters.sent }
 count_packing Idles counters = counters
 
@@ -69,7 +81,12 @@ module _ {C : Type 0} where
   abbrev pub block_emission : State C → ℕ → KeptBlock → Emission
   block_emission s offset block = emission s (block_packet s.sending (stamp_of s) s.peer.id offset block) (offset ∷ [])
 
-  -- ---- sending and receiving
+  -- the message drop request of a message, which names its first and its last offset
+  abbrev pub drop_emission : State C → Message → Emission
+  drop_emission s message =
+      emission s (drop_packet s.sending (stamp_of s) s.peer.id message) (message.first ∷ message.last ∷ [])
+
+  -- ---- sending and receiving bytes
 
   -- a socket takes bytes while it is connected
   abbrev pub send_in : State C → List ℕ → Phase → Outcome C
@@ -79,8 +96,13 @@ module _ {C : Type 0} where
   send_in s bytes phase.Closing = answered s (Sent (Err refusal.NotConnected))
   send_in s bytes phase.Closed = answered s (Sent (Err refusal.NotConnected))
 
+  -- where it carries a stream
+  abbrev pub send_as : State C → List ℕ → Kind → Outcome C
+  send_as s bytes kind.Stream = send_in s bytes s.phase
+  send_as s bytes kind.Message = answered s (Sent (Err refusal.MessageOnly))
+
   abbrev pub on_send : State C → List ℕ → Outcome C
-  on_send s bytes = send_in s bytes s.phase
+  on_send s bytes = send_as s bytes s.kind
 
   -- what waits is given, as far as there is room, and where nothing waits this is answered
   abbrev pub gives : State C → ℕ → Refusal → Outcome C
@@ -95,8 +117,53 @@ module _ {C : Type 0} where
   recv_in s room phase.Closing = answered s (Received (Err refusal.NotConnected))
   recv_in s room phase.Closed = answered s (Received (Err refusal.NotConnected))
 
+  abbrev pub recv_as : State C → ℕ → Kind → Outcome C
+  recv_as s room kind.Stream = recv_in s room s.phase
+  recv_as s room kind.Message = answered s (Received (Err refusal.MessageOnly))
+
   abbrev pub on_recv : State C → ℕ → Outcome C
-  on_recv s room = recv_in s room s.phase
+  on_recv s room = recv_as s room s.kind
+
+  -- ---- sending and receiving messages
+
+  -- a socket takes a message while it is connected
+  abbrev pub send_message_in : State C → Option ℕ → Bool → List ℕ → Phase → Outcome C
+  send_message_in s ttl order bytes phase.Connected =
+      answered
+      (record s { sending = after_send_message s.sending s.last ttl order bytes })
+      (SentMessage (taken_as (message_answer s.sending (length bytes))))
+  send_message_in s ttl order bytes (phase.Broken why) = answered s (SentMessage (Err (refusal.ConnLost why)))
+  send_message_in s ttl order bytes phase.Closing = answered s (SentMessage (Err refusal.NotConnected))
+  send_message_in s ttl order bytes phase.Closed = answered s (SentMessage (Err refusal.NotConnected))
+
+  -- where it carries messages
+  abbrev pub send_message_as : State C → Option ℕ → Bool → List ℕ → Kind → Outcome C
+  send_message_as s ttl order bytes kind.Stream = answered s (SentMessage (Err refusal.StreamOnly))
+  send_message_as s ttl order bytes kind.Message = send_message_in s ttl order bytes s.phase
+
+  abbrev pub on_send_message : State C → Option ℕ → Bool → List ℕ → Outcome C
+  on_send_message s ttl order bytes = send_message_as s ttl order bytes s.kind
+
+  -- the next message is given where there is room for it, and where none is readable this is answered
+  abbrev pub gives_message : State C → ℕ → Refusal → Outcome C
+  gives_message s room why =
+      answered
+      (record s { receiving = after_receive_message s.receiving room })
+      (ReceivedMessage (answer_message why room (next_message s.receiving.blocks)))
+
+  -- messages are also given once the connection was lost
+  abbrev pub recv_message_in : State C → ℕ → Phase → Outcome C
+  recv_message_in s room phase.Connected = gives_message s room refusal.AgainRecv
+  recv_message_in s room (phase.Broken why) = gives_message s room (refusal.ConnLost why)
+  recv_message_in s room phase.Closing = answered s (ReceivedMessage (Err refusal.NotConnected))
+  recv_message_in s room phase.Closed = answered s (ReceivedMessage (Err refusal.NotConnected))
+
+  abbrev pub recv_message_as : State C → ℕ → Kind → Outcome C
+  recv_message_as s room kind.Stream = answered s (ReceivedMessage (Err refusal.StreamOnly))
+  recv_message_as s room kind.Message = recv_message_in s room s.phase
+
+  abbrev pub on_recv_message : State C → ℕ → Outcome C
+  on_recv_message s room = recv_message_as s room s.kind
 
   -- ---- closing
 
@@ -110,6 +177,7 @@ module _ {C : Type 0} (w : Ways C) where
   abbrev pub emitted_by_packing : State C → Packing → List Emission
   emitted_by_packing s (Waits until) = []
   emitted_by_packing s (Retransmits offset block) = block_emission s offset block ∷ []
+  emitted_by_packing s (Drops message) = drop_emission s message ∷ []
   emitted_by_packing s (Sends block) = block_emission s s.sending.next block ∷ []
   emitted_by_packing s Idles = []
 

@@ -1,5 +1,5 @@
 -- Events of a socket: what may happen, what is answered, and what an event leaves.
-use Rattle.std.specs.Prelude.{ℕ, ◌+◌, ◌-◌, ◌^◌, min, max, List, [], map, Result}
+use Rattle.std.specs.Prelude.{ℕ, ◌+◌, ◌-◌, ◌^◌, min, max, Bool, List, [], map, Option, Result}
 use Rattle.udt_model.specs.declared.limits.TheConstants.{LAST_MOMENT}
 use Rattle.udt_model.specs.declared.addresses.Addr.{Addr}
 use Rattle.udt_model.specs.declared.answers.Heard.{Heard}
@@ -14,6 +14,9 @@ use Rattle.udt_model.specs.State.{State, Datagram, Emission}
 pub data Act : Type 0 where
   Send : (bytes : List ℕ) → Act
   Recv : (room : ℕ) → Act
+  -- a message: how many microseconds it is retransmitted at most, whether it must be delivered in order, and its bytes
+  SendMessage : (ttl : Option ℕ) → (order : Bool) → (bytes : List ℕ) → Act
+  RecvMessage : (room : ℕ) → Act
   Pack : Act
   Tick : Act
   Close : Act
@@ -29,11 +32,13 @@ pub record Event : Type 0 where
 abbrev pub event : ℕ → Act → Event
 event now act = record { now = now; act = act }
 
--- what an event answers: how many bytes were taken, the bytes that were received, what was packed, what was measured, what
--- was heard. A tick and a close say no more than that they were done
+-- what an event answers: how many bytes were taken, the bytes that were received, the same of messages, what was packed, what
+-- was measured, what was heard. A tick and a close say no more than that they were done
 pub data Reply : Type 0 where
   Sent : (answer : Result ℕ Refusal) → Reply
   Received : (answer : Result (List ℕ) Refusal) → Reply
+  SentMessage : (answer : Result ℕ Refusal) → Reply
+  ReceivedMessage : (answer : Result (List ℕ) Refusal) → Reply
   DidPack : (answer : Packed) → Reply
   DidTick : Reply
   DidClose : Reply

@@ -1,5 +1,6 @@
 -- The generated run: a script of which draws decide what each turn does.
 use Rattle.std.specs.Prelude.{ℕ, zero, suc, ◌+◌, ◌-◌, ◌*◌, ◌%◌, ◌^◌, ◌==◌, min, List, [], ◌∷◌, ◌++◌, length, Option, Some, None, slice_get, nat_lt, codes, decimal, if◌then◌else◌}
+use Rattle.udt_model.specs.declared.packets.Kind.TheVariants.{Stream}
 use Rattle.udt_model.specs.declared.scripts.Summary.{Summary}
 use Rattle.udt_model.specs.Draws.{next_state, draw}
 use Rattle.udt_model.specs.Events.{Send, Recv, Pack, Tick, Act, event}
@@ -17,7 +18,7 @@ pub record Run (C : Type 0) : Type 0 where
 
 -- the sockets are paired so
 abbrev pub generated_pair : ℕ → Pairing
-generated_pair n = record { a = codes "a"; b = codes "b"; payload = 1456; isn = n % 2 ^ 31; blocks = 64; start = 0 }
+generated_pair n = record { kind = Stream; a = codes "a"; b = codes "b"; payload = 1456; isn = n % 2 ^ 31; blocks = 64; start = 0 }
 
 -- this many bytes after so many: each is the number of its place modulo 251
 unfoldable pub counted_bytes : ℕ → ℕ → List ℕ

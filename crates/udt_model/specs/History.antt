@@ -1,15 +1,19 @@
 -- Histories of one socket, and what can be read off them.
-use Rattle.std.specs.Prelude.{◌≡◌, ℕ, zero, suc, ◌+◌, ◌-◌, ◌==◌, List, [], ◌∷◌, ◌++◌, length, take, Option, Some, None, Result, Ok, if◌then◌else◌}
+use Rattle.std.specs.Prelude.{◌≡◌, ℕ, zero, suc, ◌+◌, ◌-◌, ◌==◌, max, Bool, List, [], ◌∷◌, ◌++◌, length, take, Option, Some, None, Result, Ok, if◌then◌else◌}
 use Rattle.std.specs.List.{list_any}
 use Rattle.udt_model.specs.declared.answers.Heard.TheVariants as heard
 use Rattle.udt_model.specs.declared.packets.Malformed.{Malformed}
-use Rattle.udt_model.specs.Wire.{Packet, Block, read}
+use Rattle.udt_model.specs.Wire.{Packet, Block, DropAsk, read}
 use Rattle.udt_model.specs.Numbers.{near}
 use Rattle.udt_model.specs.Rate.{Ways}
+use Rattle.udt_model.specs.Losses.{LostRange, offsets_between}
+use Rattle.udt_model.specs.ReceiveBlocks.{WholeMessage, next_message}
+use Rattle.udt_model.specs.ReceiveHalf.{Receiving, drop_range}
+use Rattle.udt_model.specs.SendBlocks.{end_of}
 use Rattle.udt_model.specs.SendHalf.{acked_of}
 use Rattle.udt_model.specs.State.{State, Datagram}
 use Rattle.udt_model.specs.Step.{step}
-use Rattle.udt_model.specs.Events.{Act, Send, Arrive, Event, Reply, Sent, Received, DidHear, outs_of}
+use Rattle.udt_model.specs.Events.{Act, Send, SendMessage, RecvMessage, Arrive, Event, Reply, Sent, Received, SentMessage, ReceivedMessage, DidHear, outs_of}
 
 -- an event with its answer and what it emitted, made by the holder of the pass with this number
 pub record Item : Type 0 where
@@ -23,11 +27,23 @@ pub record History (C : Type 0) : Type 0 where
   pub opening : State C
   pub items : List Item
 
+-- a message that was accepted: its first offset, whether it must be delivered in order, and its bytes
+pub record AskedMessage : Type 0 where
+  pub first : ℕ
+  pub order : Bool
+  pub bytes : List ℕ
+
+-- a message that was received: the offset at which it was found, and its bytes
+pub record ShownMessage : Type 0 where
+  pub first : ℕ
+  pub bytes : List ℕ
+
 -- ---- what items tell
 
--- the bytes that an event took
+-- the bytes that an event took, of a stream or as a message
 abbrev pub taken_by : Act → Reply → List ℕ
 taken_by (Send bytes) (Sent (Ok count)) = take count bytes
+taken_by (SendMessage ttl order bytes) (SentMessage (Ok count)) = take count bytes
 taken_by act reply = []
 
 -- the bytes that an event gave
@@ -47,6 +63,16 @@ delivered_by (item ∷ items) = given_by item.reply ++ delivered_by items
 abbrev pub offset_found : Option ℕ → List ℕ
 offset_found None = []
 offset_found (Some offset) = offset ∷ []
+
+-- the next message, with the bytes that were given for it
+abbrev pub shown_as : List ℕ → Option WholeMessage → List ShownMessage
+shown_as bytes None = []
+shown_as bytes (Some m) = record { first = m.first; bytes = bytes } ∷ []
+
+-- the offsets of a range that aren't below the base
+abbrev pub offsets_of_range : Receiving → Option LostRange → List ℕ
+offsets_of_range r None = []
+offsets_of_range r (Some range) = offsets_between (max range.first r.blocks.base) range.last
 
 -- how many offsets from this one on, of this many at most, are among these, without a gap
 unfoldable pub gapless : ℕ → ℕ → List ℕ → ℕ
@@ -75,6 +101,27 @@ module _ {C : Type 0} where
   abbrev pub placed_by : State C → Act → Reply → List ℕ
   placed_by s (Arrive from bytes) (DidHear heard.Placed) = offset_of_packet s (read bytes)
   placed_by s act reply = []
+
+  -- the message that an event accepted, which its answer tells
+  abbrev pub asked_by : State C → Act → Reply → List AskedMessage
+  asked_by s (SendMessage ttl order bytes) (SentMessage (Ok (suc count))) =
+      record { first = end_of s.sending.blocks; order = order; bytes = bytes } ∷ []
+  asked_by s act reply = []
+
+  -- the message that an event showed, which its answer tells. One without room shows none
+  abbrev pub shown_by : State C → Act → Reply → List ShownMessage
+  shown_by s (RecvMessage (suc room)) (ReceivedMessage (Ok bytes)) = shown_as bytes (next_message s.receiving.blocks)
+  shown_by s act reply = []
+
+  -- the offsets that a message drop request takes
+  abbrev pub offsets_of_request : State C → Result Packet Malformed → List ℕ
+  offsets_of_request s (Ok (DropAsk message stamp dest first last)) = offsets_of_range s.receiving (drop_range s.receiving first last)
+  offsets_of_request s other = []
+
+  -- the offsets that a message drop request took, which the event's answer tells
+  abbrev pub dropped_by : State C → Act → Reply → List ℕ
+  dropped_by s (Arrive from bytes) (DidHear heard.Dropped) = offsets_of_request s (read bytes)
+  dropped_by s act reply = []
 
 module _ {C : Type 0} (w : Ways C) where
   -- ---- legal histories
@@ -125,3 +172,30 @@ module _ {C : Type 0} (w : Ways C) where
   -- how many blocks have arrived, from the first one on and without a gap
   abbrev pub arrived : History C → ℕ
   arrived h = gapless (length (placed_offsets h)) (start_of h) (placed_offsets h)
+
+  -- the messages that these items accepted, from this state on
+  unfoldable pub asked_from : State C → List Item → List AskedMessage
+  asked_from s [] = []
+  asked_from s (item ∷ items) = asked_by s item.event.act item.reply ++ asked_from (step w s item.event).after items
+
+  -- all messages that were accepted, in order
+  abbrev pub asked : History C → List AskedMessage
+  asked h = asked_from h.opening h.items
+
+  -- the messages that these items showed, from this state on
+  unfoldable pub shown_from : State C → List Item → List ShownMessage
+  shown_from s [] = []
+  shown_from s (item ∷ items) = shown_by s item.event.act item.reply ++ shown_from (step w s item.event).after items
+
+  -- all messages that were received, in order
+  abbrev pub shown : History C → List ShownMessage
+  shown h = shown_from h.opening h.items
+
+  -- the offsets that message drop requests took with these items, from this state on
+  unfoldable pub dropped_from : State C → List Item → List ℕ
+  dropped_from s [] = []
+  dropped_from s (item ∷ items) = dropped_by s item.event.act item.reply ++ dropped_from (step w s item.event).after items
+
+  -- all offsets that message drop requests took
+  abbrev pub dropped_offsets : History C → List ℕ
+  dropped_offsets h = dropped_from h.opening h.items

@@ -7,6 +7,7 @@ pub mod Controls
 pub mod Timing
 pub mod SendBlocks
 pub mod ReceiveBlocks
+pub mod Readable
 pub mod SendHalf
 pub mod SendReports
 pub mod ReceiveHalf

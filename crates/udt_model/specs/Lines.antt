@@ -1,14 +1,17 @@
 -- The forms of a script's lines.
-use Rattle.std.specs.Prelude.{◌≡◌, ℕ, ◌-◌, ◌^◌, ◌==◌, ◌&&◌, ◌||◌, Bool, List, [], ◌∷◌, All, Option, Some, None, codes, if◌then◌else◌}
+use Rattle.std.specs.Prelude.{◌≡◌, ℕ, ◌-◌, ◌^◌, ◌==◌, ◌&&◌, ◌||◌, Bool, List, [], ◌∷◌, All, Option, Some, None, option_map, codes, if◌then◌else◌}
 use Rattle.udt_model.specs.declared.limits.TheConstants.{MOST_PAYLOAD, FEWEST_BLOCKS, MOST_BLOCKS, LAST_START, LAST_MOMENT}
+use Rattle.udt_model.specs.declared.packets.Kind.{Kind}
+use Rattle.udt_model.specs.declared.packets.Kind.TheVariants as kind
 use Rattle.udt_model.specs.Addresses.{addr_of}
-use Rattle.udt_model.specs.Events.{Act, Send, Recv, Pack, Tick, Close, Measure, Arrive, Event}
+use Rattle.udt_model.specs.Events.{Act, Send, Recv, SendMessage, RecvMessage, Pack, Tick, Close, Measure, Arrive, Event}
 use Rattle.udt_model.specs.Network.{ScriptDatagram}
 use Rattle.udt_model.specs.Words.{◌>>=◌, words_of, is_word, name_of, number_within, bytes_of}
 
--- two stream sockets that are to be paired: their names, the bytes and number of their blocks, the initial sequence number and
--- the offset at which both directions begin
+-- two sockets that are to be paired: what they carry, their names, the bytes and number of their blocks, the initial sequence
+-- number and the offset at which both directions begin
 pub record Pairing : Type 0 where
+  pub kind : Kind
   pub a : List ℕ
   pub b : List ℕ
   pub payload : ℕ
@@ -39,21 +42,27 @@ is_silent (byte ∷ line) = byte == 35
 abbrev pub moment_of : List ℕ → Option ℕ
 moment_of word = number_within 0 LAST_MOMENT word
 
-abbrev pub pairing_of : List ℕ → List ℕ → List ℕ → List ℕ → List ℕ → ℕ → Option Line
-pairing_of a b payload isn blocks start = do
+-- KIND
+abbrev pub kind_of : List ℕ → Option Kind
+kind_of word =
+    if is_word word (codes "stream") then Some kind.Stream else (if is_word word (codes "message") then Some kind.Message else None)
+
+abbrev pub pairing_of : List ℕ → List ℕ → List ℕ → List ℕ → List ℕ → List ℕ → ℕ → Option Line
+pairing_of kind a b payload isn blocks start = do
+  kind ← kind_of kind
   a ← name_of a
   b ← name_of b
   payload ← number_within 1 MOST_PAYLOAD payload
   isn ← number_within 0 (2 ^ 31 - 1) isn
   blocks ← number_within FEWEST_BLOCKS MOST_BLOCKS blocks
-  Some (PairLine (record { a = a; b = b; payload = payload; isn = isn; blocks = blocks; start = start }))
+  Some (PairLine (record { kind = kind; a = a; b = b; payload = payload; isn = isn; blocks = blocks; start = start }))
 
--- pair stream A B PAYLOAD ISN BUFFER, and a START after it where the directions don't begin at 0
-unfoldable pub pair_line : List (List ℕ) → Option Line
-pair_line (a ∷ b ∷ payload ∷ isn ∷ blocks ∷ []) = pairing_of a b payload isn blocks 0
-pair_line (a ∷ b ∷ payload ∷ isn ∷ blocks ∷ start ∷ []) =
-    number_within 0 LAST_START start >>= λ start. pairing_of a b payload isn blocks start
-pair_line words = None
+-- pair KIND A B PAYLOAD ISN BUFFER, and a START after it where the directions don't begin at 0
+unfoldable pub pair_line : List ℕ → List (List ℕ) → Option Line
+pair_line kind (a ∷ b ∷ payload ∷ isn ∷ blocks ∷ []) = pairing_of kind a b payload isn blocks 0
+pair_line kind (a ∷ b ∷ payload ∷ isn ∷ blocks ∷ start ∷ []) =
+    number_within 0 LAST_START start >>= λ start. pairing_of kind a b payload isn blocks start
+pair_line kind words = None
 
 -- a call with nothing after its moment
 abbrev pub alone : Act → List (List ℕ) → Option Act
@@ -70,6 +79,28 @@ abbrev pub recv_of : List (List ℕ) → Option Act
 recv_of (room ∷ []) = number_within 0 65536 room >>= λ room. Some (Recv room)
 recv_of words = None
 
+-- a time to live, or a dash for none
+abbrev pub ttl_of : List ℕ → Option (Option ℕ)
+ttl_of word = if is_word word (codes "-") then Some None else option_map (λ ttl. Some ttl) (moment_of word)
+
+-- 1 for a message that must be delivered in order, 0 for another
+abbrev pub order_of : List ℕ → Option Bool
+order_of word = option_map (λ number. number == 1) (number_within 0 1 word)
+
+-- TTL ORDER HEX
+abbrev pub sendmsg_of : List (List ℕ) → Option Act
+sendmsg_of (ttl ∷ order ∷ bytes ∷ []) = do
+  ttl ← ttl_of ttl
+  order ← order_of order
+  bytes ← bytes_of bytes
+  Some (SendMessage ttl order bytes)
+sendmsg_of words = None
+
+-- CAP
+abbrev pub recvmsg_of : List (List ℕ) → Option Act
+recvmsg_of (room ∷ []) = number_within 0 65536 room >>= λ room. Some (RecvMessage room)
+recvmsg_of words = None
+
 -- the call with this name, by the words after its moment
 unfoldable pub call_of : List ℕ → List (List ℕ) → Option Act
 call_of call words =
@@ -77,15 +108,19 @@ call_of call words =
     then send_of words
     else (if is_word call (codes "recv")
     then recv_of words
+    else (if is_word call (codes "sendmsg")
+    then sendmsg_of words
+    else (if is_word call (codes "recvmsg")
+    then recvmsg_of words
     else (if is_word call (codes "pack")
     then alone Pack words
     else (if is_word call (codes "tick")
     then alone Tick words
     else (if is_word call (codes "close")
     then alone Close words
-    else (if is_word call (codes "perf") then alone Measure words else None)))))
+    else (if is_word call (codes "perf") then alone Measure words else None)))))))
 
--- A send T HEX, A recv T CAP, A pack T, A tick T, A close T, A perf T
+-- A send T HEX, A recv T CAP, A sendmsg T TTL ORDER HEX, A recvmsg T CAP, A pack T, A tick T, A close T, A perf T
 unfoldable pub call_line : List ℕ → List ℕ → List (List ℕ) → Option Line
 call_line name call [] = None
 call_line name call (now ∷ words) = do
@@ -115,7 +150,8 @@ raw_line now words = None
 -- the word names a call
 abbrev pub is_call : List ℕ → Bool
 is_call word =
-    is_word word (codes "send") || is_word word (codes "recv") || is_word word (codes "pack") || is_word word (codes "tick")
+    is_word word (codes "send") || is_word word (codes "recv") || is_word word (codes "sendmsg")
+    || is_word word (codes "recvmsg") || is_word word (codes "pack") || is_word word (codes "tick")
     || is_word word (codes "close") || is_word word (codes "perf")
 
 -- The second word tells the calls of a socket, since a name may be any word; the first one the other lines
@@ -129,7 +165,7 @@ line_by_words (first ∷ second ∷ others) =
     then deliver_line second others
     else (if is_word first (codes "raw")
     then raw_line second others
-    else (if is_word first (codes "pair") && is_word second (codes "stream") then pair_line others else None)))
+    else (if is_word first (codes "pair") then pair_line second others else None)))
 
 -- what a line says, where it is of a form and each value is in its range
 unfoldable pub read_line : List ℕ → Option Line

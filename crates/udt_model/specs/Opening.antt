@@ -4,7 +4,6 @@ use Rattle.udt_model.specs.declared.limits.TheConstants.{LAST_MOMENT, SYN, LAST_
 use Rattle.udt_model.specs.declared.answers.Peer.{Peer}
 use Rattle.udt_model.specs.declared.packets.Config.{Config}
 use Rattle.udt_model.specs.declared.answers.Phase.TheVariants as phase
-use Rattle.udt_model.specs.declared.packets.Kind.TheVariants.{Stream}
 use Rattle.udt_model.specs.declared.sockets.Counters.{Counters}
 use Rattle.udt_model.specs.Rate.{Ways}
 use Rattle.udt_model.specs.ReceiveHalf.{idle_receiving, linked_receiving}
@@ -24,10 +23,9 @@ pub record CanOpen (config : Config) (peer : Peer) (start : ℕ) : Type 0 where
   pub peer_payload : 1 ≤ peer.payload
   pub within : start ≤ LAST_START
 
--- and the IDs and the initial sequence number fit their places. All sockets are of kind stream so far
+-- and the IDs and the initial sequence number fit their places
 pub record IsOpening (own : ℕ) (config : Config) (peer : Peer) (start : ℕ) : Type 0 where
   pub values : CanOpen config peer start
-  pub stream : config.kind ≡ Stream
   pub own_fits : own < 2 ^ 32
   pub id_fits : peer.id < 2 ^ 32
   pub isn_fits : peer.isn < 2 ^ 31

@@ -1,16 +1,18 @@
--- The receiving half of a socket: where a data packet is placed, and what is missing then (draft-gg-udt-03, sections 4
--- and 5).
-use Rattle.std.specs.Prelude.{ℕ, ◌+◌, ◌-◌, ◌%◌, ◌==◌, max, Bool, false, List, [], Option, Some, None, nat_lt, if◌then◌else◌}
+-- The receiving half of a socket: where a data packet is placed, which offsets a message drop request takes, and what is
+-- missing then (draft-gg-udt-03, sections 4 and 5).
+use Rattle.std.specs.Prelude.{ℕ, ◌+◌, ◌-◌, ◌%◌, ◌==◌, ◌&&◌, max, Bool, false, List, [], Option, Some, None, nat_lt, nat_le, if◌then◌else◌}
 use Rattle.udt_model.specs.declared.limits.TheConstants.{PACKET_LIMIT, LIGHT_ACK_COUNT, PROBE_INTERVAL, SYN}
 use Rattle.udt_model.specs.declared.answers.Arrived.{Arrived}
+use Rattle.udt_model.specs.declared.answers.Dropped.{Dropped}
+use Rattle.udt_model.specs.declared.answers.Dropped.TheVariants as dropped
 use Rattle.udt_model.specs.declared.answers.Placed.{Placed}
 use Rattle.udt_model.specs.declared.answers.Placed.TheVariants as placing
 use Rattle.udt_model.specs.declared.packets.Config.{Config}
 use Rattle.udt_model.specs.declared.packets.Flags.{Flags}
 use Rattle.udt_model.specs.declared.sockets.SentAck.{SentAck}
-use Rattle.udt_model.specs.Losses.{Missing, with_missing, without_missing}
+use Rattle.udt_model.specs.Losses.{LostRange, Missing, with_missing, without_missing}
 use Rattle.udt_model.specs.Numbers.{near}
-use Rattle.udt_model.specs.ReceiveBlocks.{ReceiveBlocks, placing_of, after_place, after_bytes}
+use Rattle.udt_model.specs.ReceiveBlocks.{ReceiveBlocks, placing_of, after_place, after_bytes, after_skip, after_read_message}
 use Rattle.udt_model.specs.Timing.{RoundTrip, period_of, with_sample}
 
 -- the receiving half
@@ -144,8 +146,59 @@ arrived_as r offset other = record { placed = other; gap = None; light = false }
 unfoldable pub block_answer : Receiving → ℕ → Arrived
 block_answer r number = arrived_as r (offset_of r number) (placing_at r (offset_of r number))
 
+-- ---- message drop requests
+
+-- a range of offsets is taken where it ends at one for which there is room, below the limit of packets
+abbrev pub takes : ReceiveBlocks → ℕ → ℕ → Bool
+takes b first last =
+    nat_le first last && nat_le b.base last && nat_lt last (b.base + b.capacity) && nat_lt last PACKET_LIMIT
+
+abbrev pub range_taken : ReceiveBlocks → Option ℕ → Option ℕ → Option LostRange
+range_taken b (Some first) (Some last) = if takes b first last then Some (record { first = first; last = last }) else None
+range_taken b first last = None
+
+-- the offsets that a message drop request takes, by its sequence numbers. Where it takes none it is stale
+unfoldable pub drop_range : Receiving → ℕ → ℕ → Option LostRange
+drop_range r first last = range_taken r.blocks (near r.isn r.top first) (near r.isn r.top last)
+
+-- what is missing once a range was taken: it shows the offsets from the top on and before it to be missing
+abbrev pub missing_with : Receiving → ℕ → LostRange → List Missing
+missing_with r now range =
+    if nat_lt r.top range.first
+    then with_missing r.top (range.first - 1) now r.missing
+    else without_missing range.first range.last r.missing
+
+-- the half with the offsets of a range taken: those that aren't consumed are consumed now
+abbrev pub with_taken : Receiving → ℕ → LostRange → Receiving
+with_taken r now range = record r {
+  blocks = after_skip r.blocks range.first range.last;
+  missing = missing_with r now range;
+  top = max r.top (range.last + 1);
+}
+
+abbrev pub after_taking : Receiving → ℕ → Option LostRange → Receiving
+after_taking r now None = r
+after_taking r now (Some range) = with_taken r now range
+
+-- the half after a message drop request arrived
+unfoldable pub after_drop : Receiving → ℕ → ℕ → ℕ → Receiving
+after_drop r now first last = after_taking r now (drop_range r first last)
+
+abbrev pub taken_as : Receiving → Option LostRange → Dropped
+taken_as r None = dropped.Stale
+taken_as r (Some range) = dropped.Taken (gap_before r.top range.first)
+
+-- what is answered: the gap that is to be reported now, or that it is stale
+unfoldable pub drop_answer : Receiving → ℕ → ℕ → Dropped
+drop_answer r first last = taken_as r (drop_range r first last)
+
 -- ---- receiving
 
 -- the half after this many bytes were received
 abbrev pub after_receive : Receiving → ℕ → Receiving
 after_receive r count = record r { blocks = after_bytes r.blocks count }
+
+-- the half after a message was received into so much room. Without room it takes none
+abbrev pub after_receive_message : Receiving → ℕ → Receiving
+after_receive_message r room =
+    if room == 0 then r else record r { blocks = after_read_message r.blocks room }

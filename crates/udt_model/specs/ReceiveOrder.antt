@@ -20,3 +20,9 @@ missing_then top now offset missing =
     if nat_lt top offset
     then with_missing top (offset - 1) now missing
     else (if nat_lt offset top then without_missing offset offset missing else missing)
+
+-- what is missing below a top once a range of offsets was taken: the offsets that it shows to be missing too, or all but its
+-- own
+abbrev pub missing_past : ℕ → ℕ → ℕ → ℕ → List Missing → List Missing
+missing_past top now first last missing =
+    if nat_lt top first then with_missing top (first - 1) now missing else without_missing first last missing

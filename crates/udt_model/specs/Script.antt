@@ -7,7 +7,6 @@ use Rattle.udt_model.specs.declared.packets.Config.{Config}
 use Rattle.udt_model.specs.declared.scripts.ControlName.{ControlName}
 use Rattle.udt_model.specs.declared.scripts.ControlName.TheVariants as control
 use Rattle.udt_model.specs.declared.limits.TheConstants.{FIXED_PERIOD}
-use Rattle.udt_model.specs.declared.packets.Kind.TheVariants as kind
 use Rattle.udt_model.specs.State.{Datagram}
 use Rattle.udt_model.specs.Step.{step}
 use Rattle.udt_model.specs.Events.{Arrive, Event, event, outs_of}
@@ -29,7 +28,7 @@ pub record Printed (C : Type 0) : Type 0 where
 
 -- the pair of sockets, each the other's peer
 abbrev pub config_of : Pairing → Config
-config_of p = record { kind = kind.Stream; payload = p.payload; snd_blocks = p.blocks; rcv_blocks = p.blocks }
+config_of p = record { kind = p.kind; payload = p.payload; snd_blocks = p.blocks; rcv_blocks = p.blocks }
 
 abbrev pub peer_of : Pairing → Addr → ℕ → Peer
 peer_of p host id = record { addr = host; id = id; isn = p.isn; payload = p.payload; flow = p.blocks }

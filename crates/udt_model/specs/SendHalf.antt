@@ -1,5 +1,5 @@
 -- The sending half of a socket: what a send takes, and which packet leaves next (draft-gg-udt-03, sections 4 and 5).
-use Rattle.std.specs.Prelude.{ℕ, zero, suc, ◌+◌, ◌-◌, ◌*◌, ◌/◌, ◌%◌, ◌==◌, min, max, false, List, [], ◌∷◌, length, take, drop, Option, Some, None, Result, Ok, Err, nat_lt, if◌then◌else◌}
+use Rattle.std.specs.Prelude.{ℕ, zero, suc, ◌+◌, ◌-◌, ◌*◌, ◌/◌, ◌%◌, ◌^◌, ◌==◌, min, max, Bool, false, List, [], ◌∷◌, length, take, drop, Option, Some, None, Result, Ok, Err, option_map, nat_lt, if◌then◌else◌}
 use Rattle.udt_model.specs.declared.limits.TheConstants.{PACKET_LIMIT, LAST_MESSAGE, FEWEST_BLOCKS, MOST_BLOCKS, FIRST_WINDOW, PROBE_INTERVAL}
 use Rattle.udt_model.specs.declared.handshakes.TheConstants.{SIZE_OVER_PAYLOAD}
 use Rattle.udt_model.specs.declared.answers.Packed.{Packed}
@@ -7,10 +7,11 @@ use Rattle.udt_model.specs.declared.answers.Packed.TheVariants as packed
 use Rattle.udt_model.specs.declared.answers.SendNo.{SendNo}
 use Rattle.udt_model.specs.declared.answers.SendNo.TheVariants as no
 use Rattle.udt_model.specs.declared.packets.Config.{Config}
+use Rattle.udt_model.specs.Losses.{without_range}
 use Rattle.udt_model.specs.Numbers.{sequence_number}
 use Rattle.udt_model.specs.Rate.{Ways}
-use Rattle.udt_model.specs.SendBlocks.{KeptBlock, SendBlocks, end_of, free_of, accepted_of, with_bytes, kept_at}
-use Rattle.udt_model.specs.Wire.{Packet, Block}
+use Rattle.udt_model.specs.SendBlocks.{Message, KeptBlock, SendBlocks, end_of, free_of, accepted_of, count_for, with_bytes, kept_at}
+use Rattle.udt_model.specs.Wire.{Packet, Block, DropAsk}
 
 -- the sending half, with a rate control of this type
 pub record Sending (C : Type 0) : Type 0 where
@@ -34,17 +35,21 @@ pub record Sending (C : Type 0) : Type 0 where
   -- the rate control, once there is a connection
   pub control : Option C
 
--- what packing does: it waits until a moment, retransmits a lost block, sends the next block, or has nothing to send
+-- what packing does: it waits until a moment, retransmits a lost block, asks the peer to drop a message of which a lost block
+-- has expired, sends the next block, or has nothing to send
 pub data Packing : Type 0 where
   Waits : (until : ℕ) → Packing
   Retransmits : (offset : ℕ) → (block : KeptBlock) → Packing
+  Drops : (message : Message) → Packing
   Sends : (block : KeptBlock) → Packing
   Idles : Packing
 
--- what packing answers: the bytes of the datagram, of which four words stand before the block's, or the moment
+-- what packing answers: the bytes of the datagram, of which four words stand before the block's or the ends of the dropped
+-- message, or the moment
 abbrev pub packed_as : Packing → Packed
 packed_as (Waits until) = packed.NotYet until
 packed_as (Retransmits offset block) = packed.Block (16 + length block.bytes)
+packed_as (Drops message) = packed.DropAsk 24
 packed_as (Sends block) = packed.Block (16 + length block.bytes)
 packed_as Idles = packed.Nothing
 
@@ -57,6 +62,18 @@ message_after message = if message == LAST_MESSAGE then 1 else message + 1
 -- how many blocks of the peer a socket counts on: 2 at least, and no more than any socket has
 abbrev pub clamped : ℕ → ℕ
 clamped flow = max FEWEST_BLOCKS (min flow MOST_BLOCKS)
+
+-- ---- messages
+
+-- the moment after which a message isn't retransmitted, where it has a time to live. One past the last 64-bit number counts
+-- as that
+abbrev pub expiry_of : ℕ → Option ℕ → Option ℕ
+expiry_of now ttl = option_map (λ time. min (now + time) (2 ^ 64 - 1)) ttl
+
+-- the moment has passed, where there is one
+abbrev pub has_passed : ℕ → Option ℕ → Bool
+has_passed now None = false
+has_passed now (Some moment) = nat_lt moment now
 
 module _ {C : Type 0} where
   -- ---- calls
@@ -78,19 +95,37 @@ module _ {C : Type 0} where
       then Err no.Spent
       else (if free_of s.blocks == 0 then Err no.Again else Ok (accepted_of s.blocks len (room_of s))))
 
+  -- how many blocks a message of this many bytes fills
+  abbrev pub blocks_for : Sending C → ℕ → ℕ
+  blocks_for s len = count_for len s.blocks.payload
+
+  -- what a send of a message of this many bytes answers: it is taken whole, or this is why none of it is
+  unfoldable pub message_answer : Sending C → ℕ → Result ℕ SendNo
+  message_answer s len =
+      if nat_lt s.blocks.blocks (blocks_for s len)
+      then Err no.TooLarge
+      else (if nat_lt (room_of s) (blocks_for s len)
+      then Err no.Spent
+      else (if nat_lt (free_of s.blocks) (blocks_for s len) then Err no.Again else Ok len))
+
   -- the half with one more message, of these bytes
-  abbrev pub with_message : Sending C → List ℕ → Sending C
-  with_message s bytes =
-      record s { blocks = with_bytes s.blocks s.message false None bytes; message = message_after s.message }
+  abbrev pub with_message : Sending C → Bool → Option ℕ → List ℕ → Sending C
+  with_message s order expires bytes =
+      record s { blocks = with_bytes s.blocks s.message order expires bytes; message = message_after s.message }
 
   -- the half after a send of these bytes was so answered. Bytes that are taken are a message
-  abbrev pub after_answer : Sending C → List ℕ → Result ℕ SendNo → Sending C
-  after_answer s bytes (Ok zero) = s
-  after_answer s bytes (Ok (suc n)) = with_message s (take (suc n) bytes)
-  after_answer s bytes (Err why) = s
+  abbrev pub after_answer : Sending C → Bool → Option ℕ → List ℕ → Result ℕ SendNo → Sending C
+  after_answer s order expires bytes (Ok zero) = s
+  after_answer s order expires bytes (Ok (suc n)) = with_message s order expires (take (suc n) bytes)
+  after_answer s order expires bytes (Err why) = s
 
   unfoldable pub after_send : Sending C → List ℕ → Sending C
-  after_send s bytes = after_answer s bytes (send_answer s (length bytes))
+  after_send s bytes = after_answer s false None bytes (send_answer s (length bytes))
+
+  -- the half after a send of a message at this moment
+  unfoldable pub after_send_message : Sending C → ℕ → Option ℕ → Bool → List ℕ → Sending C
+  after_send_message s now ttl order bytes =
+      after_answer s order (expiry_of now ttl) bytes (message_answer s (length bytes))
 
   -- ---- packets
 
@@ -99,10 +134,16 @@ module _ {C : Type 0} where
   block_packet s stamp dest offset block =
       Block (sequence_number s.isn offset) block.flags stamp dest block.bytes
 
+  -- the packet that asks to drop a message
+  abbrev pub drop_packet : Sending C → ℕ → ℕ → Message → Packet
+  drop_packet s stamp dest message =
+      DropAsk message.number stamp dest (sequence_number s.isn message.first) (sequence_number s.isn message.last)
+
   -- the packet that leaves, where one does
   abbrev pub packet_of : Sending C → ℕ → ℕ → Packing → Option Packet
   packet_of s stamp dest (Waits until) = None
   packet_of s stamp dest (Retransmits offset block) = Some (block_packet s stamp dest offset block)
+  packet_of s stamp dest (Drops message) = Some (drop_packet s stamp dest message)
   packet_of s stamp dest (Sends block) = Some (block_packet s stamp dest s.next block)
   packet_of s stamp dest Idles = None
 
@@ -158,15 +199,17 @@ module _ {C : Type 0} (w : Ways C) where
   sends s (Some block) =
       if nat_lt (s.next - acked_of s) (min s.flow (window_in s.control)) then Sends block else Idles
 
-  -- a lost block goes before all that were never sent, whatever the windows allow
-  abbrev pub retransmits : ℕ → Option KeptBlock → Packing
-  retransmits offset None = Idles
-  retransmits offset (Some block) = Retransmits offset block
+  -- a lost block goes before all that were never sent, whatever the windows allow. Once its message has expired, that is
+  -- dropped
+  abbrev pub retransmits : ℕ → ℕ → Option KeptBlock → Packing
+  retransmits now offset None = Idles
+  retransmits now offset (Some block) =
+      if has_passed now block.message.expires then Drops block.message else Retransmits offset block
 
-  -- what leaves next, once it is due: the least lost block, or the first that was never sent
-  abbrev pub leaves_next : Sending C → List ℕ → Packing
-  leaves_next s [] = sends s (kept_at s.blocks s.next)
-  leaves_next s (offset ∷ others) = retransmits offset (kept_at s.blocks offset)
+  -- what leaves next at this moment, once it is due: the least lost block, or the first that was never sent
+  abbrev pub leaves_next : Sending C → ℕ → List ℕ → Packing
+  leaves_next s now [] = sends s (kept_at s.blocks s.next)
+  leaves_next s now (offset ∷ others) = retransmits now offset (kept_at s.blocks offset)
 
   -- the first moment, in microseconds, at which it is due
   abbrev pub due_moment : Sending C → ℕ
@@ -174,7 +217,7 @@ module _ {C : Type 0} (w : Ways C) where
 
   -- what packing does at this moment, in microseconds
   unfoldable pub packing : Sending C → ℕ → Packing
-  packing s now = if nat_lt (1000 * now) s.due then Waits (due_moment s) else leaves_next s s.lost
+  packing s now = if nat_lt (1000 * now) s.due then Waits (due_moment s) else leaves_next s now s.lost
 
   -- the moment before which nothing is sent after the block of this offset, in nanoseconds. The next block follows at
   -- once where the two are a packet pair
@@ -185,18 +228,21 @@ module _ {C : Type 0} (w : Ways C) where
   abbrev pub after_packing : Sending C → ℕ → Packing → Sending C
   after_packing s now (Waits until) = s
   after_packing s now (Retransmits offset block) = record s { lost = drop 1 s.lost; due = due_after s offset now }
+  after_packing s now (Drops message) =
+      record s { lost = without_range message.first message.last s.lost; next = max s.next (message.last + 1) }
   after_packing s now (Sends block) = record s { next = s.next + 1; due = due_after s s.next now }
   after_packing s now Idles = s
 
   unfoldable pub after_pack : Sending C → ℕ → Sending C
   after_pack s now = after_packing s now (packing s now)
 
-  -- the first moment, in microseconds, at which packing sends a block, where there is one to send
+  -- the first moment, in microseconds, at which packing emits a packet, where there is one to emit
   abbrev pub moment_of : Packing → ℕ → Option ℕ
   moment_of (Waits until) moment = None
   moment_of (Retransmits offset block) moment = Some moment
+  moment_of (Drops message) moment = Some moment
   moment_of (Sends block) moment = Some moment
   moment_of Idles moment = None
 
   unfoldable pub pack_moment : Sending C → Option ℕ
-  pack_moment s = moment_of (leaves_next s s.lost) (due_moment s)
+  pack_moment s = moment_of (leaves_next s (due_moment s) s.lost) (due_moment s)

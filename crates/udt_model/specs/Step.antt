@@ -2,8 +2,8 @@
 use Rattle.udt_model.specs.Rate.{Ways}
 use Rattle.udt_model.specs.Wire.{read}
 use Rattle.udt_model.specs.State.{State}
-use Rattle.udt_model.specs.Events.{Act, Send, Recv, Pack, Tick, Close, Measure, Arrive, Event, Outcome, at_moment}
-use Rattle.udt_model.specs.Calls.{on_send, on_recv, on_close, on_pack, on_measure}
+use Rattle.udt_model.specs.Events.{Act, Send, Recv, SendMessage, RecvMessage, Pack, Tick, Close, Measure, Arrive, Event, Outcome, at_moment}
+use Rattle.udt_model.specs.Calls.{on_send, on_recv, on_send_message, on_recv_message, on_close, on_pack, on_measure}
 use Rattle.udt_model.specs.Ticks.{on_tick}
 use Rattle.udt_model.specs.Arrivals.{on_read}
 
@@ -13,6 +13,8 @@ module _ {C : Type 0} (w : Ways C) where
   abbrev pub on_act : State C → Act → Outcome C
   on_act s (Send bytes) = on_send s bytes
   on_act s (Recv room) = on_recv s room
+  on_act s (SendMessage ttl order bytes) = on_send_message s ttl order bytes
+  on_act s (RecvMessage room) = on_recv_message s room
   on_act s Pack = on_pack w s
   on_act s Tick = on_tick w s
   on_act s Close = on_close s

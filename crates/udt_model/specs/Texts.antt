@@ -12,7 +12,7 @@ use Rattle.udt_model.specs.declared.answers.Packed.TheVariants as packed
 use Rattle.udt_model.specs.declared.answers.Refusal.TheVariants as refusal
 use Rattle.udt_model.specs.declared.packets.Malformed.TheVariants as malformed
 use Rattle.udt_model.specs.Addresses.{address_text}
-use Rattle.udt_model.specs.Events.{Reply, Sent, Received, DidPack, DidTick, DidClose, DidMeasure, DidHear}
+use Rattle.udt_model.specs.Events.{Reply, Sent, Received, SentMessage, ReceivedMessage, DidPack, DidTick, DidClose, DidMeasure, DidHear}
 use Rattle.udt_model.specs.Words.{hex_word}
 use Rattle.udt_model.specs.Lines.{Pairing}
 use Rattle.udt_model.specs.Network.{ScriptDatagram}
@@ -129,6 +129,8 @@ perf_text p = codes "perf" ++ path_text p ++ blocks_text p ++ others_text p
 abbrev pub reply_text : Reply → List ℕ
 reply_text (Sent answer) = codes "send " ++ sent_text answer
 reply_text (Received answer) = codes "recv " ++ received_text answer
+reply_text (SentMessage answer) = codes "sendmsg " ++ sent_text answer
+reply_text (ReceivedMessage answer) = codes "recvmsg " ++ received_text answer
 reply_text (DidPack answer) = codes "pack " ++ packed_text answer
 reply_text DidTick = codes "tick"
 reply_text DidClose = codes "close"

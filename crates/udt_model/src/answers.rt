@@ -78,6 +78,14 @@ pub struct Arrived {
     pub light: bool,
 }
 
+/// What a message drop request did at a receiving half: it took its offsets, with the first and the last
+/// offset of the gap that it showed and that is to be reported now, or it was stale.
+#[derive(Clone, Copy, Debug, PartialEq, Eq)]
+pub enum Dropped {
+    Taken { gap: Option<(u64, u64)> },
+    Stale,
+}
+
 /// What packing did. A block and a drop request come with the bytes of their datagram, and a moment
 /// before which nothing may be sent is in microseconds.
 #[derive(Clone, Copy, Debug, PartialEq, Eq)]

@@ -10,7 +10,9 @@ mod scripts;
 mod sockets;
 
 pub use addresses::{Addr, Family, Ip};
-pub use answers::{Arrived, Cause, Heard, Packed, Peer, Perf, Phase, Placed, Refusal, SendNo};
+pub use answers::{
+    Arrived, Cause, Dropped, Heard, Packed, Peer, Perf, Phase, Placed, Refusal, SendNo,
+};
 pub use handshakes::{
     Asked, COOKIE_LIFE, Caller, ClientSaw, MeetSaw, SIZE_OVER_PAYLOAD, VERSION, Verdict,
 };

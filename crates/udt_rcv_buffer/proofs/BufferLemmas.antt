@@ -94,7 +94,7 @@ get-set (first ∷ parts) zero with within = refl
 get-set (first ∷ parts) (suc place) with within = get-set parts place with (omega (arith, within))
 
 -- and no other has changed, so that what ended the run still ends it
-get-set_other : (parts : List (Part Head)) (i place : ℕ) (with : Part Head) → i ≢ place → slice_get (set parts place with) i ≡ slice_get parts i
+pub get-set_other : (parts : List (Part Head)) (i place : ℕ) (with : Part Head) → i ≢ place → slice_get (set parts place with) i ≡ slice_get parts i
 get-set_other [] i place with other = refl
 get-set_other (first ∷ parts) zero zero with other = absurd (other refl)
 get-set_other (first ∷ parts) zero (suc place) with other = refl

@@ -3,6 +3,9 @@ pub mod MarkLemmas
 pub mod CopyLemmas
 pub mod SearchLemmas
 pub mod WalkLemmas
+pub mod WalkedLemmas
+pub mod NextLemmas
+pub mod ConsumedLemmas
 pub mod ReceivedLemmas
 pub mod BufferLemmas
 pub mod WholeLemmas

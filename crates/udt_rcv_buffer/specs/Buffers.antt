@@ -4,6 +4,7 @@ use Rattle.udt_model.specs.ReceiveBlocks.{ReceiveBlocks}
 use Rattle.udt_rcv_buffer.specs.declared.buffer.RcvBuffer.TheInside.{Inside}
 use Rattle.udt_rcv_buffer.specs.PlacedParts.{placed_from, IsSettled}
 use Rattle.udt_rcv_buffer.specs.Marked.{IsMarked, EndsRun}
+use Rattle.udt_rcv_buffer.specs.Walks.{KnowsNext}
 
 -- the first part is that of the base
 abbrev pub received_of : Inside → ReceiveBlocks
@@ -22,3 +23,4 @@ pub record IsReceived (b : Inside) : Type 0 where
   pub run : EndsRun b.marks.run b.ring.list
   pub settled : IsSettled b.marks.given b.ring.list
   pub limit : b.base + b.marks.top ≤ 2 ^ 62
+  pub next : KnowsNext b.next b.ring.list

@@ -1,6 +1,8 @@
 pub mod PlacedParts
 pub mod Marked
 pub mod Messages
+pub mod Walked
+pub mod Walks
 pub mod Buffers
 pub mod Answers
 pub mod Room

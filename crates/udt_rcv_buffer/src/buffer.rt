@@ -8,10 +8,10 @@ use crate::answers::Got;
 use crate::copies::copy_out;
 use crate::head::{Head, MISSING};
 use crate::marks::Marks;
-use crate::messages::next_message;
+use crate::next::Next;
 use std::alloc::Global;
 use std::marker::Model;
-use udt_model::{Flags, Placed};
+use udt_model::{Flags, Kind, Placed};
 use udt_ring::Ring;
 
 /// The blocks of a receiver, from their arrival until their bytes are read. It takes all its memory
@@ -24,6 +24,7 @@ pub struct RcvBuffer {
     ring: Ring<Head>,
     base: u64,
     marks: Marks,
+    next: Next,
 }
 
 impl Model for RcvBuffer {
@@ -43,9 +44,11 @@ impl RcvBuffer {
     ghost use Rattle.udt_rcv_buffer.specs.Moves.{BaseMoves, none, range_of};
     ghost use Rattle.udt_rcv_buffer.specs.Room.{KeepsRoom};
 
-    /// Takes the memory of this many blocks with this many bytes each. `start` is the first offset.
+    /// Takes the memory of this many blocks with this many bytes each, of a stream or of messages.
+    /// `start` is the first offset.
     pub fn new(
         alloc: Global,
+        kind: Kind,
         blocks: u32,
         payload: u32,
         start: u64,
@@ -66,10 +69,15 @@ impl RcvBuffer {
             bytes: 0,
             top: 0,
         };
+        let next = Next {
+            kept: kind == Kind::Message,
+            found: None,
+        };
         Ok(RcvBuffer {
             ring,
             base: start,
             marks,
+            next,
         })
     }
 
@@ -102,6 +110,7 @@ impl RcvBuffer {
         };
         self.ring.put(place, head, bytes);
         self.marks.add(&self.ring, place, bytes.len());
+        self.next.add(&self.ring, &self.marks, place);
         Placed::New
     }
 
@@ -120,6 +129,7 @@ impl RcvBuffer {
         copy_out(&self.ring, 0, self.marks.given, count, into);
         self.marks.given += count;
         self.marks.settle(&mut self.ring, &mut self.base);
+        self.next.renew(&self.ring, &self.marks);
         count
     }
 
@@ -131,16 +141,20 @@ impl RcvBuffer {
         ensures base { BaseMoves none self.old self.new }
         ensures kept { KeepsRoom self.old self.new }
     {
-        let Some(found) = next_message(&self.ring, self.marks.top) else {
+        let Some(found) = self.next.find(&self.ring, &self.marks) else {
             return Got::Nothing;
         };
         if found.len > into.len() {
             return Got::TooLarge(found.len);
         }
         copy_out(&self.ring, found.first, 0, found.len, into);
+        let base = self.base;
         self.marks.consume(&mut self.ring, found.first, found.count);
         self.marks.extend(&self.ring);
         self.marks.settle(&mut self.ring, &mut self.base);
+        let moved = self.base > base;
+        self.next
+            .consume(&self.ring, &self.marks, found.first, found.count, moved);
         Got::Whole(found.len)
     }
 
@@ -158,9 +172,13 @@ impl RcvBuffer {
         }
         let place = (from - self.base) as usize;
         let count = (last - from) as usize + 1;
+        let base = self.base;
         self.marks.consume(&mut self.ring, place, count);
         self.marks.extend(&self.ring);
         self.marks.settle(&mut self.ring, &mut self.base);
+        let moved = self.base > base;
+        self.next
+            .consume(&self.ring, &self.marks, place, count, moved);
     }
 
     /// How many bytes wait to be read.
@@ -174,7 +192,7 @@ impl RcvBuffer {
     pub fn readable(&self) -> bool
         ensures { IsTrue result ↔ IsSome (next_of self.now) }
     {
-        next_message(&self.ring, self.marks.top).is_some()
+        self.next.find(&self.ring, &self.marks).is_some()
     }
 
     /// The first offset that isn't consumed.

@@ -8,6 +8,7 @@ mod head;
 mod laws;
 mod marks;
 mod messages;
+mod next;
 #[cfg(test)]
 mod tests;
 
@@ -15,7 +16,7 @@ pub use answers::Got;
 pub use buffer::RcvBuffer;
 pub use laws::{base_moves, shown_is_whole};
 use std::alloc::AllocError;
-pub use udt_model::{Flags, Placed};
+pub use udt_model::{Flags, Kind, Placed};
 
 /// Memory ran out.
 #[derive(Clone, Copy, Debug, PartialEq, Eq)]

@@ -52,6 +52,7 @@ impl Marks {
         ensures run { EndsRun self.new.run ring.now.list }
         ensures given { self.new.given ≡ self.old.given }
         ensures top { self.new.top ≡ max self.old.top (place + 1) }
+        ensures later { self.old.run ≤ self.new.run }
     {
         self.top = self.top.max(place + 1);
         if self.run == place {
@@ -68,6 +69,7 @@ impl Marks {
         ensures run { EndsRun self.new.run ring.now.list }
         ensures given { self.new.given ≡ self.old.given }
         ensures top { self.new.top ≡ self.old.top }
+        ensures later { self.old.run ≤ self.new.run }
     {
         while self.run < self.top {
             let (head, bytes) = ring.part(self.run);
@@ -120,6 +122,8 @@ impl Marks {
         ensures run { EndsRun self.new.run ring.new.list }
         ensures settled { IsSettled self.new.given ring.new.list }
         ensures limit { base.new + self.new.top ≤ 2 ^ 62 }
+        ensures top { base.new + self.new.top ≡ base.old + self.old.top }
+        ensures same { base.new ≤ base.old → ring.new.list ≡ ring.old.list }
         ensures len { length ring.new.list ≡ length ring.old.list }
         ensures room { ring.new.room ≡ ring.old.room }
     {

@@ -1,9 +1,10 @@
-// Finding the message that is read next: one walk over the parts, from the first to the highest used.
+// Finding whole messages: a walk over the parts, from one on up to the highest used.
 
-ghost use Rattle.std.specs.Prelude.{◌≡◌, ℕ, ◌+◌, ◌^◌, ◌<◌, ◌≤◌, length, drop, All, IfSome, IfNone, None, true, if◌then◌else◌};
-ghost use Rattle.udt_model.specs.ReceiveBlocks.{message_from};
-ghost use Rattle.udt_rcv_buffer.specs.PlacedParts.{placed_from, IsUnused};
-ghost use Rattle.udt_rcv_buffer.specs.Messages.{begins, begun_then, IsFound};
+ghost use Rattle.std.specs.Prelude.{◌≡◌, ◌+◌, ◌^◌, ◌<◌, ◌≤◌, length, drop, All, IsTrue, IfSome, None, false, if◌then◌else◌};
+ghost use Rattle.udt_rcv_buffer.specs.PlacedParts.{IsUnused};
+ghost use Rattle.udt_rcv_buffer.specs.Messages.{begins, begun_then};
+ghost use Rattle.udt_rcv_buffer.specs.Walked.{goes_over as goes_over_of, Breaks, NoneBegins, StartsAt};
+ghost use Rattle.udt_rcv_buffer.specs.Walks.{StopsAt, IsWalk};
 
 use crate::head::Head;
 use udt_ring::Ring;
@@ -62,27 +63,94 @@ fn ended(begun: Option<Begun>, head: Head) -> Option<Begun>
     if head.flags.last { begun } else { None }
 }
 
-/// The message that is read next. No part from the top on is used.
-pub fn next_message(ring: &Ring<Head>, top: usize) -> Option<Found>
+// Whether a message that has a block with the first head goes on with one with the second.
+fn goes_over(before: Head, head: Head) -> bool
+    ensures { result ≡ goes_over_of before head }
+{
+    let ends = !before.used || before.consumed || before.flags.last;
+    !ends && head.used && !head.consumed && head.flags.message == before.flags.message
+}
+
+// Whether no message goes on from the part before this one to it.
+fn breaks(ring: &Ring<Head>, place: usize) -> bool
+    ensures { IsTrue result → Breaks place ring.now.list }
+{
+    if place == 0 || place >= ring.count() {
+        return true;
+    }
+    let (before, _) = ring.part(place - 1);
+    let (head, _) = ring.part(place);
+    !goes_over(before, head)
+}
+
+/// Where the blocks begin that may be of one message with that of a part, and whether one of them up
+/// to that part may be its first.
+pub fn start_of(ring: &Ring<Head>, place: usize) -> (usize, bool)
+    requires { place < length ring.now.list }
+    ensures breaks { Breaks result.0 ring.now.list }
+    ensures before { result.0 ≤ place }
+    ensures none { result.1 ≡ false → NoneBegins result.0 place ring.now.list }
+{
+    let (head, _) = ring.part(place);
+    let mut begins = head.flags.first;
+    let mut start = place;
+    while start > 0 {
+        if breaks(ring, start) {
+            break;
+        }
+        start -= 1;
+        let (earlier, _) = ring.part(start);
+        begins |= earlier.flags.first;
+    }
+    (start, begins)
+}
+
+/// Where a walk may stop: at a place from this one on and below that one, to which no message goes on.
+#[derive(Clone, Copy)]
+pub struct Stop {
+    pub from: usize,
+    pub below: usize,
+}
+
+/// Whether a walk may stop at a place.
+pub fn stops(ring: &Ring<Head>, stop: Stop, place: usize) -> bool
+    ensures { IsTrue result → StopsAt stop place ring.now.list }
+{
+    stop.from <= place && place < stop.below && breaks(ring, place)
+}
+
+/// What a walk over the parts came to: a whole message, a place where it stopped, or the end.
+#[derive(Clone, Copy)]
+pub enum Walk {
+    Whole(Found),
+    Stopped(usize),
+    Over,
+}
+
+/// Walks over the parts from one on, with which no message goes on that begins before it.
+pub fn walk_from(ring: &Ring<Head>, from: usize, gapless: bool, top: usize, stop: Stop) -> Walk
+    requires start { StartsAt from gapless ring.now.list }
+    requires from { from ≤ top }
     requires top { top ≤ length ring.now.list }
     requires unused { All IsUnused (drop top ring.now.list) }
-    ensures some { IfSome result (λ found. IsFound found top ring.now.list) }
-    ensures none { IfNone result
-        ((base : ℕ) → message_from base true (placed_from base ring.now.list) ≡ None) }
+    ensures { IsWalk stop ring.now.list result }
 {
     let mut begun = None;
-    let mut gapless = true;
-    for i in 0..top {
+    let mut gapless = gapless;
+    for i in from..top {
+        if stops(ring, stop, i) {
+            return Walk::Stopped(i);
+        }
         let (head, bytes) = ring.part(i);
         gapless &= head.used;
         begun = go_on(begun, head, i, bytes.len(), gapless);
         if let Some(b) = ended(begun, head) {
-            return Some(Found {
+            return Walk::Whole(Found {
                 first: b.first,
                 count: i + 1 - b.first,
                 len: b.len,
             });
         }
     }
-    None
+    Walk::Over
 }

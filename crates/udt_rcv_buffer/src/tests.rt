@@ -17,7 +17,7 @@ fn draw(state: &mut u64) -> u64 {
 #[test]
 fn a_ring_has_what_a_plain_list_has(rt: HostRuntime) -> Result<(), Fail> {
     let start = 1 << 59;
-    let mut ring = RcvBuffer::new(rt.alloc(), 6, 3, start)?;
+    let mut ring = RcvBuffer::new(rt.alloc(), Kind::Message, 6, 3, start)?;
     let mut plain = Plain::new(rt.alloc(), 6, start);
     let mut state = 11;
     for step in 0..800u32 {
@@ -93,7 +93,7 @@ fn messages_are_shown_whole_and_bytes_in_order(rt: HostRuntime) -> Result<(), Fa
         (104, (false, false, false, 9), b"xy", Got::TooLarge(5)),
         (106, (true, true, false, 5), b"z", Got::TooLarge(5)),
     ];
-    let mut buffer = RcvBuffer::new(rt.alloc(), 8, 9, 100)?;
+    let mut buffer = RcvBuffer::new(rt.alloc(), Kind::Message, 8, 9, 100)?;
     for (offset, (first, last, order, message), bytes, got) in table {
         let base = buffer.base();
         assert!(rt; buffer.free(base) == 8 && bytes.len() <= 9 && !bytes.is_empty());

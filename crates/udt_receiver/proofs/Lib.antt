@@ -2,3 +2,4 @@ mod ListedOffsets
 mod FirstGap
 mod Blocks
 mod Expected
+mod Given

@@ -1,5 +1,7 @@
 -- What ACKs and NAKs name, said without how it is found.
-use Rattle.std.specs.Prelude.{◌≡◌, ℕ, ◌+◌, ◌<◌, ◌≤◌, true, false, List}
+use Rattle.std.specs.Prelude.{◌≡◌, ℕ, ◌+◌, ◌<◌, ◌≤◌, true, false, List, Option, None}
+use Rattle.udt_model.specs.declared.answers.Dropped.{Dropped}
+use Rattle.udt_model.specs.declared.answers.Dropped.TheVariants as dropped
 use Rattle.udt_model.specs.declared.limits.TheConstants.{PACKET_LIMIT, LAST_ACK_NUMBER}
 use Rattle.udt_model.specs.Losses.{LostRange, is_within}
 use Rattle.udt_model.specs.Numbers.{sequence_number}
@@ -14,7 +16,16 @@ pub record IsGap (r : Receiving) (gap : ℕ × ℕ) : Type 0 where
   pub room : gap.1 < r.blocks.base + r.blocks.capacity
   pub limit : gap.1 < PACKET_LIMIT
 
--- everything before this offset has arrived, and the packet with this offset has not
+-- the range with these ends
+abbrev pub range_by : ℕ × ℕ → LostRange
+range_by ends = record { first = ends.0; last = ends.1 }
+
+-- the gap that a message drop request showed
+abbrev pub gap_of : Dropped → Option (ℕ × ℕ)
+gap_of (dropped.Taken gap) = gap
+gap_of dropped.Stale = None
+
+-- everything before this offset has arrived or was dropped by the peer, and the packet with this offset has not
 pub record IsFirstGap (r : Receiving) (offset : ℕ) : Type 0 where
   pub from : r.blocks.base ≤ offset
   pub to : offset ≤ r.top

@@ -1,3 +1,4 @@
 pub mod Half
 pub mod Gaps
 pub mod Kept
+pub mod Shown

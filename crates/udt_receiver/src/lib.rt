@@ -8,7 +8,8 @@ mod tests;
 
 pub use receiver::Receiver;
 use std::alloc::AllocError;
-pub use udt_model::{AckBody, Arrived, Config, Flags, Placed};
+pub use udt_model::{AckBody, Arrived, Config, Dropped, Flags, Placed};
+pub use udt_rcv_buffer::Got;
 pub use udt_rcv_loss::Ranges;
 pub use udt_timing::Rtt;
 

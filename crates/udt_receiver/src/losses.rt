@@ -5,7 +5,7 @@ ghost use Rattle.udt_model.specs.declared.limits.TheConstants.{PACKET_LIMIT};
 ghost use Rattle.udt_model.specs.ReceiveHalf.{gap_before};
 ghost use Rattle.udt_model.specs.ReceiveReports.{least_missing};
 ghost use Rattle.udt_rcv_loss.specs.Absent.{AllBelow, IsInWindow, first_or};
-ghost use Rattle.udt_model.specs.ReceiveOrder.{missing_then};
+ghost use Rattle.udt_model.specs.ReceiveOrder.{missing_then, missing_past};
 
 use udt_rcv_loss::RcvLoss;
 
@@ -36,6 +36,34 @@ pub(crate) fn note_placed(
     }
     lost.add(from, offset - 1, now);
     Some((from, offset - 1))
+}
+
+/// Takes the offsets of a range out of the missing ones, or adds those before it that it shows to be
+/// missing, and moves the top past it. Gives the first and the last offset that were added.
+pub(crate) fn note_taken(
+    lost: &mut RcvLoss,
+    top: &mut u64,
+    first: u64,
+    last: u64,
+    now: u64,
+) -> Option<(u64, u64)>
+    requires above { AllBelow top.old lost.old.missing }
+    requires order { first ≤ last }
+    requires room { first < first_or top.old lost.old.missing + lost.old.window }
+    requires limit { last < PACKET_LIMIT }
+    ensures value { result ≡ gap_before top.old first }
+    ensures next { lost.new
+        ≡ record lost.old { missing = missing_past top.old now first last lost.old.missing } }
+    ensures top { top.new ≡ max top.old (last + 1) }
+{
+    let from = *top;
+    *top = from.max(last + 1);
+    if from < first {
+        lost.add(from, first - 1, now);
+        return Some((from, first - 1));
+    }
+    lost.remove_range(first, last);
+    None
 }
 
 /// The least offset that is missing, or the top.

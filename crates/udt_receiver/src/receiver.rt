@@ -1,37 +1,39 @@
 // The receiving half: where a block is placed, what is missing then, and which ACKs and NAKs are due.
 
-ghost use Rattle.std.specs.Prelude.{◌≡◌, ◌+◌, ◌*◌, ◌^◌, ◌<◌, ◌≤◌, ◌++◌, min, length, take, drop, false, IfOk, IfSome, Option, None};
+ghost use Rattle.std.specs.Prelude.{◌≡◌, ◌+◌, ◌*◌, ◌^◌, ◌<◌, ◌≤◌, ◌++◌, min, length, take, drop, false, IfOk, IfSome, IsSome, IsTrue, ◌↔◌, Option, None, option_map};
 ghost use Rattle.std.specs.Option.{is_some};
 ghost use Rattle.udt_model.specs.declared.limits.TheConstants.{PACKET_LIMIT, LAST_ACK_NUMBER, LAST_MOMENT, SYN, GREATEST_RTT};
 ghost use Rattle.udt_model.specs.Numbers.{near as near_in};
-ghost use Rattle.udt_model.specs.ReceiveBlocks.{waiting_of};
-ghost use Rattle.udt_model.specs.ReceiveHalf.{idle_receiving, linked_receiving, measured, within_limit, after_block, block_answer, after_receive};
+ghost use Rattle.udt_model.specs.ReceiveBlocks.{waiting_of, next_message, after_read_message};
+ghost use Rattle.udt_rcv_buffer.specs.Answers.{got_of, shown_in};
+ghost use Rattle.udt_model.specs.ReceiveHalf.{idle_receiving, linked_receiving, measured, within_limit, after_block, block_answer, after_receive, drop_range as taken_range, after_drop, drop_answer};
 ghost use Rattle.udt_model.specs.ReceiveReports.{ack_offset as first_gap, number_after as next_number, is_just_acked as just_acked, after_ack_timer, ack_answer, light_ack as light_ack_of, after_ack2, round_trip_to, nak_words, nak_report, after_nak_timer};
 ghost use Rattle.udt_model.specs.Timing.{last_under};
 ghost use Rattle.udt_packet.specs.Packets.{acked};
 ghost use Rattle.udt_rcv_loss.specs.Reports.{words_of, RangesRise};
 ghost use Rattle.udt_timing.specs.RoundTrips.{round_trip_of};
-ghost use Rattle.udt_receiver.specs.Gaps.{IsGap, IsFirstGap, Acknowledges, IsAckNumber, AreLost};
+ghost use Rattle.udt_receiver.specs.Gaps.{IsGap, IsFirstGap, Acknowledges, IsAckNumber, AreLost, range_by, gap_of};
 ghost use Rattle.udt_receiver.specs.Kept.{KeepsTerms};
+ghost use Rattle.udt_receiver.specs.Shown.{IfWhole, UnlessWhole};
 
 use crate::OutOfMemory;
-use crate::losses::{least, note_placed};
+use crate::losses::{least, note_placed, note_taken};
 use std::alloc::Global;
 use std::marker::Model;
 use udt_model::{
-    AckBody, Arrived, Config, FEWEST_BLOCKS, Flags, LAST_ACK_NUMBER, LIGHT_ACK_COUNT, PACKET_LIMIT,
-    PROBE_INTERVAL, Placed, SYN, SentAck,
+    AckBody, Arrived, Config, Dropped, FEWEST_BLOCKS, Flags, LAST_ACK_NUMBER, LIGHT_ACK_COUNT,
+    PACKET_LIMIT, PROBE_INTERVAL, Placed, SYN, SentAck,
 };
 use udt_packet::{near, seq_of};
-use udt_rcv_buffer::RcvBuffer;
+use udt_rcv_buffer::{Got, RcvBuffer};
 use udt_rcv_loss::{Ranges, RcvLoss};
 use udt_timing::{AckWindow, Rtt, Samples};
 
 /// The receiving half of a socket. It takes all its memory at once.
 ///
-/// `link` comes before the first packet. A data packet goes to `on_block`, an ACK2 to `on_ack2`, and
-/// `tick_ack` and `tick_nak` are called when `ack_due` and `nak_due` are reached; these give what is to be
-/// sent. The application calls `recv`.
+/// `link` comes before the first packet. A data packet goes to `on_block`, a message drop request to
+/// `on_drop`, an ACK2 to `on_ack2`, and `tick_ack` and `tick_nak` are called when `ack_due` and `nak_due`
+/// are reached; these give what is to be sent. The application calls `recv`, or `recv_message`.
 #[derive(Drop)]
 pub struct Receiver {
     isn: u32,
@@ -72,7 +74,7 @@ impl Receiver {
         requires { start ≤ PACKET_LIMIT }
         ensures { IfOk result (λ half. half ≡ idle_receiving config.now start) }
     {
-        let buffer = RcvBuffer::new(alloc, config.rcv_blocks, config.payload, start)?;
+        let buffer = RcvBuffer::new(alloc, config.kind, config.rcv_blocks, config.payload, start)?;
         let lost = RcvLoss::new(alloc, config.rcv_blocks)?;
         let arrivals = Samples::new(alloc)?;
         let pairs = Samples::new(alloc)?;
@@ -188,6 +190,28 @@ impl Receiver {
         self.buffer.read(into)
     }
 
+    /// Gives the next message that can be read, where there is room for it.
+    pub fn recv_message(&mut self, into: &mut [u8]) -> Got
+        ensures value { result ≡ got_of (length into.old) (next_message self.old.blocks) }
+        ensures into { into.new ≡ shown_in into.old (next_message self.old.blocks) }
+        ensures next { self.new ≡ record self.old
+            { blocks = after_read_message self.old.blocks (length into.old) } }
+        ensures within { IfWhole result (λ count. count ≤ length into.old) }
+        ensures rest { IfWhole result (λ count. drop count into.new ≡ drop count into.old) }
+        ensures none { UnlessWhole result (into.new ≡ into.old) }
+        ensures stays { UnlessWhole result (self.new ≡ self.old) }
+        ensures kept { KeepsTerms self.old self.new }
+    {
+        self.buffer.read_message(into)
+    }
+
+    /// Whether a message can be read.
+    pub fn readable(&self) -> bool
+        ensures { IsTrue result ↔ IsSome (next_message self.now.blocks) }
+    {
+        self.buffer.readable()
+    }
+
     // ---- the network
 
     /// Takes in the block of a data packet. The gap is to be reported at once.
@@ -216,6 +240,43 @@ impl Receiver {
             gap,
             light,
         }
+    }
+
+    /// Takes the offsets of a message that the peer no longer sends, by its first and its last sequence
+    /// number: those that aren't consumed are consumed now. The gap is to be reported at once.
+    #[tactic(auto, unfolding(udt_model::specs::ReceiveHalf::after_drop, udt_model::specs::ReceiveHalf::drop_answer))]
+    pub fn on_drop(&mut self, now: u64, first: u32, last: u32) -> Dropped
+        ensures value { result ≡ drop_answer self.old first last }
+        ensures next { self.new ≡ after_drop self.old now first last }
+        ensures gap { IfSome (gap_of result) (IsGap self.old) }
+        ensures stale { result ≡ Dropped.Stale → self.new ≡ self.old }
+        ensures kept { KeepsTerms self.old self.new }
+    {
+        let Some((first, last)) = self.drop_range(first, last) else {
+            return Dropped::Stale;
+        };
+        self.buffer.skip(first, last);
+        let gap = note_taken(&mut self.lost, &mut self.top, first, last, now);
+        Dropped::Taken { gap }
+    }
+
+    // The first and the last of the offsets that a message drop request takes.
+    #[tactic(auto, unfolding(udt_model::specs::ReceiveHalf::drop_range))]
+    fn drop_range(&self, first: u32, last: u32) -> Option<(u64, u64)>
+        ensures value { option_map range_by result ≡ taken_range self.now first last }
+        ensures order { IfSome result (λ ends. ends.0 ≤ ends.1) }
+        ensures base { IfSome result (λ ends. self.now.blocks.base ≤ ends.1) }
+        ensures room { IfSome result (λ ends. ends.1 < self.now.blocks.base + self.now.blocks.capacity) }
+        ensures limit { IfSome result (λ ends. ends.1 < PACKET_LIMIT) }
+    {
+        let first = near(self.isn, self.top, first)?;
+        let last = near(self.isn, self.top, last)?;
+        let base = self.buffer.base();
+        let end = base + self.buffer.free(base);
+        if first <= last && base <= last && last < end && last < PACKET_LIMIT {
+            return Some((first, last));
+        }
+        None
     }
 
     // takes in the moment of a data packet

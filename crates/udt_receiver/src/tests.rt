@@ -103,6 +103,73 @@ fn bytes_are_received_up_to_the_first_gap(rt: HostRuntime) -> Result<(), Fail> {
 }
 
 #[test]
+fn drop_requests_take_offsets_that_have_room(rt: HostRuntime) -> Result<(), Fail> {
+    let mut half = half_of(rt.alloc(), 4, 10)?;
+    arrive(&mut half, 0, 10);
+    arrive(&mut half, 0, 12);
+    // a message is read, the other one waits for offset 1, and there is room for the offsets 1 to 4
+    assert_eq!(rt; half.recv_message(&mut [0; 4]), Got::Whole(4));
+    let rows = [
+        // below the base, up to an offset that has no room, and from the last to the first
+        (10, 10, Dropped::Stale, false, 1),
+        (14, 15, Dropped::Stale, false, 1),
+        (12, 11, Dropped::Stale, false, 1),
+        // offset 4 shows that 3 is missing
+        (14, 14, Dropped::Taken { gap: Some((3, 3)) }, false, 1),
+        // offset 1 needn't come, so the message behind it can be read
+        (11, 11, Dropped::Taken { gap: None }, true, 3),
+        (11, 11, Dropped::Stale, true, 3),
+    ];
+    for (first, last, dropped, readable, ack) in rows {
+        assert_eq!(rt; half.on_drop(0, first, last), dropped, "{first} to {last}");
+        assert_eq!(rt;
+            (half.readable(), half.ack_offset()),
+            (readable, ack),
+            "after {first} to {last}"
+        );
+    }
+    assert_eq!(rt; read(&mut half, 8), (Got::Whole(4), *b"data\0\0\0\0"));
+    assert_eq!(rt; half.base(), 3);
+    Ok(())
+}
+
+// the message that is read into so much room, with its bytes
+fn read(half: &mut Receiver, room: usize) -> (Got, [u8; 8])
+    requires { room ≤ 8 }
+    ensures { KeepsTerms half.old half.new }
+{
+    let mut into = [0; 8];
+    let got = half.recv_message(&mut into[..room]);
+    (got, into)
+}
+
+#[test]
+fn messages_are_received_whole(rt: HostRuntime) -> Result<(), Fail> {
+    let mut half = half_of(rt.alloc(), 4, 0)?;
+    let rows = [
+        // the second block of the first message has not arrived yet
+        (0, true, false, *b"data", 8, Got::Nothing, [0; 8]),
+        // a message that has no room stays
+        (1, false, true, *b"ends", 7, Got::TooLarge(8), [0; 8]),
+        (2, true, true, *b"more", 8, Got::Whole(8), *b"dataends"),
+        // nothing new arrives
+        (2, true, true, *b"more", 4, Got::Whole(4), *b"more\0\0\0\0"),
+        (2, true, true, *b"more", 8, Got::Nothing, [0; 8]),
+    ];
+    for (seq, first, last, bytes, room, got, into) in rows {
+        let flags = Flags {
+            first,
+            last,
+            order: true,
+            message: 1,
+        };
+        half.on_block(0, seq, flags, &bytes);
+        assert_eq!(rt; read(&mut half, room), (got, into), "after block {seq}");
+    }
+    Ok(())
+}
+
+#[test]
 fn each_64th_block_asks_for_a_light_ack(rt: HostRuntime) -> Result<(), Fail> {
     let mut half = half_of(rt.alloc(), 256, 100)?;
     for seq in 100..163u32 {

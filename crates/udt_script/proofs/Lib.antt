@@ -1,2 +1,3 @@
 mod Splits
 mod HexPairs
+mod PairLines

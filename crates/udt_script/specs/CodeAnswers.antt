@@ -15,6 +15,8 @@ read_of (Err why) = Err why
 abbrev pub reply_of : Reply → model.Reply
 reply_of (code.Sent answer) = model.Sent answer
 reply_of (code.Received answer) = model.Received (read_of answer)
+reply_of (code.SentMessage answer) = model.SentMessage answer
+reply_of (code.ReceivedMessage answer) = model.ReceivedMessage (read_of answer)
 reply_of (code.Packed answer) = model.DidPack answer
 reply_of code.Ticked = model.DidTick
 reply_of code.Closed = model.DidClose

@@ -1,7 +1,7 @@
 -- The code's lines, as the definitions of the script language see them.
 use Rattle.std.specs.Prelude.{◌≤◌, ◌<◌, ◌^◌}
 use Rattle.udt_model.specs.declared.limits.TheConstants.{MOST_PAYLOAD, FEWEST_BLOCKS, MOST_BLOCKS, LAST_START, LAST_MOMENT}
-use Rattle.udt_model.specs.Events.{Act, Send, Recv, Pack, Tick, Close, Measure, event}
+use Rattle.udt_model.specs.Events.{Act, Send, Recv, SendMessage, RecvMessage, Pack, Tick, Close, Measure, event}
 use Rattle.udt_model.specs.Network.{ScriptDatagram as ModelDatagram}
 use Rattle.udt_model.specs.Lines as model
 use Rattle.udt_script.specs.declared.lines.Call.{Call}
@@ -14,6 +14,7 @@ use Rattle.udt_script.specs.declared.lines.ScriptDatagram.{ScriptDatagram}
 -- a pairing without where its names lie in memory
 abbrev pub pairing_of : Pairing → model.Pairing
 pairing_of p = record {
+  kind = p.kind;
   a = p.a.now;
   b = p.b.now;
   payload = p.payload;
@@ -30,6 +31,8 @@ datagram_of datagram = record { from = datagram.from; to = datagram.to; bytes = 
 abbrev pub act_of : Call → Act
 act_of (code_call.Send bytes) = Send bytes.items
 act_of (code_call.Recv room) = Recv room
+act_of (code_call.SendMessage ttl order bytes) = SendMessage ttl order bytes.items
+act_of (code_call.RecvMessage room) = RecvMessage room
 act_of code_call.Pack = Pack
 act_of code_call.Tick = Tick
 act_of code_call.Close = Close
@@ -56,6 +59,8 @@ pub record IsPairable (p : Pairing) : Type 0 where
 abbrev pub IsRoomy : Call → Type 0
 IsRoomy (code_call.Send bytes) = Unit {0}
 IsRoomy (code_call.Recv room) = room ≤ 65536
+IsRoomy (code_call.SendMessage ttl order bytes) = Unit {0}
+IsRoomy (code_call.RecvMessage room) = room ≤ 65536
 IsRoomy code_call.Pack = Unit {0}
 IsRoomy code_call.Tick = Unit {0}
 IsRoomy code_call.Close = Unit {0}

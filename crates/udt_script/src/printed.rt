@@ -37,6 +37,19 @@ pub fn print_reply(out: &mut Vec<u8>, name: &[u8], reply: &Reply) -> Result<(), 
             append(out, &[b"\n"])
         }
         Reply::Received(Err(why)) => append_event(out, name, b"recv ", no_text(*why)),
+        Reply::SentMessage(Ok(count)) => append_event(
+            out,
+            name,
+            b"sendmsg ",
+            buffer.format(*count).as_bytes(),
+        ),
+        Reply::SentMessage(Err(why)) => append_event(out, name, b"sendmsg ", no_text(*why)),
+        Reply::ReceivedMessage(Ok(bytes)) => {
+            append(out, &[name, b" recvmsg "])?;
+            append_hex(out, bytes)?;
+            append(out, &[b"\n"])
+        }
+        Reply::ReceivedMessage(Err(why)) => append_event(out, name, b"recvmsg ", no_text(*why)),
         Reply::Packed(Packed::Block(_)) => append_event(out, name, b"pack ", b"data"),
         Reply::Packed(Packed::DropAsk(_)) => append_event(out, name, b"pack ", b"drop"),
         Reply::Packed(Packed::NotYet(until)) => {

@@ -7,7 +7,7 @@ ghost use Rattle.udt_script.specs.CodeLines.{act_of, line_of, IsRoomy, IsInRange
 use crate::lines::{Call, Line, Pairing, ScriptDatagram};
 use crate::words::{bytes, name, words};
 use std::alloc::{AllocError, Global};
-use udt_model::{FEWEST_BLOCKS, LAST_MOMENT, LAST_START, MOST_BLOCKS, MOST_PAYLOAD};
+use udt_model::{FEWEST_BLOCKS, Kind, LAST_MOMENT, LAST_START, MOST_BLOCKS, MOST_PAYLOAD};
 use udt_outside::{read_addr, read_number};
 
 fn is_silent(line: &[u8]) -> bool
@@ -27,7 +27,21 @@ fn moment(word: &[u8]) -> Option<u64>
     read_number(0, LAST_MOMENT, word)
 }
 
+// What the sockets of a pair carry.
+fn kind(word: &[u8]) -> Option<Kind>
+    ensures { result ≡ spec.kind_of word.now }
+{
+    if word == b"stream".as_slice() {
+        Some(Kind::Stream)
+    } else if word == b"message".as_slice() {
+        Some(Kind::Message)
+    } else {
+        None
+    }
+}
+
 fn pairing<'a>(
+    carries: &[u8],
     a: &'a [u8],
     b: &'a [u8],
     payload: &[u8],
@@ -37,15 +51,17 @@ fn pairing<'a>(
 ) -> Option<Line<'a>>
     requires { start ≤ LAST_START }
     ensures value { option_map line_of result
-        ≡ spec.pairing_of a.now b.now payload.now isn.now blocks.now start }
+        ≡ spec.pairing_of carries.now a.now b.now payload.now isn.now blocks.now start }
     ensures within { IfSome result IsInRange }
 {
+    let kind = kind(carries)?;
     let a = name(a)?;
     let b = name(b)?;
     let payload = read_number(1, MOST_PAYLOAD as u64, payload)? as u32;
     let isn = read_number(0, (1 << 31) - 1, isn)? as u32;
     let blocks = read_number(FEWEST_BLOCKS as u64, MOST_BLOCKS as u64, blocks)? as u32;
     Some(Line::Pair(Pairing {
+        kind,
         a,
         b,
         payload,
@@ -56,15 +72,15 @@ fn pairing<'a>(
 }
 
 #[tactic(auto, unfolding(udt_model::specs::Lines::pair_line))]
-fn pair_line<'a>(words: &[&'a [u8]]) -> Option<Line<'a>>
-    ensures value { option_map line_of result ≡ spec.pair_line (map (λ word. word.now) words.now) }
+fn pair_line<'a>(kind: &[u8], words: &[&'a [u8]]) -> Option<Line<'a>>
+    ensures value { option_map line_of result ≡ spec.pair_line kind.now (map (λ word. word.now) words.now) }
     ensures within { IfSome result IsInRange }
 {
     match words {
-        [a, b, payload, isn, blocks] => pairing(a, b, payload, isn, blocks, 0),
+        [a, b, payload, isn, blocks] => pairing(kind, a, b, payload, isn, blocks, 0),
         [a, b, payload, isn, blocks, start] => {
             let start = read_number(0, LAST_START, start)?;
-            pairing(a, b, payload, isn, blocks, start)
+            pairing(kind, a, b, payload, isn, blocks, start)
         }
         _ => None,
     }
@@ -104,6 +120,54 @@ fn recv_of(words: &[&[u8]]) -> Option<Call>
     Some(Call::Recv(room))
 }
 
+// A time to live, or a dash for none.
+fn ttl(word: &[u8]) -> Option<Option<u64>>
+    ensures { result ≡ spec.ttl_of word.now }
+{
+    if word == b"-".as_slice() {
+        return Some(None);
+    }
+    Some(Some(moment(word)?))
+}
+
+// 1 for a message that must be delivered in order, 0 for another.
+fn order(word: &[u8]) -> Option<bool>
+    ensures { result ≡ spec.order_of word.now }
+{
+    Some(read_number(0, 1, word)? == 1)
+}
+
+fn sendmsg_of(alloc: Global, words: &[&[u8]]) -> Result<Option<Call>, AllocError>
+    ensures value { IfOk result (λ found. option_map act_of found
+        ≡ spec.sendmsg_of (map (λ word. word.now) words.now)) }
+    ensures within { IfOk result (λ found. IfSome found IsRoomy) }
+{
+    let [ttl_word, order_word, word] = words else {
+        return Ok(None);
+    };
+    let Some(ttl) = ttl(ttl_word) else {
+        return Ok(None);
+    };
+    let Some(order) = order(order_word) else {
+        return Ok(None);
+    };
+    let Some(bytes) = bytes(alloc, word)? else {
+        return Ok(None);
+    };
+    Ok(Some(Call::SendMessage { ttl, order, bytes }))
+}
+
+fn recvmsg_of(words: &[&[u8]]) -> Option<Call>
+    ensures value { option_map act_of result ≡ spec.recvmsg_of (map (λ word. word.now) words.now) }
+    ensures within { IfSome result IsRoomy }
+{
+    let [room] = words else {
+        return None;
+    };
+    let room = read_number(0, 65_536, room)? as u32;
+    Some(Call::RecvMessage(room))
+}
+
 // The call with this name, by the words after its moment.
 #[tactic(auto, unfolding(udt_model::specs::Lines::call_of))]
 fn call_of(alloc: Global, name: &[u8], words: &[&[u8]]) -> Result<Option<Call>, AllocError>
@@ -114,8 +178,13 @@ fn call_of(alloc: Global, name: &[u8], words: &[&[u8]]) -> Result<Option<Call>, 
     if name == b"send".as_slice() {
         return send_of(alloc, words);
     }
+    if name == b"sendmsg".as_slice() {
+        return sendmsg_of(alloc, words);
+    }
     Ok(if name == b"recv".as_slice() {
         recv_of(words)
+    } else if name == b"recvmsg".as_slice() {
+        recvmsg_of(words)
     } else if name == b"pack".as_slice() {
         alone(Call::Pack, words)
     } else if name == b"tick".as_slice() {
@@ -203,6 +272,8 @@ fn is_call(word: &[u8]) -> bool
 {
     word == b"send".as_slice()
         || word == b"recv".as_slice()
+        || word == b"sendmsg".as_slice()
+        || word == b"recvmsg".as_slice()
         || word == b"pack".as_slice()
         || word == b"tick".as_slice()
         || word == b"close".as_slice()
@@ -227,8 +298,8 @@ fn line_by_words<'a>(alloc: Global, words: &[&'a [u8]]) -> Result<Option<Line<'a
         deliver_line(second, others)
     } else if *first == b"raw".as_slice() {
         raw_line(alloc, second, others)?
-    } else if *first == b"pair".as_slice() && *second == b"stream".as_slice() {
-        pair_line(others)
+    } else if *first == b"pair".as_slice() {
+        pair_line(second, others)
     } else {
         None
     })

@@ -6,12 +6,13 @@ use crate::{
 };
 use std::alloc::AllocError;
 use std::process::Abort;
-use udt_model::{Addr, Cause, Heard, Ip, Malformed, Packed, Refusal};
+use udt_model::{Addr, Cause, Heard, Ip, Kind, Malformed, Packed, Refusal};
 
 #[test]
 fn reads_each_form(rt: HostRuntime) {
     let alloc = rt.alloc();
     let pairing = Pairing {
+        kind: Kind::Stream,
         a: b"a",
         b: b"b2",
         payload: 8956,
@@ -23,17 +24,25 @@ fn reads_each_form(rt: HostRuntime) {
         start: 576_460_752_303_423_488,
         ..pairing
     };
+    let of_messages = Pairing {
+        kind: Kind::Message,
+        ..pairing
+    };
     let host = Addr {
         ip: Ip::V4(0x0a00_0001),
         port: 9000,
     };
-    let lines: [(&[u8], Line); 13] = [
+    let lines: [(&[u8], Line); 18] = [
         (b"", Line::Silent),
         (b"# pair", Line::Silent),
         (b"pair stream a b2 8956 2147483647 2", Line::Pair(pairing)),
         (
             b"pair stream a b2 8956 2147483647 2 576460752303423488",
             Line::Pair(late),
+        ),
+        (
+            b"pair message a b2 8956 2147483647 2",
+            Line::Pair(of_messages),
         ),
         (
             b"deliver 18446744073709551615 0",
@@ -112,6 +121,50 @@ fn reads_each_form(rt: HostRuntime) {
                 call: Call::Send(Vec::from_slice(alloc, b"\x00\xffhello").expect(&rt, "memory")),
             },
         ),
+        (
+            b"a sendmsg 7 - 0 68656c6c6f",
+            Line::Call {
+                name: b"a",
+                now: 7,
+                call: Call::SendMessage {
+                    ttl: None,
+                    order: false,
+                    bytes: Vec::from_slice(alloc, b"hello").expect(&rt, "memory"),
+                },
+            },
+        ),
+        (
+            b"a sendmsg 7 9007199254740991 1 -",
+            Line::Call {
+                name: b"a",
+                now: 7,
+                call: Call::SendMessage {
+                    ttl: Some(9_007_199_254_740_991),
+                    order: true,
+                    bytes: Vec::new(alloc),
+                },
+            },
+        ),
+        (
+            b"message sendmsg 0 0 0 -",
+            Line::Call {
+                name: b"message",
+                now: 0,
+                call: Call::SendMessage {
+                    ttl: Some(0),
+                    order: false,
+                    bytes: Vec::new(alloc),
+                },
+            },
+        ),
+        (
+            b"a recvmsg 10 65536",
+            Line::Call {
+                name: b"a",
+                now: 10,
+                call: Call::RecvMessage(65_536),
+            },
+        ),
     ];
     for (text, line) in lines {
         let read = read_line(alloc, text).expect(&rt, "memory");
@@ -121,7 +174,7 @@ fn reads_each_form(rt: HostRuntime) {
 
 #[test]
 fn refuses_what_is_of_no_form(rt: HostRuntime) {
-    let lines: [&[u8]; 31] = [
+    let lines: [&[u8]; 41] = [
         b" ",
         b"a",
         b"a  pack 7",
@@ -152,7 +205,17 @@ fn refuses_what_is_of_no_form(rt: HostRuntime) {
         b"pair stream a b 4 5 1",
         b"pair stream a b 4 5 65537",
         b"pair stream a b 4 5 4 576460752303423489",
-        b"pair message a b 4 5 4",
+        b"pair messages a b 4 5 4",
+        b"pair Message a b 4 5 4",
+        b"pair a b 4 5 4",
+        b"a sendmsg 7 - 2 00",
+        b"a sendmsg 7 - 01 00",
+        b"a sendmsg 7 9007199254740992 0 00",
+        b"a sendmsg 7 -- 0 00",
+        b"a sendmsg 7 - 00",
+        b"a sendmsg 7 - 0",
+        b"a sendmsg 9007199254740992 - 0 00",
+        b"a recvmsg 7 65537",
     ];
     for text in lines {
         let read = read_line(rt.alloc(), text).expect(&rt, "memory");
@@ -177,7 +240,8 @@ fn prints_answers(rt: HostRuntime) {
     let alloc = rt.alloc();
     let mut out = Vec::from_slice(alloc, b"so far\n").expect(&rt, "memory");
     let hello = Vec::from_slice(alloc, b"hello").expect(&rt, "memory");
-    let replies: [(Reply, &[u8]); 17] = [
+    let message = Vec::from_slice(alloc, b"m2").expect(&rt, "memory");
+    let replies: [(Reply, &[u8]); 25] = [
         (Reply::Sent(Ok(5)), b"a send 5\n"),
         (Reply::Sent(Err(Refusal::AgainSend)), b"a send again\n"),
         (Reply::Sent(Err(Refusal::Spent)), b"a send refused 9001\n"),
@@ -191,6 +255,32 @@ fn prints_answers(rt: HostRuntime) {
         (
             Reply::Received(Err(Refusal::NotConnected)),
             b"a recv refused 2002\n",
+        ),
+        (Reply::SentMessage(Ok(12)), b"a sendmsg 12\n"),
+        (
+            Reply::SentMessage(Err(Refusal::AgainSend)),
+            b"a sendmsg again\n",
+        ),
+        (
+            Reply::SentMessage(Err(Refusal::StreamOnly)),
+            b"a sendmsg refused 5009\n",
+        ),
+        (
+            Reply::SentMessage(Err(Refusal::TooLarge)),
+            b"a sendmsg refused 5012\n",
+        ),
+        (Reply::ReceivedMessage(Ok(message)), b"a recvmsg 6d32\n"),
+        (
+            Reply::ReceivedMessage(Ok(Vec::new(alloc))),
+            b"a recvmsg -\n",
+        ),
+        (
+            Reply::ReceivedMessage(Err(Refusal::AgainRecv)),
+            b"a recvmsg again\n",
+        ),
+        (
+            Reply::Sent(Err(Refusal::MessageOnly)),
+            b"a send refused 5010\n",
         ),
         (Reply::Packed(Packed::Block(21)), b"a pack data\n"),
         (Reply::Packed(Packed::DropAsk(24)), b"a pack drop\n"),
@@ -215,6 +305,7 @@ fn prints_answers(rt: HostRuntime) {
 fn prints_the_other_lines(rt: HostRuntime) {
     let mut out = Vec::from_slice(rt.alloc(), b"so far\n").expect(&rt, "memory");
     let pairing = Pairing {
+        kind: Kind::Stream,
         a: b"left",
         b: b"right",
         payload: 4,

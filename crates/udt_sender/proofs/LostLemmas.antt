@@ -1,12 +1,12 @@
 -- Lost offsets: all rise, and lie where something is in flight.
 use Rattle.std.proofs.Common.{◌≡◌, ℕ, zero, suc, ◌+◌, ◌-◌, ◌<◌, ◌≤◌, List, [], ◌∷◌, ◌++◌, length, drop, Some, append_assoc, refl, ap, arith, inl, inr}
-use Rattle.std.specs.Prelude.{nat_lt}
+use Rattle.std.specs.Prelude.{nat_lt, ◌||◌}
 use Rattle.std.specs.List.{filter, range_with_len}
 use Rattle.std.proofs.lemmas.Bool.{cases_lt, lt-ltb, le-ltb}
-use Rattle.udt_model.specs.Losses.{with_range}
+use Rattle.udt_model.specs.Losses.{with_range, without_range}
 use Rattle.udt_model.specs.SendBlocks.{KeptBlock, SendBlocks, end_of, kept_at}
 use Rattle.udt_ranges.specs.Offsets.{Rising, least}
-use Rattle.udt_ranges.proofs.OffsetLemmas.{Rising-lower, Rising-filter}
+use Rattle.udt_ranges.proofs.OffsetLemmas.{Rising-lower, Rising-higher, Rising-filter}
 use Rattle.udt_sender.proofs.BlockLemmas.{kept_is}
 
 -- the others rise without the first
@@ -62,6 +62,18 @@ Rising-with_range low high from to lost first order last rise =
     let whole : Rising low high (below ++ (between ++ above)) =
     Rising-append low from high below (between ++ above) first (omega arith) (Rising-below from low high lost rise) upper in
     rw (append_assoc below between above) whole
+
+-- without a range it rises still, and the range may go on above it
+pub Rising-without_range : (low high higher from to : ℕ) (lost : List ℕ) → high ≤ higher → Rising low high lost → Rising low higher (without_range from to lost)
+unfolding without_range
+Rising-without_range low high higher from to lost up rise =
+    Rising-higher low high higher _ up (Rising-filter (λ n. nat_lt n from || nat_lt to n) low high lost rise)
+
+-- where the least offset lies in the range, it may be taken out before
+pub without_range-least : (from to offset : ℕ) (lost others : List ℕ) → lost ≡ offset ∷ others → from ≤ offset → offset ≤ to
+    → without_range from to (drop 1 lost) ≡ without_range from to lost
+unfolding without_range
+without_range-least from to offset lost others is low high = rw (is, le-ltb offset from low, le-ltb to offset high) refl
 
 -- ---- the least one
 

@@ -4,6 +4,7 @@ use Rattle.udt_model.specs.declared.limits.TheConstants.{PACKET_LIMIT, LAST_MESS
 use Rattle.udt_model.specs.SendBlocks.{end_of}
 use Rattle.udt_model.specs.SendHalf.{Sending}
 use Rattle.udt_ranges.specs.Offsets.{Rising}
+use Rattle.udt_sender.specs.Messages.{LieInMessages}
 use Rattle.udt_sender.specs.Packets.{IsSound}
 use Rattle.udt_sender.specs.declared.sender.Sender.TheInside.{Inside}
 
@@ -21,7 +22,8 @@ sending_of s = record {
   control = s.control;
 }
 
--- each kept block can be sent, offsets stand in order, and what is lost was sent and isn't acknowledged
+-- each kept block can be sent and lies in its message, which is kept to its end; offsets stand in order, and what is lost was
+-- sent and isn't acknowledged
 pub record IsSender {C : Type 0} (s : Inside C) : Type 0 where
   pub isn : s.isn < 2 ^ 31
   pub payload : 0 < s.buffer.payload
@@ -30,6 +32,7 @@ pub record IsSender {C : Type 0} (s : Inside C) : Type 0 where
   pub blocks : s.buffer.blocks ≤ MOST_BLOCKS
   pub kept : length s.buffer.kept ≤ s.buffer.blocks
   pub sound : All (IsSound s.buffer.payload) s.buffer.kept
+  pub messages : LieInMessages (end_of s.buffer) s.buffer.first s.buffer.kept
   pub sent : s.buffer.first ≤ s.next
   pub unsent : s.next ≤ end_of s.buffer
   pub within : end_of s.buffer ≤ PACKET_LIMIT

@@ -1,3 +1,4 @@
 pub mod Packets
+pub mod Messages
 pub mod Reports
 pub mod Halves

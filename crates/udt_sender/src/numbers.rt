@@ -23,6 +23,26 @@ pub fn message_after(message: u32) -> u32
     }
 }
 
+/// The moment after which a message isn't retransmitted, in microseconds, where it has a time to live.
+pub fn expiry_of(now: u64, ttl: Option<u64>) -> Option<u64>
+    ensures { result ≡ half.expiry_of now ttl }
+{
+    match ttl {
+        None => None,
+        Some(time) => Some(now.saturating_add(time)),
+    }
+}
+
+/// The moment has passed, where there is one.
+pub fn has_passed(now: u64, moment: Option<u64>) -> bool
+    ensures { result ≡ half.has_passed now moment }
+{
+    match moment {
+        None => false,
+        Some(moment) => moment < now,
+    }
+}
+
 /// How many blocks of the peer a half counts on.
 pub fn clamped(flow: u32) -> u32
     ensures value { result ≡ half.clamped flow }

@@ -10,7 +10,7 @@ mod reports;
 
 use crate::OutOfMemory;
 use crate::control::{period_of, window_of};
-use crate::numbers::{clamped, message_after};
+use crate::numbers::{clamped, expiry_of, message_after};
 use std::alloc::Global;
 use std::marker::Model;
 use udt_model::{Config, FEWEST_BLOCKS, PACKET_LIMIT, SIZE_OVER_PAYLOAD, SendNo};
@@ -53,7 +53,7 @@ impl<C> Model for Sender<C> {
 impl<C: Control> Sender<C> {
     /// A half that has no connection yet, with all the memory that it will ever have. The first block
     /// will have the offset `start`.
-    #[tactic(auto, unfolding(udt_model::specs::Losses::from_offset, udt_ranges::specs::Offsets::Rising))]
+    #[tactic(auto, unfolding(udt_model::specs::Losses::from_offset, udt_ranges::specs::Offsets::Rising, crate::specs::Messages::LieInMessages))]
     pub fn new(alloc: Global, config: &Config, start: u64) -> Result<Sender<C>, OutOfMemory>
         requires payload { 0 < config.now.payload }
         requires most_payload { config.now.payload ≤ MOST_PAYLOAD }
@@ -99,6 +99,45 @@ impl<C: Control> Sender<C> {
             return Err(SendNo::Again);
         }
         let taken = self.buffer.accept(bytes, room, self.message, false, None);
+        self.message = message_after(self.message);
+        Ok(taken)
+    }
+
+    /// Takes the bytes whole, as one message, and answers how many they are, or why it takes none. Once
+    /// more than `ttl` microseconds have passed, where there is such a time, no block of the message is
+    /// retransmitted any more. `order` says that it must be delivered in order.
+    #[tactic(auto, unfolding(udt_model::specs::SendHalf::message_answer, udt_model::specs::SendHalf::after_send_message))]
+    pub fn send_message(
+        &mut self,
+        now: u64,
+        ttl: Option<u64>,
+        order: bool,
+        bytes: &[u8],
+    ) -> Result<usize, SendNo>
+        ensures value { result ≡ half.message_answer self.old (length bytes.now) }
+        ensures next { self.new ≡ half.after_send_message self.old now ttl order bytes.now }
+        ensures refused { OnErr result (self.new ≡ self.old) }
+        ensures room { self.new.blocks.room ≡ self.old.blocks.room }
+    {
+        let count = self.buffer.blocks_for(bytes.len());
+        if self.buffer.blocks() < count {
+            return Err(SendNo::TooLarge);
+        }
+        let (first, kept) = self.buffer.kept();
+        let room = PACKET_LIMIT - (first + kept);
+        if room < count {
+            return Err(SendNo::Spent);
+        }
+        if self.buffer.free() < count {
+            return Err(SendNo::Again);
+        }
+        if bytes.is_empty() {
+            return Ok(0);
+        }
+        let expires = expiry_of(now, ttl);
+        let taken = self
+            .buffer
+            .accept(bytes, room, self.message, order, expires);
         self.message = message_after(self.message);
         Ok(taken)
     }

@@ -187,3 +187,41 @@ fn no_block_is_taken_past_the_limit(rt: HostRuntime) -> Result<(), Fail> {
     assert_eq!(rt; sender.send(0, b"x"), Err(SendNo::Spent));
     Ok(())
 }
+
+#[test]
+fn messages_are_taken_whole_and_dropped_once_expired(rt: HostRuntime) -> Result<(), Fail> {
+    let rtt = Rtt::new();
+    let mut sender: Sender<Steady> = Sender::new(rt.alloc(), &config(4, 4), 0)?;
+    sender.link(0x7fff_ffff, 4, 8);
+    // There is room for four blocks. The third message has two of them, and the fourth would have three.
+    let calls: [(&[u8], Option<u64>, Result<usize, SendNo>); 5] = [
+        (&[0; 17], None, Err(SendNo::TooLarge)),
+        (b"", Some(0), Ok(0)),
+        (b"hello", Some(50), Ok(5)),
+        (&[0; 9], None, Err(SendNo::Again)),
+        (b"you", None, Ok(3)),
+    ];
+    for (bytes, ttl, answer) in calls {
+        assert_eq!(rt; sender.send_message(10, ttl, true, bytes), answer);
+    }
+    let mut into = [b'.'; 24];
+    assert_eq!(rt; sender.pack(10, 9, 7, &mut into), Packed::Block(20));
+    assert_eq!(rt;
+        into,
+        *b"\x7f\xff\xff\xff\xa0\x00\x00\x01\x00\x00\x00\x09\x00\x00\x00\x07hell...."
+    );
+    // It lives up to the moment 60. Its second block was never sent, and never is.
+    assert!(rt; sender.on_timeout(&rtt));
+    assert_eq!(rt; packed(&mut sender, 60), (Packed::Block(20), 0x7fff_ffff));
+    assert!(rt; sender.on_timeout(&rtt));
+    assert_eq!(rt; sender.pack_moment(), Some(60));
+    assert_eq!(rt; sender.pack(61, 9, 7, &mut into), Packed::DropAsk(24));
+    assert_eq!(rt;
+        into,
+        *b"\x80\x07\x00\x00\x00\x00\x00\x01\x00\x00\x00\x09\x00\x00\x00\x07\x7f\xff\xff\xff\x00\x00\x00\x00"
+    );
+    assert_eq!(rt; packed(&mut sender, 61), (Packed::Block(19), 1));
+    assert_eq!(rt; packed(&mut sender, 61), NOTHING);
+    assert_eq!(rt; (sender.acked(), sender.next(), sender.free()), (0, 3, 1));
+    Ok(())
+}

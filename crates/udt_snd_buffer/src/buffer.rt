@@ -1,7 +1,7 @@
 // The blocks that are kept, and what is done with them.
 
 ghost use Rattle.std.specs.Prelude.{◌≡◌, ◌+◌, ◌^◌, ◌<◌, ◌≤◌, [], ◌++◌, length, take, map, option_map, IfOk, IfSome, MatchOption, Some, None};
-ghost use Rattle.udt_model.specs.SendBlocks.{kept_bytes, end_of, free_of, accepted_of, after_accept, kept_at, message_at, after_release, blocks_of};
+ghost use Rattle.udt_model.specs.SendBlocks.{kept_bytes, end_of, free_of, accepted_of, count_for, after_accept, kept_at, message_at, after_release, blocks_of};
 ghost use Rattle.udt_snd_buffer.specs.KeptParts.{kept_block_of, message_of_head};
 
 use crate::OutOfMemory;
@@ -193,6 +193,20 @@ impl SndBuffer {
         self.ring.turn(count, NO_HEAD);
         self.first = offset;
         self.kept -= count;
+    }
+
+    /// How many blocks may be kept.
+    pub fn blocks(&self) -> u64
+        ensures { result ≡ self.now.blocks }
+    {
+        self.ring.count() as u64
+    }
+
+    /// How many blocks this many bytes fill.
+    pub fn blocks_for(&self, len: usize) -> u64
+        ensures { result ≡ count_for len self.now.payload }
+    {
+        len.div_ceil(self.payload) as u64
     }
 
     /// How many more blocks there is room for.

@@ -66,6 +66,10 @@ fn a_ring_keeps_what_a_plain_list_keeps(rt: HostRuntime) -> Result<(), Fail> {
 fn a_message_is_cut_and_its_ends_are_remembered(rt: HostRuntime) -> Result<(), Fail> {
     let mut buffer = SndBuffer::new(rt.alloc(), 4, 9, 100)?;
     buffer.set_payload(4);
+    assert_eq!(rt; buffer.blocks(), 4);
+    for (len, blocks) in [(0, 0), (8, 2), (9, 3)] {
+        assert_eq!(rt; buffer.blocks_for(len), blocks);
+    }
     let calls: [(&[u8], u64, usize); 3] = [(b"", 9, 0), (b"zz", 0, 0), (b"hello, you", 9, 10)];
     for (bytes, most, taken) in calls {
         let (first, kept) = buffer.kept();

@@ -316,6 +316,84 @@ fn replays_acknowledgement_silence_and_closing(rt: HostRuntime) {
     }
 }
 
+// A message that expires is dropped whole, and one that is too large is never taken or given.
+#[test]
+fn replays_messages(rt: HostRuntime) {
+    let expires: &[u8] = b"pair message a b 4 5 8\n\
+        a sendmsg 0 50000 1 000102030405060708090a0b\n\
+        a pack 0\n\
+        a pack 0\n\
+        a pack 0\n\
+        deliver 0 1000\n\
+        deliver 2 1000\n\
+        deliver 3 2000\n\
+        a pack 60000\n\
+        a sendmsg 60000 - 1 6d32\n\
+        a pack 60000\n\
+        deliver 4 61000\n\
+        deliver 5 61000\n\
+        b recvmsg 61000 100\n\
+        b recvmsg 61000 100\n";
+    let expired: &[u8] = b"pair a 1 b 2\n\
+        a sendmsg 12\n\
+        a pack data\n\
+        datagram 0 10.0.0.1:9000 10.0.0.2:9000 00000005a0000001000000000000000200010203\n\
+        a pack data\n\
+        datagram 1 10.0.0.1:9000 10.0.0.2:9000 0000000620000001000000000000000204050607\n\
+        a pack data\n\
+        datagram 2 10.0.0.1:9000 10.0.0.2:9000 0000000760000001000000000000000208090a0b\n\
+        b arrive placed\n\
+        b arrive placed\n\
+        datagram 3 10.0.0.2:9000 10.0.0.1:9000 8003000000000000000003e80000000100000006\n\
+        a arrive nak\n\
+        a pack drop\n\
+        datagram 4 10.0.0.1:9000 10.0.0.2:9000 80070000000000010000ea60000000020000000500000007\n\
+        a sendmsg 2\n\
+        a pack data\n\
+        datagram 5 10.0.0.1:9000 10.0.0.2:9000 00000008e00000020000ea60000000026d32\n\
+        b arrive dropped\n\
+        b arrive placed\n\
+        b recvmsg 6d32\n\
+        b recvmsg again\n";
+    let fills: &[u8] = b"pair message a b 4 5 2\n\
+        a sendmsg 0 - 0 000102030405060708\n\
+        a sendmsg 0 - 0 0001020304050607\n\
+        a sendmsg 0 - 0 08\n\
+        a send 0 01\n\
+        a pack 0\n\
+        deliver 0 0\n\
+        b recvmsg 0 8\n\
+        a pack 0\n\
+        deliver 1 0\n\
+        b recvmsg 0 7\n\
+        b recvmsg 0 8\n";
+    let filled: &[u8] = b"pair a 1 b 2\n\
+        a sendmsg refused 5012\n\
+        a sendmsg 8\n\
+        a sendmsg again\n\
+        a send refused 5010\n\
+        a pack data\n\
+        datagram 0 10.0.0.1:9000 10.0.0.2:9000 0000000580000001000000000000000200010203\n\
+        b arrive placed\n\
+        b recvmsg again\n\
+        a pack data\n\
+        datagram 1 10.0.0.1:9000 10.0.0.2:9000 0000000640000001000000000000000204050607\n\
+        b arrive placed\n\
+        b recvmsg refused 5012\n\
+        b recvmsg 0001020304050607\n";
+    for (script, printed) in [(expires, expired), (fills, filled)] {
+        assert_runs(
+            &rt,
+            rt.alloc(),
+            WHOLE,
+            &["replay"],
+            &[script],
+            &[printed],
+            DONE,
+        );
+    }
+}
+
 // Plays to where the controls part: the fixed one keeps a tenth of a millisecond between packets,
 // and after an acknowledgement the native one has a period and the other none.
 #[test]

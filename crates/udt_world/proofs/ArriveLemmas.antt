@@ -2,16 +2,21 @@
 use Rattle.std.proofs.Common.{◌≡◌, ℕ, Bool, true, false, List, [], refl}
 use Rattle.std.specs.Prelude.{Option, Some, None, ◌∷◌, Result, Ok, Err, if◌then◌else◌}
 use Rattle.udt_model.specs.declared.addresses.Addr.{Addr}
+use Rattle.udt_model.specs.declared.answers.Dropped.{Dropped}
+use Rattle.udt_model.specs.declared.answers.Dropped.TheVariants as dropped
 use Rattle.udt_model.specs.declared.answers.Phase.{Phase}
 use Rattle.udt_model.specs.declared.answers.Phase.TheVariants as phase
 use Rattle.udt_model.specs.declared.packets.AckBody.{AckBody}
+use Rattle.udt_model.specs.declared.packets.Kind.{Kind}
+use Rattle.udt_model.specs.declared.packets.Kind.TheVariants as kind
 use Rattle.udt_model.specs.declared.packets.Malformed.{Malformed}
 use Rattle.udt_model.specs.declared.sockets.SentAck.{SentAck}
-use Rattle.udt_model.specs.Arrivals.{has_bad_length, acked_so, confirmed_so, reported_so, on_own, is_own, heard_now, packet_in, on_read}
+use Rattle.udt_model.specs.Arrivals.{has_bad_length, acked_so, confirmed_so, dropped_so, drop_as, reported_so, on_own, is_own, heard_now, packet_in, on_read}
 use Rattle.udt_model.specs.Events.{Arrive, Outcome, at_moment, event}
 use Rattle.udt_model.specs.History.{given_by}
 use Rattle.udt_model.specs.Losses.{LostRange}
 use Rattle.udt_model.specs.Rate.{Ways}
+use Rattle.udt_model.specs.ReceiveHalf.{Receiving, after_drop, drop_answer}
 use Rattle.udt_model.specs.SendReports.{Acking, Acks, IsStale, acking, acked_number, entering}
 use Rattle.udt_model.specs.State.{State}
 use Rattle.udt_model.specs.Step.{step}
@@ -27,6 +32,14 @@ module _ {C : Type 0} where
   confirmed-gives : (s : State C) (number : ℕ) (found : Option SentAck) → given_by (confirmed_so s number found).reply ≡ []
   confirmed-gives s number None = refl
   confirmed-gives s number (Some ack) = refl
+
+  dropped-gives : (s : State C) (receiving : Receiving) (d : Dropped) → given_by (dropped_so s receiving d).reply ≡ []
+  dropped-gives s receiving (dropped.Taken gap) = refl
+  dropped-gives s receiving dropped.Stale = refl
+
+  drop-gives : (s : State C) (first last : ℕ) (k : Kind) → given_by (drop_as s first last k).reply ≡ []
+  drop-gives s first last kind.Stream = refl
+  drop-gives s first last kind.Message = dropped-gives s (after_drop s.receiving s.last first last) (drop_answer s.receiving first last)
 
 module _ {C : Type 0} (w : Ways C) where
   acked-gives : (s : State C) (number : ℕ) (body : AckBody) (a : Acking) → given_by (acked_so w s number body a).reply ≡ []
@@ -45,7 +58,7 @@ module _ {C : Type 0} (w : Ways C) where
   own-gives s (wire.Nak stamp dest ranges) = reported-gives s ranges (entering s.sending ranges)
   own-gives s (wire.Shutdown stamp dest) = refl
   own-gives s (wire.Ack2 number stamp dest) = confirmed-gives s number (last_under number s.receiving.history)
-  own-gives s (wire.DropAsk message stamp dest first last) = refl
+  own-gives s (wire.DropAsk message stamp dest first last) = drop-gives s first last s.kind
 
   packet-gives : (s : State C) (from : Addr) (packet : Packet) (p : Phase) → given_by (packet_in w s from packet p).reply ≡ []
   packet-gives s from packet phase.Connected = either (is_own s from packet) _ _ (own-gives (heard_now s) packet) refl

@@ -1,15 +1,17 @@
 -- What an event does to a network.
-use Rattle.std.proofs.Common.{◌≡◌, ℕ, suc, ◌+◌, ◌≤◌, List, [], ◌∷◌, ◌++◌, length, map, take, get_or, Some, refl, ap, ◌∙◌, sym, arith, append_assoc}
-use Rattle.std.specs.Prelude.{slice_get, Result, Ok, Err, OnErr}
+use Rattle.std.proofs.Common.{◌≡◌, ℕ, suc, ◌+◌, ◌≤◌, Bool, List, [], ◌∷◌, ◌++◌, length, map, take, get_or, Some, refl, ap, ◌∙◌, sym, arith, append_assoc}
+use Rattle.std.specs.Prelude.{slice_get, Option, Result, Ok, Err, OnErr}
 use Rattle.std.proofs.lemmas.List.{append-nil, length-append, map-set, map_more, take_at, take-take}
 use Rattle.std.proofs.lemmas.Option.{slice_get-map, slice_get_within, get_or_from_slice_get}
 use Rattle.udt_model.specs.declared.addresses.Addr.{Addr}
+use Rattle.udt_model.specs.declared.packets.Kind.{Kind}
+use Rattle.udt_model.specs.declared.packets.Kind.TheVariants as kind
 use Rattle.udt_model.specs.State.{State, Datagram}
 use Rattle.udt_model.specs.declared.answers.Phase.{Phase}
 use Rattle.udt_model.specs.declared.answers.Phase.TheVariants as phase
 use Rattle.udt_model.specs.Step.{step}
-use Rattle.udt_model.specs.Events.{Send, Recv, Tick, Close, Measure, DidTick, DidClose, Event, Reply, event, at_moment, outs_of}
-use Rattle.udt_model.specs.Calls.{send_in, recv_in}
+use Rattle.udt_model.specs.Events.{Send, Recv, SendMessage, RecvMessage, Tick, Close, Measure, DidTick, DidClose, Event, Reply, event, at_moment, outs_of}
+use Rattle.udt_model.specs.Calls.{send_in, send_as, recv_in, recv_as, send_message_in, send_message_as, recv_message_in, recv_message_as}
 use Rattle.udt_model.specs.Ticks.{tick_in}
 use Rattle.udt_model.specs.History.{state_of, happened}
 use Rattle.udt_model.proofs.HistoryLemmas.{state_of-happened}
@@ -34,15 +36,56 @@ module _ {C : Type 0} where
   recv-outs_in s room phase.Closing = refl
   recv-outs_in s room phase.Closed = refl
 
+  send_message-outs_in : (s : State C) (ttl : Option ℕ) (order : Bool) (bytes : List ℕ) (p : Phase)
+      → outs_of (send_message_in s ttl order bytes p) ≡ []
+  send_message-outs_in s ttl order bytes phase.Connected = refl
+  send_message-outs_in s ttl order bytes (phase.Broken why) = refl
+  send_message-outs_in s ttl order bytes phase.Closing = refl
+  send_message-outs_in s ttl order bytes phase.Closed = refl
+
+  recv_message-outs_in : (s : State C) (room : ℕ) (p : Phase) → outs_of (recv_message_in s room p) ≡ []
+  recv_message-outs_in s room phase.Connected = refl
+  recv_message-outs_in s room (phase.Broken why) = refl
+  recv_message-outs_in s room phase.Closing = refl
+  recv_message-outs_in s room phase.Closed = refl
+
+  -- and whatever the socket carries
+
+  send-outs_as : (s : State C) (bytes : List ℕ) (k : Kind) → outs_of (send_as s bytes k) ≡ []
+  send-outs_as s bytes kind.Stream = send-outs_in s bytes s.phase
+  send-outs_as s bytes kind.Message = refl
+
+  recv-outs_as : (s : State C) (room : ℕ) (k : Kind) → outs_of (recv_as s room k) ≡ []
+  recv-outs_as s room kind.Stream = recv-outs_in s room s.phase
+  recv-outs_as s room kind.Message = refl
+
+  send_message-outs_as : (s : State C) (ttl : Option ℕ) (order : Bool) (bytes : List ℕ) (k : Kind)
+      → outs_of (send_message_as s ttl order bytes k) ≡ []
+  send_message-outs_as s ttl order bytes kind.Stream = refl
+  send_message-outs_as s ttl order bytes kind.Message = send_message-outs_in s ttl order bytes s.phase
+
+  recv_message-outs_as : (s : State C) (room : ℕ) (k : Kind) → outs_of (recv_message_as s room k) ≡ []
+  recv_message-outs_as s room kind.Stream = refl
+  recv_message-outs_as s room kind.Message = recv_message-outs_in s room s.phase
+
 module _ {C : Type 0} (w : Ways C) where
   -- a call emits nothing
   pub send_outs : (s : State C) (now : ℕ) (bytes : List ℕ) → outs_of (step w s (event now (Send bytes))) ≡ []
   unfolding step
-  send_outs s now bytes = send-outs_in (at_moment s now) bytes s.phase
+  send_outs s now bytes = send-outs_as (at_moment s now) bytes s.kind
 
   pub recv_outs : (s : State C) (now room : ℕ) → outs_of (step w s (event now (Recv room))) ≡ []
   unfolding step
-  recv_outs s now room = recv-outs_in (at_moment s now) room s.phase
+  recv_outs s now room = recv-outs_as (at_moment s now) room s.kind
+
+  pub send_message_outs : (s : State C) (now : ℕ) (ttl : Option ℕ) (order : Bool) (bytes : List ℕ)
+      → outs_of (step w s (event now (SendMessage ttl order bytes))) ≡ []
+  unfolding step
+  send_message_outs s now ttl order bytes = send_message-outs_as (at_moment s now) ttl order bytes s.kind
+
+  pub recv_message_outs : (s : State C) (now room : ℕ) → outs_of (step w s (event now (RecvMessage room))) ≡ []
+  unfolding step
+  recv_message_outs s now room = recv_message-outs_as (at_moment s now) room s.kind
 
   pub close_outs : (s : State C) (now : ℕ) → outs_of (step w s (event now Close)) ≡ []
   unfolding step

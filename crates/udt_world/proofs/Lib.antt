@@ -4,6 +4,7 @@ pub mod CallLemmas
 pub mod RouteLemmas
 pub mod LineLemmas
 pub mod ArriveLemmas
+pub mod MessageLemmas
 pub mod TranscriptLemmas
 pub mod WorldLemmas
 pub mod CountedLemmas

@@ -11,7 +11,9 @@ use Rattle.udt_model.specs.declared.answers.Phase.{Phase}
 use Rattle.udt_model.specs.declared.answers.Phase.TheVariants as phase
 use Rattle.udt_model.specs.declared.answers.Refusal.{Refusal}
 use Rattle.udt_model.specs.declared.answers.SendNo.{SendNo}
-use Rattle.udt_model.specs.Calls.{send_in, taken_as}
+use Rattle.udt_model.specs.declared.packets.Kind.{Kind}
+use Rattle.udt_model.specs.declared.packets.Kind.TheVariants as kind
+use Rattle.udt_model.specs.Calls.{send_in, send_as, taken_as}
 use Rattle.udt_model.specs.Draws.{next_state, draw}
 use Rattle.udt_model.specs.Events.{Act, Send, Recv, Pack, Tick, Arrive, Measure, Event, Reply, Sent, Received, DidMeasure, event, at_moment}
 use Rattle.udt_model.specs.Generated.{Run, after_call, after_sending, after_delivery, accepted_of, counted_bytes, delivered_number, generated_pair, generated, summary_of, turn}
@@ -58,6 +60,10 @@ sent_within s bytes (phase.Broken why) count is = absurd (cc)
 sent_within s bytes phase.Closing count is = absurd (cc)
 sent_within s bytes phase.Closed count is = absurd (cc)
 
+sent_within_as : {C : Type 0} (s : State C) (bytes : List ℕ) (k : Kind) (count : ℕ) → Sent (Ok count) ≡ (send_as s bytes k).reply → count ≤ length bytes
+sent_within_as s bytes kind.Stream count is = sent_within s bytes s.phase count is
+sent_within_as s bytes kind.Message count is = absurd (cc)
+
 pub received_at_most : (answer : Result ℕ Refusal) (into : List ℕ) → IfOk answer (λ count. count ≤ length into) → count_in answer ≤ length into
 received_at_most (Ok count) into within = within
 received_at_most (Err why) into within = omega arith
@@ -65,7 +71,7 @@ received_at_most (Err why) into within = omega arith
 module _ {C : Type 0} (w : Ways C) where
   taken_at_most : (s : State C) (now : ℕ) (bytes : List ℕ) (count : ℕ) → Sent (Ok count) ≡ (step w s (event now (Send bytes))).reply → count ≤ length bytes
   unfolding step
-  taken_at_most s now bytes count is = sent_within (at_moment s now) bytes s.phase count is
+  taken_at_most s now bytes count is = sent_within_as (at_moment s now) bytes s.kind count is
 
   -- what is measured as acknowledged
   pub measured_acked : (s : State C) (now : ℕ) (p : Perf) → DidMeasure p ≡ (step w s (event now Measure)).reply → p.acked ≡ acked_of s.sending

@@ -9,6 +9,8 @@ use Rattle.std.proofs.lemmas.List.Elements.{Contains-push_cases}
 use Rattle.std.proofs.lemmas.Option.{same_Some}
 use Rattle.udt_model.specs.declared.addresses.Addr.{Addr}
 use Rattle.udt_model.specs.declared.packets.Config.{Config}
+use Rattle.udt_model.specs.declared.packets.Kind.{Kind}
+use Rattle.udt_model.specs.declared.packets.Kind.TheVariants.{Stream, Message}
 use Rattle.udt_model.specs.declared.answers.Peer.{Peer}
 use Rattle.udt_model.specs.Emissions.{IsPrefix}
 use Rattle.udt_model.specs.Events.{Arrive, DidTick, Event, Reply, outs_of}
@@ -30,6 +32,7 @@ use Rattle.udt_world.specs.Kept.{AreAccepted}
 use Rattle.udt_world.specs.ScriptLines.{Accepts}
 use Rattle.udt_world.specs.Transcripts.{Entry, answer_text, entry_text, given_to, taken_from, received, sent, AreInStep, lines_in, ArePrinted, TellsLine}
 use Rattle.udt_world.proofs.ArriveLemmas.{arrive-gives}
+use Rattle.udt_world.proofs.MessageLemmas.{happened-gives}
 use Rattle.udt_world.proofs.LineLemmas.{no_lines, accepted-by, left-after}
 use Rattle.udt_world.proofs.PlaceLemmas.{same_word, is_same_word, name_there, place-set, position-first, position-others, position-cons}
 
@@ -123,10 +126,11 @@ no_socket : {X : Type 0} (k : ℕ) (x : X) → slice_get [] k ≡ Some x → ⊥
 no_socket k x at = cc
 
 module _ {C : Type 0} (w : Ways C) where
-  -- the entries say of this name what the history says
+  -- the entries say of this name what the history says, which gave no bytes of a stream where the socket carries messages
   record Says (name : List ℕ) (entries : List Entry) (h : History C) : Type 0 where
     received : received name entries ≡ delivered h
     sent : sent name entries ≡ accepted h
+    none : h.opening.kind ≡ Message → delivered h ≡ []
 
   -- a socket at this place began as this one did
   record BeganAs (n : Network C) (place : ℕ) (fresh : ScriptSocket C) : Type 0 where
@@ -155,6 +159,7 @@ module _ {C : Type 0} (w : Ways C) where
   says-on name entries e h adds says = record {
     received = received-more name entries e ∙ (rw adds.gives (append-nil (received name entries)) ∙ says.received);
     sent = sent-more name entries e ∙ (rw adds.takes (append-nil (sent name entries)) ∙ says.sent);
+    none = says.none;
   }
 
   delivered-happened : (h : History C) (event : Event) → delivered (happened w h 0 event) ≡ delivered h ++ given_by (step w (state_of w h) event).reply
@@ -244,6 +249,7 @@ module _ {C : Type 0} (w : Ways C) where
           sent =
               sent-more socket.name entries e
               ∙ (rw ((adds socket.name).takes, own, says.sent) (sym (accepted-happened socket.history event)));
+          none = λ carries. delivered-happened socket.history event ∙ rw (says.none carries, happened-gives w socket.history event carries) refl;
         } in
         record {
           sockets = λ j found found_at. elim (cases_eq k j) [
@@ -402,7 +408,7 @@ module _ {C : Type 0} (w : Ways C) where
     -- nothing was said of the new names, and nothing happened to their sockets
     new-says : (name : List ℕ) (entries : List Entry) (h : History C) → h.items ≡ [] → SaysNothing name entries → Says name entries h
     unfolding delivered_by accepted_by
-    new-says name entries h none says = record { received = rw none says.received; sent = rw none says.sent }
+    new-says name entries h none says = record { received = rw none says.received; sent = rw none says.sent; none = λ carries. rw none refl }
 
     pair-told : (entries : List Entry) (e : Entry) → read_line e.line ≡ Some (PairLine p) → IsTold n entries → IsTold (paired w n p).network (entries ++ e ∷ [])
     unfolding paired
@@ -492,10 +498,14 @@ module _ {C : Type 0} (w : Ways C) where
         → own_peer w own.socket.history ≡ Some (record { addr = peer.socket.host; id = m + 1 })
         → IsPrefix (received one.name entries) (sent other.name entries)
     prefix-told k m one other own peer names =
-        let law = (script_prefix w lines k m own.socket peer.socket few emitted own.at peer.at names).prefix in
         let mine = told.sockets k own.socket own.at in
         let theirs = told.sockets m peer.socket peer.at in
-        rw (← own.name, ← peer.name, mine.received, theirs.sent) law
+        let within : IsPrefix (delivered own.socket.history) (accepted peer.socket.history) =
+        elim own.socket.history.opening.kind as (λ (kind : Kind). own.socket.history.opening.kind ≡ kind → IsPrefix (delivered own.socket.history) (accepted peer.socket.history)) [
+          | Stream ↦ λ stream. (script_prefix w lines k m own.socket peer.socket few emitted own.at peer.at stream names).prefix
+          | Message ↦ λ carries. (accepted peer.socket.history, rw (mine.none carries) refl)
+        ] refl in
+        rw (← own.name, ← peer.name, mine.received, theirs.sent) within
 
     peer-named : (h : History C) (own : ℕ) (config : Config) (peer : Peer) (start : ℕ) (host : Addr) (id : ℕ) → h.opening ≡ opening w own config peer 0 start
         → peer.addr ≡ host → peer.id ≡ id → own_peer w h ≡ Some (record { addr = host; id = id })

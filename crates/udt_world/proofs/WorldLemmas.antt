@@ -9,12 +9,12 @@ use Rattle.udt_model.specs.Rate.{Ways}
 use Rattle.udt_model.specs.Script.{Printed, on_line, left_by, network_after, played_line, printed_after, fits_after, size_of}
 use Rattle.udt_world.specs.declared.world.World.TheInside.{Inside}
 use Rattle.udt_world.specs.Views.{View, Shows}
-use Rattle.udt_world.specs.InStep.{AreAllInStep}
+use Rattle.udt_world.specs.InStep.{AreAllInStep, AllShowMessages}
 use Rattle.udt_world.specs.Worlds.{lines_in, lines_of, IsWorld}
 use Rattle.udt_world.specs.Done.{DoesLine}
 use Rattle.udt_world.specs.Kept.{kept_lines}
 use Rattle.udt_world.specs.ScriptLines.{Accepts, Refuses}
-use Rattle.udt_laws.proofs.scripts.ScriptsInStep.{script_prefix, lines-within}
+use Rattle.udt_laws.proofs.scripts.ScriptsInStep.{script_prefix, script_messages, lines-within}
 use Rattle.udt_world.proofs.LineLemmas.{one_more}
 
 size-more : (lines : List (List ℕ)) (line : List ℕ) → size_of (lines ++ line ∷ []) ≡ size_of lines + (length line + 1)
@@ -110,3 +110,12 @@ module _ {C : Type 0} (w : Ways C) where
 
   pub steps : (world : Inside C) → IsWorld w world → AreAllInStep w (lines_of world)
   steps world is = steps_few world.lost (lines_in world) (λ kept. few_lines (lines_in world) (omega (arith, is.size_is kept, is.bound)))
+
+  -- ---- messages
+
+  pub shows_small : (lost : Bool) (lines : List (List ℕ)) → (lost ≡ false → size_of lines < 2 ^ 30) → AllShowMessages w (if lost then None else Some lines)
+  shows_small true lines small = tt
+  shows_small false lines small = λ place peer_place socket peer emitted. script_messages w lines place peer_place socket peer (small refl) emitted
+
+  pub shows : (world : Inside C) → IsWorld w world → AllShowMessages w (lines_of world)
+  shows world is = shows_small world.lost (lines_in world) (λ kept. omega (arith, is.size_is kept, is.bound))

@@ -5,16 +5,29 @@ use Rattle.udt_model.specs.Rate.{Ways}
 use Rattle.udt_model.specs.Records.{own_peer}
 use Rattle.udt_model.specs.Script.{network_after}
 use Rattle.udt_model.specs.Network.{ScriptSocket}
-use Rattle.udt_laws.specs.Laws.{AreInStep}
+use Rattle.udt_laws.specs.Laws.{IsStream, CarriesMessages, AreInStep, ShowsMessages}
 
 module _ {C : Type 0} (w : Ways C) where
-  -- where no line gives bytes of its own, what each socket of these lines delivered is a prefix of what its own peer accepted,
-  -- and no more of its blocks are acknowledged than have arrived there
+  -- where no line gives bytes of its own, what each stream socket of these lines delivered is a prefix of what its own peer
+  -- accepted, and no more of its blocks are acknowledged than have arrived there
   abbrev pub AreAllInStep : Option (List (List ℕ)) → Type 0
   AreAllInStep (Some lines) =
       (place peer_place : ℕ) (socket peer : ScriptSocket C) → AreEmitted lines
       → slice_get (network_after w lines).sockets place ≡ Some socket
       → slice_get (network_after w lines).sockets peer_place ≡ Some peer
+      → IsStream socket.history
       → own_peer w socket.history ≡ Some (record { addr = peer.host; id = peer_place + 1 })
       → AreInStep w socket.history peer.history
   AreAllInStep None = Unit {0}
+
+  -- where no line gives bytes of its own, what each message socket of these lines showed are messages that its own peer was
+  -- asked to send, each whole and once at most, and those with the order flag in their order
+  abbrev pub AllShowMessages : Option (List (List ℕ)) → Type 0
+  AllShowMessages (Some lines) =
+      (place peer_place : ℕ) (socket peer : ScriptSocket C) → AreEmitted lines
+      → slice_get (network_after w lines).sockets place ≡ Some socket
+      → slice_get (network_after w lines).sockets peer_place ≡ Some peer
+      → CarriesMessages socket.history
+      → own_peer w socket.history ≡ Some (record { addr = peer.host; id = peer_place + 1 })
+      → ShowsMessages w socket.history peer.history
+  AllShowMessages None = Unit {0}

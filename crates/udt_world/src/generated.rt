@@ -13,7 +13,7 @@ use crate::deliveries::Route;
 use crate::network::{Act, Network};
 use std::alloc::{AllocError, Global};
 use udt_core::OutOfMemory;
-use udt_model::{Refusal, Summary};
+use udt_model::{Kind, Refusal, Summary};
 use udt_rate::Control;
 use udt_script::{Call, Pairing};
 
@@ -101,6 +101,7 @@ impl<C: Control + Drop> Run<C> {
             outs: None,
         };
         let pairing = Pairing {
+            kind: Kind::Stream,
             a: b"a",
             b: b"b",
             payload: 1456,

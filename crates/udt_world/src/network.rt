@@ -1,7 +1,7 @@
 // The sockets of a script, and the datagrams that they emitted.
 
 ghost use Rattle.std.specs.Prelude.{◌≡◌, ℕ, ◌+◌, ◌<◌, ◌++◌, length, map, take, position, vec_len, IfSome, IfOk, OnOk, OnErr};
-ghost use Rattle.udt_model.specs.Events.{Recv, event, outs_of};
+ghost use Rattle.udt_model.specs.Events.{Recv, RecvMessage, event, outs_of};
 ghost use Rattle.udt_model.specs.Script.{from_host};
 ghost use Rattle.udt_model.specs.Step.{step};
 ghost use Rattle.udt_model.specs.Texts.{datagrams_text};
@@ -81,8 +81,30 @@ fn receive<C: Control>(
     }
 }
 
+// A receive of a message with room for this many bytes.
+fn receive_message<C: Control>(
+    alloc: Global,
+    socket: &mut Socket<C>,
+    now: u64,
+    room: u32,
+) -> Result<Reply, AllocError>
+    ensures value { IfOk result (λ reply. reply_of reply
+        ≡ (step C.ways socket.old (event now (RecvMessage room))).reply) }
+    ensures next { OnOk result (socket.new
+        ≡ (step C.ways socket.old (event now (RecvMessage room))).after) }
+{
+    let mut into = vec![in alloc; 0; room as usize]?;
+    match socket.recv_message(now, &mut into) {
+        Ok(count) => {
+            into.truncate(count);
+            Ok(Reply::ReceivedMessage(Ok(into)))
+        }
+        Err(why) => Ok(Reply::ReceivedMessage(Err(why))),
+    }
+}
+
 // What a call of a socket answers. What it emits is left in `outs`.
-#[tactic(auto, using(crate::proofs::EventLemmas::send_outs, crate::proofs::EventLemmas::recv_outs, crate::proofs::EventLemmas::close_outs, crate::proofs::EventLemmas::close_reply, crate::proofs::EventLemmas::tick_reply, crate::proofs::EventLemmas::measure_outs))]
+#[tactic(auto, using(crate::proofs::EventLemmas::send_outs, crate::proofs::EventLemmas::recv_outs, crate::proofs::EventLemmas::send_message_outs, crate::proofs::EventLemmas::recv_message_outs, crate::proofs::EventLemmas::close_outs, crate::proofs::EventLemmas::close_reply, crate::proofs::EventLemmas::tick_reply, crate::proofs::EventLemmas::measure_outs))]
 fn answer<C: Control>(
     alloc: Global,
     socket: &mut Socket<C>,
@@ -101,6 +123,10 @@ fn answer<C: Control>(
     match call {
         Call::Send(bytes) => Ok(Reply::Sent(socket.send(now, bytes))),
         Call::Recv(room) => receive(alloc, socket, now, *room),
+        Call::SendMessage { ttl, order, bytes } => Ok(Reply::SentMessage(socket.send_message(
+            now, *ttl, *order, bytes,
+        ))),
+        Call::RecvMessage(room) => receive_message(alloc, socket, now, *room),
         Call::Pack => Ok(Reply::Packed(socket.pack(now, outs))),
         Call::Tick => {
             socket.tick(now, outs);

@@ -13,7 +13,7 @@ ghost use Rattle.udt_world.specs.Views.{sight_of, sight_of_history, view_of, Sho
 use crate::network::{Network, ScriptSocket, place_of};
 use std::alloc::{AllocError, Global};
 use udt_core::{Peer, Socket};
-use udt_model::{Addr, Config, Ip, Kind, MOST_SOCKETS};
+use udt_model::{Addr, Config, Ip, MOST_SOCKETS};
 use udt_rate::Control;
 use udt_script::{Pairing, print_pair};
 
@@ -49,7 +49,7 @@ fn open<C: Control + Drop>(
         (paired_socket C.ways (pairing_of pairing.now) name.now own.host own.id peer.host peer.id)) }
 {
     let config = Config {
-        kind: Kind::Stream,
+        kind: pairing.kind,
         payload: pairing.payload,
         snd_blocks: pairing.blocks,
         rcv_blocks: pairing.blocks,

@@ -8,7 +8,7 @@ use udt_rate::Native;
 fn plays_a_line_of_each_form(rt: HostRuntime) {
     let mut world = World::<Native>::new(rt.alloc());
     let mut out = Vec::new(rt.alloc());
-    let lines: [(&[u8], Result<(), LineNo>, &[u8]); 16] = [
+    let lines: [(&[u8], Result<(), LineNo>, &[u8]); 24] = [
         (b"pair stream a b 4 5 4", Ok(()), b"pair a 1 b 2\n"),
         (b"a send 1000 68656c6c6f", Ok(()), b"a send 5\n"),
         (
@@ -54,6 +54,23 @@ fn plays_a_line_of_each_form(rt: HostRuntime) {
             b"raw 5000 10.0.0.2:9000 10.0.0.1 -",
             Err(LineNo::Refused),
             b"",
+        ),
+        (b"pair message m n 4 5 4", Ok(()), b"pair m 3 n 4\n"),
+        (b"m sendmsg 6000 - 1 6869", Ok(()), b"m sendmsg 2\n"),
+        (
+            b"m pack 6000",
+            Ok(()),
+            b"m pack data\n\
+            datagram 2 10.0.0.1:9000 10.0.0.2:9000 00000005e000000100001770000000046869\n",
+        ),
+        (b"deliver 2 7000", Ok(()), b"n arrive placed\n"),
+        (b"n recvmsg 7000 1", Ok(()), b"n recvmsg refused 5012\n"),
+        (b"n recvmsg 7000 10", Ok(()), b"n recvmsg 6869\n"),
+        (b"n recv 7000 10", Ok(()), b"n recv refused 5010\n"),
+        (
+            b"b sendmsg 7000 - 0 01",
+            Ok(()),
+            b"b sendmsg refused 5009\n",
         ),
     ];
     for (line, answer, printed) in lines {

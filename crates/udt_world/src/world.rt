@@ -9,7 +9,7 @@ ghost use Rattle.udt_world.specs.Views.{view_of, Shows};
 ghost use Rattle.udt_world.specs.Done.{DoesLine};
 ghost use Rattle.udt_world.specs.Kept.{kept_lines, items_of};
 ghost use Rattle.udt_world.specs.ScriptLines.{AnswersLine};
-ghost use Rattle.udt_world.specs.InStep.{AreAllInStep};
+ghost use Rattle.udt_world.specs.InStep.{AreAllInStep, AllShowMessages};
 ghost use Rattle.udt_world.specs.Transcripts.{KeepsPrefix};
 
 use crate::network::Network;
@@ -146,6 +146,7 @@ impl<C: Control + Drop> World<C> {
     pub fn line(&mut self, line: &[u8], out: &mut Vec<u8>) -> Result<(), LineNo>
         ensures answer { AnswersLine C.ways self.old line.now result self.new out.old.items out.new.items }
         ensures in_step { AreAllInStep C.ways self.new }
+        ensures shown { AllShowMessages C.ways self.new }
         ensures prefix { KeepsPrefix C.ways self.old line.now result out.old.items out.new.items }
     {
         if self.lost {

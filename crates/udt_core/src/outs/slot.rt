@@ -66,7 +66,7 @@ impl Slot {
         self.size = write(packet, &mut self.bytes);
     }
 
-    /// Has the sending half write the datagram of the block that leaves, where one does.
+    /// Has the sending half write the datagram of the packet that leaves, where one does.
     pub fn write_block<C: Control>(
         &mut self,
         sender: &mut Sender<C>,
@@ -82,10 +82,12 @@ impl Slot {
         ensures written { written_by result self.new ≡ datagrams_to peer.now.addr
             (half.packet_of sender.old stamp peer.now.id (half.packing C.ways sender.old now)) }
     {
+        self.to = peer.addr;
         let packed = sender.pack(now, stamp, peer.id, &mut self.bytes);
-        if let Packed::Block(size) = packed {
-            self.to = peer.addr;
-            self.size = size;
+        match packed {
+            Packed::Block(size) => self.size = size,
+            Packed::DropAsk(size) => self.size = size,
+            Packed::NotYet(_) | Packed::Nothing => {}
         }
         packed
     }

@@ -3,8 +3,9 @@
 ghost use Rattle.std.specs.Prelude.{◌≡◌, ℕ, [], ◌++◌, ◌≤◌, length, true};
 ghost use Rattle.udt_model.specs.Addresses.{same_addr};
 ghost use Rattle.udt_model.specs.Step.{step};
+ghost use Rattle.udt_model.specs.declared.packets.Kind.TheVariants.{Message};
 ghost use Rattle.udt_model.specs.Events.{Arrive, DidHear, at_moment, event, outs_of};
-ghost use Rattle.udt_model.specs.Arrivals.{on_read, heard_now, is_own as comes_from_peer, heard_of, count_placing as count_as, count_malformed, count_foreign, packet_in, on_own as own_arrives, on_block as block_arrives, arrived_so, on_ack as ack_arrives, on_nak as nak_arrives, on_ack2 as ack2_arrives, emitted_by_ack2, emitted_by_gap, emitted_by_light, on_control as control_arrives, on_stale as stale_arrives};
+ghost use Rattle.udt_model.specs.Arrivals.{on_read, heard_now, is_own as comes_from_peer, heard_of, count_placing as count_as, count_malformed, count_foreign, packet_in, on_own as own_arrives, on_block as block_arrives, arrived_so, on_ack as ack_arrives, on_nak as nak_arrives, on_drop as drop_arrives, drop_as, on_ack2 as ack2_arrives, emitted_by_ack2, emitted_by_gap, emitted_by_light, on_control as control_arrives, on_stale as stale_arrives};
 ghost use Rattle.udt_model.specs.Wire.{read as wire_read};
 ghost use Rattle.udt_packet.specs.Packets.{block_packet_of, packet_of, IsBlock, SpellsBlock};
 ghost use Rattle.udt_core.specs.Changes.{ChangesExpAlone};
@@ -14,7 +15,7 @@ use super::Socket;
 use crate::counts::risen;
 use crate::outs::Outs;
 use std::marker::Model;
-use udt_model::{AckBody, Addr, Cause, Flags, Heard, Malformed, Phase, Placed};
+use udt_model::{AckBody, Addr, Cause, Dropped, Flags, Heard, Kind, Malformed, Phase, Placed};
 use udt_packet::{BlockPacket, NakRanges, Packet, read, read_block};
 use udt_rate::Control;
 
@@ -146,7 +147,7 @@ impl<C: Control> Socket<C> {
         self.exp_count = 1;
     }
 
-    // A packet from the peer that is no block. No use is made of drop requests and handshakes yet. It goes its
+    // A packet from the peer that is no block. No use is made of handshakes yet. It goes its
     // way apart, so that a block's has no room for other packets.
     #[inline(never)]
     fn on_own(&mut self, packet: Packet, outs: &mut Outs) -> Heard
@@ -165,10 +166,9 @@ impl<C: Control> Socket<C> {
                 self.phase = Phase::Broken(Cause::PeerShutdown);
                 self.on_control(Heard::Shutdown)
             }
+            Packet::DropAsk { first, last, .. } => self.on_drop(first, last, outs),
             // (no block comes here: `on_block_packet` has it)
-            Packet::Block { .. } | Packet::Handshake { .. } | Packet::DropAsk { .. } => {
-                self.on_stale()
-            }
+            Packet::Block { .. } | Packet::Handshake { .. } => self.on_stale(),
         }
     }
 
@@ -189,7 +189,36 @@ impl<C: Control> Socket<C> {
         self.count_placing(arrived.placed)
     }
 
-    // Reports the gap that a block showed, if it showed one.
+    // A message drop request. A stream has no messages to drop.
+    fn on_drop(&mut self, first: u32, last: u32, outs: &mut Outs) -> Heard
+        requires empty { outs.old ≡ [] }
+        ensures reply { DidHear result ≡ (drop_arrives self.old first last).reply }
+        ensures after { self.new ≡ (drop_arrives self.old first last).after }
+        ensures outs { outs.new ≡ outs_of (drop_arrives self.old first last) }
+    {
+        match self.kind {
+            Kind::Stream => self.on_stale(),
+            Kind::Message => self.drop_message(first, last, outs),
+        }
+    }
+
+    // A message drop request at a socket of messages. One of no message that may come is stale.
+    fn drop_message(&mut self, first: u32, last: u32, outs: &mut Outs) -> Heard
+        requires empty { outs.old ≡ [] }
+        ensures reply { DidHear result ≡ (drop_as self.old first last Message).reply }
+        ensures after { self.new ≡ (drop_as self.old first last Message).after }
+        ensures outs { outs.new ≡ outs_of (drop_as self.old first last Message) }
+    {
+        match self.receiving.on_drop(self.last, first, last) {
+            Dropped::Stale => self.on_stale(),
+            Dropped::Taken { gap } => {
+                self.report_gap(gap, outs);
+                self.on_control(Heard::Dropped)
+            }
+        }
+    }
+
+    // Reports the gap that a block or a drop request showed, if it showed one.
     fn report_gap(&self, gap: Option<(u64, u64)>, outs: &mut Outs)
         requires empty { outs.old ≡ [] }
         ensures outs { outs.new ≡ datagrams_of (emitted_by_gap self.now gap) }

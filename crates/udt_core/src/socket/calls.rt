@@ -2,10 +2,10 @@
 
 ghost use Rattle.std.specs.Prelude.{◌≡◌, ◌+◌, ◌<◌, ◌≤◌, [], length, drop, Ok, IfOk, OnErr};
 ghost use Rattle.udt_model.specs.Step.{step};
-ghost use Rattle.udt_model.specs.Events.{Send, Recv, Pack, Close, Measure, Sent, Received, DidPack, DidMeasure, at_moment, event, outs_of};
-ghost use Rattle.udt_model.specs.Calls.{packed_so, gives, perf_of, refusal_of as why_of, closed_from as after_closing};
+ghost use Rattle.udt_model.specs.Events.{Send, Recv, SendMessage, RecvMessage, Pack, Close, Measure, Sent, Received, SentMessage, ReceivedMessage, DidPack, DidMeasure, at_moment, event, outs_of};
+ghost use Rattle.udt_model.specs.Calls.{packed_so, gives, gives_message, perf_of, refusal_of as why_of, closed_from as after_closing};
 ghost use Rattle.udt_model.specs.Moments as moments;
-ghost use Rattle.udt_model.specs.Readiness.{ready_bits};
+ghost use Rattle.udt_model.specs.Readiness.{ready_bits, has_readable};
 ghost use Rattle.udt_model.specs.SendHalf.{packing, pack_moment};
 ghost use Rattle.udt_model.specs.Wire.{bit as one_if};
 ghost use Rattle.udt_core.specs.Received.{received_in};
@@ -14,13 +14,14 @@ use super::Socket;
 use crate::counts::risen;
 use crate::outs::Outs;
 use std::marker::Model;
-use udt_model::{LAST_MOMENT, Packed, Perf, Phase, Refusal, SendNo};
+use udt_model::{Kind, LAST_MOMENT, Packed, Perf, Phase, Refusal, SendNo};
 use udt_rate::Control;
+use udt_receiver::Got;
 
 impl<C: Control> Socket<C> {
-    /// Takes as many of the bytes as fit into the free blocks. ConnLost comes once the connection was
-    /// lost and NotConnected once the socket is closed, Spent where the direction has carried all the
-    /// packets that it may, AgainSend where no block is free.
+    /// Takes as many of the bytes as fit into the free blocks. MessageOnly comes of a socket of messages,
+    /// ConnLost once the connection was lost and NotConnected once the socket is closed, Spent where the
+    /// direction has carried all the packets that it may, AgainSend where no block is free.
     #[tactic(auto, unfolding(udt_model::specs::Step::step))]
     pub fn send(&mut self, now: u64, bytes: &[u8]) -> Result<usize, Refusal>
         ensures reply { Sent result ≡ (step C.ways self.old (event now (Send bytes.now))).reply }
@@ -28,6 +29,10 @@ impl<C: Control> Socket<C> {
         ensures refused { OnErr result (self.new ≡ at_moment self.old now) }
     {
         self.at(now);
+        match self.kind {
+            Kind::Stream => {}
+            Kind::Message => return Err(Refusal::MessageOnly),
+        }
         match self.phase {
             Phase::Connected => match self.sending.send(self.last, bytes) {
                 Ok(count) => Ok(count),
@@ -38,9 +43,42 @@ impl<C: Control> Socket<C> {
         }
     }
 
+    /// Takes the bytes whole, as one message. Once more than `ttl` microseconds have passed, where there
+    /// is such a time, no block of it is retransmitted any more. `order` says that it must be delivered
+    /// in order. StreamOnly comes of a socket of a stream, and TooLarge where the message has more blocks
+    /// than the socket keeps; the other refusals are those of `send`, where it doesn't fit now.
+    #[tactic(auto, unfolding(udt_model::specs::Step::step))]
+    pub fn send_message(
+        &mut self,
+        now: u64,
+        ttl: Option<u64>,
+        order: bool,
+        bytes: &[u8],
+    ) -> Result<usize, Refusal>
+        ensures reply { SentMessage result
+            ≡ (step C.ways self.old (event now (SendMessage ttl order bytes.now))).reply }
+        ensures after { self.new
+            ≡ (step C.ways self.old (event now (SendMessage ttl order bytes.now))).after }
+        ensures refused { OnErr result (self.new ≡ at_moment self.old now) }
+    {
+        self.at(now);
+        match self.kind {
+            Kind::Stream => return Err(Refusal::StreamOnly),
+            Kind::Message => {}
+        }
+        match self.phase {
+            Phase::Connected => match self.sending.send_message(self.last, ttl, order, bytes) {
+                Ok(count) => Ok(count),
+                Err(why) => Err(refusal_of(why)),
+            },
+            Phase::Broken(why) => Err(Refusal::ConnLost(why)),
+            Phase::Closing | Phase::Closed => Err(Refusal::NotConnected),
+        }
+    }
+
     /// Gives the first bytes that wait, as far as there is room. Where none waits, AgainRecv comes
     /// while the socket is connected, and ConnLost once the connection was lost. NotConnected comes
-    /// once the socket is closed.
+    /// once the socket is closed, and MessageOnly of a socket of messages.
     #[tactic(auto, unfolding(udt_model::specs::Step::step))]
     pub fn recv(&mut self, now: u64, into: &mut [u8]) -> Result<usize, Refusal>
         ensures reply { Received (received_in result into.new)
@@ -52,10 +90,61 @@ impl<C: Control> Socket<C> {
         ensures refused { OnErr result (self.new ≡ at_moment self.old now) }
     {
         self.at(now);
+        match self.kind {
+            Kind::Stream => {}
+            Kind::Message => return Err(Refusal::MessageOnly),
+        }
         match self.phase {
             Phase::Connected => self.give(into, Refusal::AgainRecv),
             Phase::Broken(why) => self.give(into, Refusal::ConnLost(why)),
             Phase::Closing | Phase::Closed => Err(Refusal::NotConnected),
+        }
+    }
+
+    /// Gives the next message that can be read, whole. TooLarge comes where it is longer than the room,
+    /// and it stays then. Where none can be read, AgainRecv comes while the socket is connected, and
+    /// ConnLost once the connection was lost. NotConnected comes once the socket is closed, and
+    /// StreamOnly of a socket of a stream.
+    #[tactic(auto, unfolding(udt_model::specs::Step::step))]
+    pub fn recv_message(&mut self, now: u64, into: &mut [u8]) -> Result<usize, Refusal>
+        ensures reply { ReceivedMessage (received_in result into.new)
+            ≡ (step C.ways self.old (event now (RecvMessage (length into.old)))).reply }
+        ensures after { self.new
+            ≡ (step C.ways self.old (event now (RecvMessage (length into.old)))).after }
+        ensures within { IfOk result (λ count. count ≤ length into.old) }
+        ensures rest { IfOk result (λ count. drop count into.new ≡ drop count into.old) }
+        ensures err { OnErr result (into.new ≡ into.old) }
+        ensures refused { OnErr result (self.new ≡ at_moment self.old now) }
+    {
+        self.at(now);
+        match self.kind {
+            Kind::Stream => return Err(Refusal::StreamOnly),
+            Kind::Message => {}
+        }
+        match self.phase {
+            Phase::Connected => self.give_message(into, Refusal::AgainRecv),
+            Phase::Broken(why) => self.give_message(into, Refusal::ConnLost(why)),
+            Phase::Closing | Phase::Closed => Err(Refusal::NotConnected),
+        }
+    }
+
+    // Gives the next message, or refuses for this reason where none can be read.
+    fn give_message(&mut self, into: &mut [u8], why: Refusal) -> Result<usize, Refusal>
+        ensures reply { ReceivedMessage (received_in result into.new)
+            ≡ (gives_message self.old (length into.old) why).reply }
+        ensures after { self.new ≡ (gives_message self.old (length into.old) why).after }
+        ensures within { IfOk result (λ count. count ≤ length into.old) }
+        ensures rest { IfOk result (λ count. drop count into.new ≡ drop count into.old) }
+        ensures err { OnErr result (into.new ≡ into.old) }
+        ensures refused { OnErr result (self.new ≡ self.old) }
+    {
+        if into.is_empty() {
+            return Ok(0);
+        }
+        match self.receiving.recv_message(into) {
+            Got::Whole(count) => Ok(count),
+            Got::TooLarge(_) => Err(Refusal::TooLarge),
+            Got::Nothing => Err(why),
         }
     }
 
@@ -86,7 +175,8 @@ impl<C: Control> Socket<C> {
     }
 
     /// Emits the least lost block or else the next one, where the time has come and the socket is
-    /// connected. Both windows must allow a block that was never sent.
+    /// connected. Both windows must allow a block that was never sent. Where the message of the lost block
+    /// has expired, it emits a message drop request.
     #[tactic(auto, unfolding(udt_model::specs::Step::step))]
     pub fn pack(&mut self, now: u64, outs: &mut Outs) -> Packed
         ensures reply { DidPack result ≡ (step C.ways self.old (event now Pack)).reply }
@@ -185,19 +275,27 @@ impl<C: Control> Socket<C> {
         self.count
     }
 
-    /// What the socket is ready for, as bits: 1 that bytes can be read, 2 that some can be written, 4
+    /// What the socket is ready for, as bits: 1 that bytes or a message can be read, 2 that some can be written, 4
     /// that it is cut off or closed, 16 that it is connected, 32 that it is closed.
     #[tactic(auto, unfolding(udt_model::specs::Readiness::ready_bits))]
     pub fn bits(&self) -> u8
         ensures { result ≡ ready_bits self.now }
     {
         match self.phase {
-            Phase::Connected => {
-                16 + bit(self.receiving.waiting() > 0) + 2 * bit(self.sending.free() > 0)
-            }
-            Phase::Broken(_) => 4 + bit(self.receiving.waiting() > 0),
+            Phase::Connected => { 16 + bit(self.readable()) + 2 * bit(self.sending.free() > 0) }
+            Phase::Broken(_) => 4 + bit(self.readable()),
             Phase::Closing => 0,
             Phase::Closed => 36,
+        }
+    }
+
+    // A byte waits, or a message can be read.
+    fn readable(&self) -> bool
+        ensures { result ≡ has_readable self.now.receiving.blocks self.now.kind }
+    {
+        match self.kind {
+            Kind::Stream => self.receiving.waiting() > 0,
+            Kind::Message => self.receiving.readable(),
         }
     }
 }

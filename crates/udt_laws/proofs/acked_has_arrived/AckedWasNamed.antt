@@ -1,6 +1,6 @@
 -- What counts as acknowledged: an offset that an ACK from the peer told, and no other.
-use Rattle.std.proofs.Common.{◌≡◌, ℕ, zero, suc, List, [], ◌∷◌, length, Ok, Err, refl, ◌∙◌, sym, subst}
-use Rattle.std.specs.Prelude.{Result, nat_lt}
+use Rattle.std.proofs.Common.{◌≡◌, ℕ, zero, suc, Bool, false, List, [], ◌∷◌, length, Ok, Err, refl, ◌∙◌, sym, subst}
+use Rattle.std.specs.Prelude.{Option, None, Result, nat_lt}
 use Rattle.std.proofs.lemmas.Bool.{cases_Bool}
 use Rattle.std.proofs.Common.{arith}
 use Rattle.udt_model.specs.declared.addresses.Addr.{Addr}
@@ -8,17 +8,19 @@ use Rattle.udt_model.specs.declared.answers.Phase.{Phase}
 use Rattle.udt_model.specs.declared.answers.Phase.TheVariants as phase
 use Rattle.udt_model.specs.declared.answers.SendNo.{SendNo}
 use Rattle.udt_model.specs.declared.packets.AckBody.{AckBody}
+use Rattle.udt_model.specs.declared.packets.Kind.{Kind}
+use Rattle.udt_model.specs.declared.packets.Kind.TheVariants as kind
 use Rattle.udt_model.specs.declared.packets.Malformed.{Malformed}
 use Rattle.udt_model.specs.declared.sockets.ExpOutcome.{ExpOutcome}
 use Rattle.udt_model.specs.declared.sockets.ExpOutcome.TheVariants as exp
 use Rattle.udt_model.specs.Arrivals.{on_read}
-use Rattle.udt_model.specs.Calls.{send_in, recv_in, packed_so, pack_in}
-use Rattle.udt_model.specs.Events.{Act, Send, Recv, Pack, Tick, Close, Measure, Arrive, Event, at_moment}
+use Rattle.udt_model.specs.Calls.{send_in, send_as, recv_in, recv_as, send_message_in, send_message_as, recv_message_in, recv_message_as, packed_so, pack_in}
+use Rattle.udt_model.specs.Events.{Act, Send, Recv, SendMessage, RecvMessage, Pack, Tick, Close, Measure, Arrive, Event, at_moment}
 use Rattle.udt_model.specs.History.{Item, after_items}
 use Rattle.udt_model.specs.Losses.{LostRange}
 use Rattle.udt_model.specs.Rate.{Ways}
-use Rattle.udt_model.specs.SendHalf.{Sending, send_answer, after_answer, after_send, Packing, Waits, Retransmits, Sends, Idles, packing}
-use Rattle.udt_model.specs.SendReports.{Acks, acking, acked_number, entering, after_entering, after_nak, after_timeout}
+use Rattle.udt_model.specs.SendHalf.{Sending, send_answer, message_answer, expiry_of, after_answer, after_send, after_send_message, Packing, Waits, Retransmits, Drops, Sends, Idles, packing}
+use Rattle.udt_model.specs.SendReports.{acked_number, entering, after_entering, after_nak, after_timeout}
 use Rattle.udt_model.specs.State.{State}
 use Rattle.udt_model.specs.Step.{on_act, step}
 use Rattle.udt_model.specs.Ticks.{exp_outcome, after_exp, after_reports, tick_in}
@@ -35,14 +37,20 @@ module _ {C : Type 0} where
       → IsAcked s.sending (acked_number body) offset → Q offset
   AcksAct Q s act = Unit {0}
 
-  answer-first : (s : Sending C) (bytes : List ℕ) (answer : Result ℕ SendNo) → (after_answer s bytes answer).blocks.first ≡ s.blocks.first
-  answer-first s bytes (Ok zero) = refl
-  answer-first s bytes (Ok (suc n)) = refl
-  answer-first s bytes (Err why) = refl
+  answer-first : (s : Sending C) (order : Bool) (expires : Option ℕ) (bytes : List ℕ) (answer : Result ℕ SendNo)
+      → (after_answer s order expires bytes answer).blocks.first ≡ s.blocks.first
+  answer-first s order expires bytes (Ok zero) = refl
+  answer-first s order expires bytes (Ok (suc n)) = refl
+  answer-first s order expires bytes (Err why) = refl
 
   send-first : (s : Sending C) (bytes : List ℕ) → (after_send s bytes).blocks.first ≡ s.blocks.first
   unfolding after_send
-  send-first s bytes = answer-first s bytes (send_answer s (length bytes))
+  send-first s bytes = answer-first s false None bytes (send_answer s (length bytes))
+
+  message-first : (s : Sending C) (now : ℕ) (ttl : Option ℕ) (order : Bool) (bytes : List ℕ)
+      → (after_send_message s now ttl order bytes).blocks.first ≡ s.blocks.first
+  unfolding after_send_message
+  message-first s now ttl order bytes = answer-first s order (expiry_of now ttl) bytes (message_answer s (length bytes))
 
   at_moment-acks : (Q : ℕ → Type 0) (s : State C) (now : ℕ) (act : Act) → AcksAct Q s act → AcksAct Q (at_moment s now) act
   at_moment-acks Q s now (Arrive from bytes) meets =
@@ -85,9 +93,41 @@ module _ {C : Type 0} (w : Ways C) where
       recvs-acked room phase.Closing = is
       recvs-acked room phase.Closed = is
 
+      send_as-acked : (bytes : List ℕ) (k : Kind) → Q (send_as s bytes k).after.sending.blocks.first
+      send_as-acked bytes kind.Stream = sends-acked bytes s.phase
+      send_as-acked bytes kind.Message = is
+
+      recv_as-acked : (room : ℕ) (k : Kind) → Q (recv_as s room k).after.sending.blocks.first
+      recv_as-acked room kind.Stream = recvs-acked room s.phase
+      recv_as-acked room kind.Message = is
+
+      asks-acked : (ttl : Option ℕ) (order : Bool) (bytes : List ℕ) (phase : Phase)
+          → Q (send_message_in s ttl order bytes phase).after.sending.blocks.first
+      asks-acked ttl order bytes phase.Connected =
+          still (after_send_message s.sending s.last ttl order bytes) (message-first s.sending s.last ttl order bytes)
+      asks-acked ttl order bytes (phase.Broken why) = is
+      asks-acked ttl order bytes phase.Closing = is
+      asks-acked ttl order bytes phase.Closed = is
+
+      ask_as-acked : (ttl : Option ℕ) (order : Bool) (bytes : List ℕ) (k : Kind)
+          → Q (send_message_as s ttl order bytes k).after.sending.blocks.first
+      ask_as-acked ttl order bytes kind.Stream = is
+      ask_as-acked ttl order bytes kind.Message = asks-acked ttl order bytes s.phase
+
+      shows-acked : (room : ℕ) (phase : Phase) → Q (recv_message_in s room phase).after.sending.blocks.first
+      shows-acked room phase.Connected = is
+      shows-acked room (phase.Broken why) = is
+      shows-acked room phase.Closing = is
+      shows-acked room phase.Closed = is
+
+      show_as-acked : (room : ℕ) (k : Kind) → Q (recv_message_as s room k).after.sending.blocks.first
+      show_as-acked room kind.Stream = is
+      show_as-acked room kind.Message = shows-acked room s.phase
+
       packed-acked : (p : Packing) → Q (packed_so w s p).after.sending.blocks.first
       packed-acked (Waits until) = is
       packed-acked (Retransmits offset block) = is
+      packed-acked (Drops message) = is
       packed-acked (Sends block) = is
       packed-acked Idles = is
 
@@ -116,6 +156,7 @@ module _ {C : Type 0} (w : Ways C) where
             passed = λ counters answer differs. is;
             noticed = λ counters answer differs connected. is;
             brought = λ number flags stamp block connected sender said. is;
+            dropped = λ message stamp first last range connected sender said messages taken. is;
             acknowledged = λ number stamp body offset connected sender said acks.
                 subst Q (sym (after_ack-acked w s.sending s.rtt body offset acks))
                 (meets number stamp body offset sender (reads ∙ said) (acking-acks s.sending (acked_number body) offset acks));
@@ -125,8 +166,10 @@ module _ {C : Type 0} (w : Ways C) where
           })
 
       acts-acked : (act : Act) → AcksAct Q s act → Q (on_act w s act).after.sending.blocks.first
-      acts-acked (Send bytes) meets = sends-acked bytes s.phase
-      acts-acked (Recv room) meets = recvs-acked room s.phase
+      acts-acked (Send bytes) meets = send_as-acked bytes s.kind
+      acts-acked (Recv room) meets = recv_as-acked room s.kind
+      acts-acked (SendMessage ttl order bytes) meets = ask_as-acked ttl order bytes s.kind
+      acts-acked (RecvMessage room) meets = show_as-acked room s.kind
       acts-acked Pack meets = packs-acked s.phase
       acts-acked Tick meets = ticks-acked s.phase
       acts-acked Close meets = is

@@ -4,11 +4,12 @@ use Rattle.std.specs.Prelude.{slice_get}
 use Rattle.std.specs.List.{Contains}
 use Rattle.std.proofs.lemmas.List.Elements.{Contains-append_left, Contains-append_right, Contains-push}
 use Rattle.std.proofs.lemmas.Option.{same_Some}
+use Rattle.udt_model.specs.declared.packets.Kind.TheVariants.{Stream}
 use Rattle.udt_model.specs.declared.addresses.Addr.{Addr}
 use Rattle.udt_model.specs.declared.answers.Peer.{Peer}
 use Rattle.udt_model.specs.declared.packets.Config.{Config}
 use Rattle.udt_model.specs.Emissions.{arrived_by_act, arrived_by, arrivals, IsCarried, IsMadeOf}
-use Rattle.udt_model.specs.Events.{Act, Send, Recv, Pack, Tick, Close, Measure, Arrive}
+use Rattle.udt_model.specs.Events.{Act, Send, Recv, SendMessage, RecvMessage, Pack, Tick, Close, Measure, Arrive}
 use Rattle.udt_model.specs.History.{Item, History, IsLegal, delivered, start_of}
 use Rattle.udt_model.specs.Numbers.{sequence_number}
 use Rattle.udt_model.specs.Opening.{opening}
@@ -58,6 +59,8 @@ module _ {C : Type 0} (w : Ways C) where
         → ((datagram : Datagram) → Contains (arrived_by_act act) datagram → Contains arrived datagram) → MeetsAct HasArrived s act
     act-arrived s (Send bytes) is_own is_addr is_isn among = tt
     act-arrived s (Recv room) is_own is_addr is_isn among = tt
+    act-arrived s (SendMessage ttl order bytes) is_own is_addr is_isn among = tt
+    act-arrived s (RecvMessage room) is_own is_addr is_isn among = tt
     act-arrived s Pack is_own is_addr is_isn among = tt
     act-arrived s Tick is_own is_addr is_isn among = tt
     act-arrived s Close is_own is_addr is_isn among = tt
@@ -91,14 +94,14 @@ module _ {C : Type 0} (w : Ways C) where
     pub opened_kept : (P : ℕ → List ℕ → Type 0) → Kept P start h.opening.receiving.blocks []
     opened_kept P = subst (λ (s : State C). Kept P start s.receiving.blocks []) (sym opened) (kept-opening P own config peer now start)
 
-    made_of : IsMadeOf (delivered h) (arrivals h) own peer.addr ((peer.isn + start) % 2 ^ 31)
-    made_of =
+    made_of : h.opening.kind ≡ Stream → IsMadeOf (delivered h) (arrivals h) own peer.addr ((peer.isn + start) % 2 ^ 31)
+    made_of stream =
         let P = HasArrived (arrivals h) own peer.addr peer.isn in
         let own_is = opened_own w own config peer now start h opened in
         let addr_is = ap (λ (p : Peer). p.addr) (opened_peer w own config peer now start h opened) in
         let isn_is = opened_receiving w own config peer now start h opened in
         let meets = all-arrived (arrivals h) own peer.addr peer.isn h.opening h.items own_is addr_is isn_is (λ datagram among. among) in
-        let front = delivers-front_of w P start h.opening h.items legal meets (opened_kept P) in
+        let front = delivers-front_of w P start h.opening h.items stream legal meets (opened_kept P) in
         record {
           payloads = front.blocks;
           carried = λ n payload found. subst (λ number. IsCarried (arrivals h) own peer.addr number payload) (same-number peer.isn start n)
@@ -106,20 +109,20 @@ module _ {C : Type 0} (w : Ways C) where
           front = front.front;
         }
 
-    made_of_peer : (pair : PeerPair) → own_peer w h ≡ Some pair
+    made_of_peer : (pair : PeerPair) → h.opening.kind ≡ Stream → own_peer w h ≡ Some pair
         → IsMadeOf (delivered h) (arrivals h) own pair.addr ((peer_isn w h + start_of h) % 2 ^ 31)
-    made_of_peer pair names =
+    made_of_peer pair stream names =
         let addr : peer.addr ≡ pair.addr =
         sym (ap (λ (p : Peer). p.addr) (last_peer w own config peer now start h opened)) ∙ ap (λ (p : PeerPair). p.addr) (same_Some _ _ names) in
         let isn : (peer.isn + start) % 2 ^ 31 ≡ (peer_isn w h + start_of h) % 2 ^ 31 =
         ap (λ (n : ℕ). (n + start) % 2 ^ 31) (sym (ap (λ (p : Peer). p.isn) (last_peer w own config peer now start h opened)))
         ∙ ap (λ (n : ℕ). (peer_isn w h + n) % 2 ^ 31) (sym (opened_start w own config peer now start h opened)) in
         subst (λ (number : ℕ). IsMadeOf (delivered h) (arrivals h) own pair.addr number) isn
-        (subst (λ (from : Addr). IsMadeOf (delivered h) (arrivals h) own from ((peer.isn + start) % 2 ^ 31)) addr made_of)
+        (subst (λ (from : Addr). IsMadeOf (delivered h) (arrivals h) own from ((peer.isn + start) % 2 ^ 31)) addr (made_of stream))
 
-  by_way : (own : ℕ) (way : Way) (h : History C) (pair : PeerPair) → h.opening ≡ opened_by w own way → IsLegal w h → own_peer w h ≡ Some pair
+  by_way : (own : ℕ) (way : Way) (h : History C) (pair : PeerPair) → h.opening ≡ opened_by w own way → IsLegal w h → h.opening.kind ≡ Stream → own_peer w h ≡ Some pair
       → IsMadeOf (delivered h) (arrivals h) own pair.addr ((peer_isn w h + start_of h) % 2 ^ 31)
-  by_way own (PairedAt config peer now start) h pair opened legal names = made_of_peer own config peer now start h opened legal pair names
+  by_way own (PairedAt config peer now start) h pair opened legal stream names = made_of_peer own config peer now start h opened legal pair stream names
 
   pub one_history : OneHistory w
-  one_history socket pair is_socket stream names = by_way socket.own socket.way socket.history pair is_socket.opened is_socket.legal names
+  one_history socket pair is_socket stream names = by_way socket.own socket.way socket.history pair is_socket.opened is_socket.legal stream names

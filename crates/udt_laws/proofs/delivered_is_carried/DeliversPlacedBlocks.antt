@@ -1,4 +1,4 @@
--- What a socket delivers over a history: a front of blocks that meet whatever each block meets that an arrival places.
+-- What a stream socket delivers over a history: a front of blocks that meet whatever each block meets that an arrival places.
 use Rattle.std.proofs.Common.{◌≡◌, ◌∙◌, ℕ, List, [], ◌∷◌, ◌++◌, Some, Ok, refl, sym, subst}
 use Rattle.std.proofs.lemmas.List.{append_assoc, append-nil}
 use Rattle.udt_model.specs.declared.addresses.Addr.{Addr}
@@ -6,56 +6,28 @@ use Rattle.udt_model.specs.declared.answers.Phase.{Phase}
 use Rattle.udt_model.specs.declared.answers.Phase.TheVariants as phase
 use Rattle.udt_model.specs.declared.answers.Refusal.TheVariants as refusal
 use Rattle.udt_model.specs.declared.packets.Flags.{Flags}
+use Rattle.udt_model.specs.declared.packets.Kind.{Kind}
+use Rattle.udt_model.specs.declared.packets.Kind.TheVariants as kind
 use Rattle.udt_model.specs.declared.sockets.ExpOutcome.{ExpOutcome}
 use Rattle.udt_model.specs.declared.sockets.ExpOutcome.TheVariants as exp
 use Rattle.udt_model.specs.Arrivals.{on_read}
-use Rattle.udt_model.specs.Calls.{send_in, recv_in, pack_in}
-use Rattle.udt_model.specs.Events.{Act, Send, Recv, Pack, Tick, Close, Measure, Arrive, Event, Outcome, at_moment}
+use Rattle.udt_model.specs.Calls.{send_in, send_as, recv_in, recv_as, send_message_as, recv_message_as, pack_in}
+use Rattle.udt_model.specs.Events.{Act, Send, Recv, SendMessage, RecvMessage, Pack, Tick, Close, Measure, Arrive, Event, Outcome, at_moment}
 use Rattle.udt_model.specs.History.{Item, given_by, delivered_by, after_items, AreLegal}
 use Rattle.udt_model.specs.Numbers.{near}
 use Rattle.udt_model.specs.Rate.{Ways}
 use Rattle.udt_model.specs.ReceiveBlocks.{ReceiveBlocks}
-use Rattle.udt_model.specs.ReceiveHalf.{Receiving}
-use Rattle.udt_model.specs.ReceiveReports.{AckOutcome, IsEarly, IsKnown, EmitsAck, ack_outcome, after_ack_outcome, after_ack_timer, after_nak_timer, confirmed_by, after_ack2}
 use Rattle.udt_model.specs.State.{State}
 use Rattle.udt_model.specs.Step.{on_act, step}
 use Rattle.udt_model.specs.Ticks.{exp_outcome, after_exp, after_reports, tick_in}
-use Rattle.udt_model.specs.Timing.{RoundTrip, last_under}
 use Rattle.udt_model.specs.Wire.{Block, read}
-use Rattle.std.proofs.lemmas.Bool.{cases_Bool}
-use Rattle.std.proofs.Common.{arith}
-use Rattle.std.specs.Prelude.{nat_lt, Option, None}
-use Rattle.udt_model.specs.declared.sockets.SentAck.{SentAck}
+use Rattle.std.specs.Prelude.{Bool, Option}
 use Rattle.udt_model.proofs.ArrivalLemmas.{arrival-shows}
+use Rattle.udt_model.proofs.StepLemmas.{step-keeps}
+use Rattle.udt_laws.proofs.delivered_is_carried.ReportsLeave.{reports-leave, ack2-leaves}
 use Rattle.udt_laws.proofs.delivered_is_carried.GivenIsOfBlocks.{Kept, keep-receive, keep-arrival, IsPrefixOf, kept-front}
 
--- ---- reports leave the blocks as they are
-
-ack-leaves : (r : Receiving) (now : ℕ) (t : AckOutcome) → (after_ack_outcome r now t).blocks ≡ r.blocks
-ack-leaves r now IsEarly = refl
-ack-leaves r now IsKnown = refl
-ack-leaves r now (EmitsAck ack) = refl
-
-ack_timer-leaves : (r : Receiving) (now : ℕ) (known : RoundTrip) → (after_ack_timer r now known).blocks ≡ r.blocks
-unfolding after_ack_timer
-ack_timer-leaves r now known = ack-leaves r now (ack_outcome r now known)
-
-nak_timer-leaves : (r : Receiving) (now : ℕ) (known : RoundTrip) → (after_nak_timer r now known).blocks ≡ r.blocks
-unfolding after_nak_timer
-nak_timer-leaves r now known = grind (arith, cases_Bool (nat_lt now r.nak_due))
-
-confirmed-leaves : (r : Receiving) (number : ℕ) (found : Option SentAck) → (confirmed_by r number found).blocks ≡ r.blocks
-confirmed-leaves r number None = refl
-confirmed-leaves r number (Some ack) = refl
-
-ack2-leaves : (r : Receiving) (number : ℕ) → (after_ack2 r number).blocks ≡ r.blocks
-unfolding after_ack2
-ack2-leaves r number = confirmed-leaves r number (last_under number r.history)
-
 module _ {C : Type 0} where
-  reports-leave : (s : State C) → (after_reports s).receiving.blocks ≡ s.receiving.blocks
-  reports-leave s = nak_timer-leaves (after_ack_timer s.receiving s.last s.rtt) s.last s.rtt ∙ ack_timer-leaves s.receiving s.last s.rtt
-
   -- each block that an arrival may place in this state meets this
   abbrev pub MeetsAct : (ℕ → List ℕ → Type 0) → State C → Act → Type 0
   MeetsAct P s (Arrive from bytes) =
@@ -66,13 +38,8 @@ module _ {C : Type 0} where
 
   -- a moment changes nothing of this
   pub meets-at_moment : (P : ℕ → List ℕ → Type 0) (s : State C) (now : ℕ) (act : Act) → MeetsAct P s act → MeetsAct P (at_moment s now) act
-  meets-at_moment P s now (Send bytes) meets = tt
-  meets-at_moment P s now (Recv room) meets = tt
-  meets-at_moment P s now Pack meets = tt
-  meets-at_moment P s now Tick meets = tt
-  meets-at_moment P s now Close meets = tt
-  meets-at_moment P s now Measure meets = tt
   meets-at_moment P s now (Arrive from bytes) meets = meets
+  meets-at_moment P s now act meets = tt
 
   -- an outcome keeps the half, with what it gave
   abbrev Keeps : (ℕ → List ℕ → Type 0) → ℕ → List ℕ → Outcome C → Type 0
@@ -88,7 +55,8 @@ module _ {C : Type 0} (w : Ways C) where
   AllMeet P s [] = Unit {0}
   AllMeet P s (item ∷ items) = MeetsAct P s item.event.act × AllMeet P (step w s item.event).after items
 
-  module _ (P : ℕ → List ℕ → Type 0) (start : ℕ) (s : State C) (got : List ℕ) (kept : Kept P start s.receiving.blocks got) where
+  module _ (P : ℕ → List ℕ → Type 0) (start : ℕ) (s : State C) (got : List ℕ) (kept : Kept P start s.receiving.blocks got)
+      (stream : s.kind ≡ kind.Stream) where
     nothing : Kept P start s.receiving.blocks (got ++ [])
     nothing = keep-none P start s.receiving.blocks got kept
 
@@ -104,6 +72,23 @@ module _ {C : Type 0} (w : Ways C) where
     keep-recv room phase.Closing = nothing
     keep-recv room phase.Closed = nothing
 
+    keep-send_as : (bytes : List ℕ) (k : Kind) → Keeps P start got (send_as s bytes k)
+    keep-send_as bytes kind.Stream = keep-send bytes s.phase
+    keep-send_as bytes kind.Message = nothing
+
+    keep-recv_as : (room : ℕ) (k : Kind) → Keeps P start got (recv_as s room k)
+    keep-recv_as room kind.Stream = keep-recv room s.phase
+    keep-recv_as room kind.Message = nothing
+
+    keep-send_message : (ttl : Option ℕ) (order : Bool) (bytes : List ℕ) (k : Kind) → s.kind ≡ k
+        → Keeps P start got (send_message_as s ttl order bytes k)
+    keep-send_message ttl order bytes kind.Stream is = nothing
+    keep-send_message ttl order bytes kind.Message is = absurd (cc)
+
+    keep-recv_message : (room : ℕ) (k : Kind) → s.kind ≡ k → Keeps P start got (recv_message_as s room k)
+    keep-recv_message room kind.Stream is = nothing
+    keep-recv_message room kind.Message is = absurd (cc)
+
     keep-pack : (phase : Phase) → Keeps P start got (pack_in w s phase)
     keep-pack phase.Connected = nothing
     keep-pack (phase.Broken why) = nothing
@@ -111,7 +96,7 @@ module _ {C : Type 0} (w : Ways C) where
     keep-pack phase.Closed = nothing
 
     told : Kept P start (after_reports s).receiving.blocks (got ++ [])
-    told = rw (reports-leave s) nothing
+    told = rw ((reports-leave s.receiving s.last s.rtt).blocks) nothing
 
     keep-exp : (what : ExpOutcome) → Kept P start (after_exp w (after_reports s) what).receiving.blocks (got ++ [])
     keep-exp exp.NotDue = told
@@ -133,15 +118,18 @@ module _ {C : Type 0} (w : Ways C) where
           keep-none P start _ got
           (keep-arrival P start s.receiving got s.last number flags payload
           (λ offset is_near. meets number flags stamp payload offset sender is is_near) kept);
+      dropped = λ message stamp first last range connected sender is messages taken. absurd (cc);
       acknowledged = λ number stamp body offset connected sender is acks. nothing;
       reported = λ stamp ranges connected sender is. nothing;
-      confirmed = λ number ack connected found. rw (ack2-leaves s.receiving number) nothing;
+      confirmed = λ number ack connected found. rw ((ack2-leaves s.receiving number).blocks) nothing;
       ended = λ connected. nothing;
     })
 
     keep-act : (act : Act) → MeetsAct P s act → Keeps P start got (on_act w s act)
-    keep-act (Send bytes) meets = keep-send bytes s.phase
-    keep-act (Recv room) meets = keep-recv room s.phase
+    keep-act (Send bytes) meets = keep-send_as bytes s.kind
+    keep-act (Recv room) meets = keep-recv_as room s.kind
+    keep-act (SendMessage ttl order bytes) meets = keep-send_message ttl order bytes s.kind refl
+    keep-act (RecvMessage room) meets = keep-recv_message room s.kind refl
     keep-act Pack meets = keep-pack s.phase
     keep-act Tick meets = keep-tick s.phase
     keep-act Close meets = nothing
@@ -149,28 +137,28 @@ module _ {C : Type 0} (w : Ways C) where
     keep-act (Arrive from bytes) meets = keep-on_read from bytes meets
 
   module _ (P : ℕ → List ℕ → Type 0) (start : ℕ) where
-    keep-step : (s : State C) (got : List ℕ) (event : Event) → MeetsAct P s event.act → Kept P start s.receiving.blocks got
+    keep-step : (s : State C) (got : List ℕ) (event : Event) → s.kind ≡ kind.Stream → MeetsAct P s event.act → Kept P start s.receiving.blocks got
         → Keeps P start got (step w s event)
     unfolding step
-    keep-step s got event meets kept =
-        keep-act P start (at_moment s event.now) got kept event.act (meets-at_moment P s event.now event.act meets)
+    keep-step s got event stream meets kept =
+        keep-act P start (at_moment s event.now) got kept stream event.act (meets-at_moment P s event.now event.act meets)
 
     -- over all items, the half keeps what it gave, and what they delivered
-    pub keep-items : (s : State C) (items : List Item) (got : List ℕ) → AreLegal w s items → AllMeet P s items
+    pub keep-items : (s : State C) (items : List Item) (got : List ℕ) → s.kind ≡ kind.Stream → AreLegal w s items → AllMeet P s items
         → Kept P start s.receiving.blocks got
         → Kept P start (after_items w s items).receiving.blocks (got ++ delivered_by items)
     unfolding after_items AreLegal delivered_by
-    keep-items s [] got legal meets kept = keep-none P start s.receiving.blocks got kept
-    keep-items s (item ∷ items) got legal meets kept =
+    keep-items s [] got stream legal meets kept = keep-none P start s.receiving.blocks got kept
+    keep-items s (item ∷ items) got stream legal meets kept =
         let next = (step w s item.event).after in
-        let after = keep-step s got item.event meets.0 kept in
+        let after = keep-step s got item.event stream meets.0 kept in
         let given = subst (λ reply. Kept P start next.receiving.blocks (got ++ given_by reply)) (sym legal.0) after in
-        let all = keep-items next items (got ++ given_by item.reply) legal.2 meets.1 given in
+        let all = keep-items next items (got ++ given_by item.reply) ((step-keeps w s item.event).kind ∙ stream) legal.2 meets.1 given in
         subst (Kept P start (after_items w next items).receiving.blocks)
         (append_assoc got (given_by item.reply) (delivered_by items)) all
 
     -- so what a history delivered that began with a half that had given nothing is a front
-    pub delivers-front_of : (s : State C) (items : List Item) → AreLegal w s items → AllMeet P s items → Kept P start s.receiving.blocks []
+    pub delivers-front_of : (s : State C) (items : List Item) → s.kind ≡ kind.Stream → AreLegal w s items → AllMeet P s items → Kept P start s.receiving.blocks []
         → IsPrefixOf P start (delivered_by items)
-    delivers-front_of s items legal meets kept =
-        kept-front P start _ (delivered_by items) (keep-items s items [] legal meets kept)
+    delivers-front_of s items stream legal meets kept =
+        kept-front P start _ (delivered_by items) (keep-items s items [] stream legal meets kept)

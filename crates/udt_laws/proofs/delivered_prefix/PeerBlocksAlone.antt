@@ -5,6 +5,7 @@ use Rattle.std.specs.List.{Contains, concat}
 use Rattle.std.proofs.lemmas.Option.{same_Some}
 use Rattle.std.proofs.lemmas.List.{append_assoc}
 use Rattle.std.proofs.lemmas.List.Elements.{Contains-push}
+use Rattle.udt_model.specs.declared.packets.Kind.TheVariants.{Stream}
 use Rattle.udt_model.specs.declared.answers.Peer.{Peer}
 use Rattle.udt_model.specs.declared.packets.Config.{Config}
 use Rattle.udt_model.specs.declared.packets.Flags.{Flags}
@@ -14,16 +15,16 @@ use Rattle.udt_model.specs.Opening.{opening}
 use Rattle.udt_model.specs.History.{History, state_of, start_of, IsLegal, accepted, delivered}
 use Rattle.udt_model.specs.declared.addresses.Addr.{Addr}
 use Rattle.udt_model.specs.Records.{Way, PairedAt, opened_by, IsWay, ArePaired}
-use Rattle.udt_model.specs.Emissions.{IsPrefix, emitted}
+use Rattle.udt_model.specs.Emissions.{IsPrefix}
 use Rattle.udt_model.specs.Rate.{Ways}
 use Rattle.udt_model.specs.State.{Emission}
-use Rattle.udt_model.specs.Honest.{IsClose}
 use Rattle.udt_model.proofs.NearLemmas.{near-is}
 use Rattle.udt_model.proofs.ReceivingLemmas.{AllFrom, concat-append}
 use Rattle.udt_laws.specs.Laws.{HasBlocks}
 use Rattle.udt_laws.proofs.delivered_is_carried.GivenIsOfBlocks.{IsPrefixOf}
 use Rattle.udt_laws.proofs.delivered_is_carried.DeliversPlacedBlocks.{AllMeet, delivers-front_of}
 use Rattle.udt_laws.proofs.sockets.Opened.{opened_own, opened_peer, opened_receiving, opened_start, opened_top, opened_base, opened_placed, last_peer, last_isn}
+use Rattle.udt_laws.proofs.sockets.OneSocket.{IsEmittedNear}
 use Rattle.udt_laws.proofs.delivered_prefix.WindowRises.{IsWithin}
 use Rattle.udt_laws.proofs.delivered_is_carried.DeliveredIsCarried.{opened_kept}
 use Rattle.udt_laws.proofs.sent_blocks.SentBlocks.{has_blocks}
@@ -37,13 +38,6 @@ drop-found (first ∷ others) (suc k) block found =
     rw same (drop-found others k block found)
 
 module _ {C : Type 0} (w : Ways C) where
-  -- the bytes were emitted in this history, and what they name lies near this offset
-  pub record IsEmittedNear (g : History C) (top : ℕ) (bytes : List ℕ) : Type 0 where
-    pub emission : Emission
-    pub among : Contains (emitted w g) emission
-    pub same : emission.datagram.bytes ≡ bytes
-    pub close : (offset : ℕ) → Contains emission.offsets offset → IsClose offset top
-
   module _ (g : History C) (has : HasBlocks w g) where
     -- the block of the sender at this offset
     abbrev pub IsBlockAt : ℕ → List ℕ → Type 0
@@ -55,7 +49,7 @@ module _ {C : Type 0} (w : Ways C) where
       pub is_block : IsBlockAt offset payload
 
     pub reads-as : (isn top number offset : ℕ) (flags : Flags) (stamp dest : ℕ) (bytes payload : List ℕ) → (state_of w g).sending.isn ≡ isn
-        → (is : IsEmittedNear g top bytes) → read bytes ≡ Ok (Block number flags stamp dest payload) → near isn top number ≡ Some offset
+        → (is : IsEmittedNear w g top bytes) → read bytes ≡ Ok (Block number flags stamp dest payload) → near isn top number ≡ Some offset
         → IsReadAs is.emission offset payload
     reads-as isn top number offset flags stamp dest bytes payload same_isn is reads found =
         let carries = has.emits is.emission number flags stamp dest payload is.among (ap read is.same ∙ reads) in
@@ -92,9 +86,9 @@ module _ {C : Type 0} (w : Ways C) where
 
     -- a socket that begins where the sender does, and places only its blocks, delivers a front of what it accepted
     pub delivers-front : (own : ℕ) (config : Config) (peer : Peer) (now start : ℕ) (h : History C) → h.opening ≡ opening w own config peer now start
-        → IsLegal w h → start_of g ≡ start → AllMeet w IsBlockAt h.opening h.items → IsPrefix (delivered h) (accepted g)
-    delivers-front own config peer now start h opened legal same_start meets =
-        let front = delivers-front_of w IsBlockAt start h.opening h.items legal meets
+        → IsLegal w h → start_of g ≡ start → h.opening.kind ≡ Stream → AllMeet w IsBlockAt h.opening h.items → IsPrefix (delivered h) (accepted g)
+    delivers-front own config peer now start h opened legal same_start stream meets =
+        let front = delivers-front_of w IsBlockAt start h.opening h.items stream legal meets
         (opened_kept w own config peer now start h opened legal IsBlockAt) in
         front-accepted (delivered h) (subst (λ (n : ℕ). IsPrefixOf IsBlockAt n (delivered h)) (sym same_start) front)
 
@@ -106,13 +100,12 @@ module _ {C : Type 0} (w : Ways C) where
     pub has : HasBlocks w g
     pub own_is : h.opening.own ≡ own
     pub peer_addr : h.opening.peer.addr ≡ other_addr
-    pub peer_id : h.opening.peer.id ≡ other_own
     pub back_addr : (state_of w g).peer.addr ≡ addr
     pub back_id : (state_of w g).peer.id ≡ own
     pub same_isn : (state_of w g).sending.isn ≡ h.opening.receiving.isn
     pub same_start : start_of g ≡ start_of h
     pub stands : IsWithin (start_of h) (start_of h) h.opening.receiving
-    pub front : AllMeet w (IsBlockAt g has) h.opening h.items → IsPrefix (delivered h) (accepted g)
+    pub front : h.opening.kind ≡ Stream → AllMeet w (IsBlockAt g has) h.opening h.items → IsPrefix (delivered h) (accepted g)
 
   pub mates : (addr : Addr) (own : ℕ) (way : Way) (h : History C) (other_addr : Addr) (other_own : ℕ) (other_way : Way) (g : History C)
       → ArePaired addr own way other_addr other_own other_way → h.opening ≡ opened_by w own way → IsLegal w h
@@ -126,7 +119,6 @@ module _ {C : Type 0} (w : Ways C) where
         has = has;
         own_is = opened_own w own config peer now start h opened;
         peer_addr = ap (λ (p : Peer). p.addr) peer_is ∙ paired.0;
-        peer_id = ap (λ (p : Peer). p.id) peer_is ∙ paired.1;
         back_addr = ap (λ (p : Peer). p.addr) back_is ∙ paired.2;
         back_id = ap (λ (p : Peer). p.id) back_is ∙ paired.3;
         same_isn = last_isn w other_own other_config other_peer other_now other_start g other_opened ∙ paired.5

@@ -1,19 +1,19 @@
--- Where a receiving half stands, over events: its base never falls, its placed blocks lie below the greatest offset that
+-- Where the receiving half of a stream stands, over events: its base never falls, its placed blocks lie below the greatest offset that
 -- arrived, and that stays at most where all that it places lies below.
 use Rattle.std.proofs.Common.{◌≡◌, ℕ, ◌+◌, ◌<◌, ◌≤◌, List, Some, None, Ok, refl, subst, arith}
 use Rattle.std.specs.Prelude.{Option, nat_lt, if◌then◌else◌}
-use Rattle.std.proofs.lemmas.Bool.{cases_Bool}
 use Rattle.std.proofs.Common.{true, false}
 use Rattle.udt_model.specs.declared.addresses.Addr.{Addr}
 use Rattle.udt_model.specs.declared.answers.Placed.{Placed}
 use Rattle.udt_model.specs.declared.answers.Placed.TheVariants as placing
 use Rattle.udt_model.specs.declared.packets.Flags.{Flags}
+use Rattle.udt_model.specs.declared.packets.Kind.TheVariants.{Stream}
 use Rattle.udt_model.specs.declared.sockets.SentAck.{SentAck}
 use Rattle.udt_model.specs.Events.{Act, Arrive, Event}
 use Rattle.udt_model.specs.Losses.{report, after_report}
 use Rattle.udt_model.specs.Numbers.{near}
 use Rattle.udt_model.specs.Rate.{Ways}
-use Rattle.udt_model.specs.ReceiveBlocks.{ReceiveBlocks, PlacedBlock, placing_of, arrived_at, put_block, after_placing_of, after_place}
+use Rattle.udt_model.specs.ReceiveBlocks.{ReceiveBlocks, PlacedBlock, placing_of, arrived_at, after_placing_of, after_place}
 use Rattle.udt_model.specs.ReceiveHalf.{Receiving, measured, offset_of, placing_at, with_new, after_placing, after_block, after_receive}
 use Rattle.udt_model.specs.ReceiveReports.{nak_words, AckOutcome, IsEarly, IsKnown, EmitsAck, ack_outcome, after_ack_outcome, after_ack_timer, after_nak_timer, confirmed_by, after_ack2}
 use Rattle.udt_model.specs.State.{State}
@@ -129,13 +129,15 @@ module _ {C : Type 0} (w : Ways C) where
       let meets = subst (MeetsAct (λ offset payload. offset < high) s) is below in
       meets number flags stamp bytes offset sender reads is_near
 
-  pub step-within : (low high : ℕ) (s : State C) (event : Event) → MeetsAct (λ offset payload. offset < high) s event.act
+  pub step-within : (low high : ℕ) (s : State C) (event : Event) → s.kind ≡ Stream → MeetsAct (λ offset payload. offset < high) s event.act
       → IsWithin low high s.receiving → IsWithin low high (step w s event).after.receiving
-  step-within low high s event below within = receiving-shows w s event (IsWithin low high) (record {
+  step-within low high s event stream below within = receiving-shows w s event (IsWithin low high) (record {
     stays = within;
-    reads = λ room. read-within low high s.receiving _ within;
+    reads = λ room streams. read-within low high s.receiving _ within;
     carries = λ now from raw number flags stamp bytes is sender reads. block-within low high s.receiving now number flags bytes
         (carries-below high s event.act from raw number flags stamp bytes below is sender reads) within;
+    shows = λ room messages. absurd (cc);
+    drops = λ now from raw message stamp first last range is sender reads messages taken. absurd (cc);
     tells = λ now known. reports-within low high s.receiving now known within;
     confirms = λ number. ack2-within low high s.receiving number within;
   })

@@ -1,12 +1,13 @@
--- The data packets of a history name offsets below as many past its start as it has events, or as it sent datagrams.
+-- The data packets of a stream's history name offsets below as many past its start as it has events, or as it sent datagrams.
 use Rattle.std.proofs.Common.{◌≡◌, ℕ, ◌+◌, ◌<◌, ◌≤◌, List, [], ◌∷◌, ◌++◌, length, Ok, ap, ◌∙◌, subst, arith}
 use Rattle.std.specs.List.{Contains}
 use Rattle.std.proofs.lemmas.List.{length-append}
+use Rattle.udt_model.specs.declared.packets.Kind.TheVariants.{Stream}
 use Rattle.udt_model.specs.declared.packets.Flags.{Flags}
 use Rattle.udt_model.specs.Wire.{Block, read}
 use Rattle.udt_model.specs.Events.{outs_of}
 use Rattle.udt_model.specs.Rate.{Ways}
-use Rattle.udt_model.specs.State.{State, Datagram, Emission}
+use Rattle.udt_model.specs.State.{State, Emission}
 use Rattle.udt_model.specs.Step.{step}
 use Rattle.udt_model.specs.History.{Item, History, AreLegal, IsLegal, after_items, start_of}
 use Rattle.udt_model.specs.Records.{Way, opened_by, IsWay}
@@ -16,7 +17,7 @@ use Rattle.udt_model.proofs.RecordLemmas.{sent_by-append}
 use Rattle.udt_model.proofs.EmissionLemmas.{IsEmittedAt}
 use Rattle.udt_laws.proofs.sockets.Opened.{way-next}
 use Rattle.udt_laws.proofs.sent_blocks.SentBlocks.{same-packet, moment-at, emission-at, emission-reads}
-use Rattle.udt_laws.proofs.sent_blocks.NamedWasSent.{items-advance, packet-below, outs-many}
+use Rattle.udt_laws.proofs.sent_blocks.NamedWasSent.{opening-endless, items-advance, packet-below, outs-many}
 
 module _ {C : Type 0} (w : Ways C) where
   -- all data packets of the history name offsets below this one
@@ -37,14 +38,15 @@ module _ {C : Type 0} (w : Ways C) where
   outs-legal s [] item rest legal = legal.1
   outs-legal s (first ∷ front) item rest legal = outs-legal (step w s first.event).after front item rest legal.2
 
-  module _ (own : ℕ) (way : Way) (h : History C) (in_range : IsWay own way) (opened : h.opening ≡ opened_by w own way) (legal : IsLegal w h) where
+  module _ (own : ℕ) (way : Way) (h : History C) (in_range : IsWay own way) (opened : h.opening ≡ opened_by w own way) (legal : IsLegal w h)
+      (stream : h.opening.kind ≡ Stream) where
     comes-to : (emission : Emission) (is : IsEmittedAt w h.opening h.items emission) (offset : ℕ)
         → offset ≤ (after_items w h.opening is.front).sending.next → ComesTo h offset
     unfolding sent_by
     comes-to emission is offset low =
         let front = AreLegal-front w h.opening is.front (is.item ∷ is.rest)
         (subst (λ (items : List Item). IsLegal w (record { opening = h.opening; items = items })) is.joined legal) in
-        let advanced = items-advance w h.opening is.front front in
+        let advanced = items-advance w h.opening is.front (opening-endless w own way h opened stream) front in
         let begins = way-next w own way h opened in
         let outs = ap length (outs-legal h.opening is.front is.item is.rest
         (subst (λ (items : List Item). IsLegal w (record { opening = h.opening; items = items })) is.joined legal)) ∙ outs-many w (step w (after_items w h.opening is.front) is.item.event) in

@@ -1,15 +1,15 @@
 -- Two sockets that were made as a pair and got from each other alone have honest records: fewer than 2^30 datagrams of
 -- each name no offset too far from where the other reads it.
 use Rattle.std.proofs.Common.{◌≡◌, ℕ, ◌+◌, ◌^◌, ◌<◌, ◌≤◌, List, [], ◌∷◌, ◌++◌, length, Some, Ok, inl, inr, ap, ◌∙◌, sym, subst, arith}
-use Rattle.std.specs.List.{Contains, concat}
-use Rattle.std.specs.Prelude.{map}
+use Rattle.std.specs.List.{Contains}
 use Rattle.std.proofs.lemmas.List.Elements.{Contains-append_left, Contains-append_right, Contains-push, Contains-push_cases}
+use Rattle.udt_model.specs.declared.packets.Kind.TheVariants.{Stream}
 use Rattle.udt_model.specs.declared.addresses.Addr.{Addr}
 use Rattle.udt_model.specs.declared.answers.Peer.{Peer}
 use Rattle.udt_model.specs.declared.packets.Flags.{Flags}
 use Rattle.udt_model.specs.declared.sockets.SentAck.{SentAck}
 use Rattle.udt_model.specs.Emissions.{emitted, sent, arrived_by_act, arrived_by, arrivals}
-use Rattle.udt_model.specs.Events.{Act, Send, Recv, Pack, Tick, Close, Measure, Arrive, Reply, at_moment}
+use Rattle.udt_model.specs.Events.{Act, Arrive, Reply, at_moment}
 use Rattle.udt_model.specs.History.{Item, after_items, state_of, start_of}
 use Rattle.udt_model.specs.Honest.{IsClose, read_by, IsHonestAct, AreHonest}
 use Rattle.udt_model.specs.Numbers.{near}
@@ -20,26 +20,29 @@ use Rattle.udt_model.specs.Records.{Enrolled, IsSocket, EndpointRecord, StandsAt
 use Rattle.udt_model.specs.State.{State, Datagram, Emission}
 use Rattle.udt_model.specs.Step.{step}
 use Rattle.udt_model.specs.Wire.{Packet, Block, read}
-use Rattle.udt_model.proofs.EmissionLemmas.{Emitting, NewBlock, LostBlock, FullAck, LightAck, Reports, ReportsGap, AnswersAck, SendsKeepAlive, TheEnd, IsEmittedAt}
+use Rattle.udt_model.proofs.StreamLemmas.{packing-no_drop}
+use Rattle.udt_model.proofs.EmissionLemmas.{Emitting, NewBlock, LostBlock, DropRequest, FullAck, LightAck, Reports, ReportsGap, ReportsDropGap, AnswersAck, SendsKeepAlive, TheEnd, IsEmittedAt}
 use Rattle.udt_model.proofs.ReceivingLemmas.{offset_of-some}
 use Rattle.udt_model.proofs.RecordLemmas.{emitted-from_sent, arrived_by-append}
 use Rattle.udt_model.proofs.SendingLemmas.{IsCut}
 use Rattle.udt_model.proofs.StepLemmas.{step-keeps, after_items-keeps}
 use Rattle.udt_model.proofs.TickLemmas.{ack_outcome-tells}
 use Rattle.udt_laws.specs.Laws.{ComesFrom, AllComesFrom, both_records, PairHonest}
+use Rattle.udt_laws.proofs.sockets.Opened.{pair-stream}
 use Rattle.udt_laws.proofs.acked_has_arrived.BelowGapWasPlaced.{ack-within}
 use Rattle.udt_laws.proofs.acked_has_arrived.SendsOneAnEvent.{SendsBelow, sends-below_sent}
 use Rattle.udt_laws.proofs.delivered_is_carried.DeliversPlacedBlocks.{MeetsAct, meets-at_moment}
 use Rattle.udt_laws.proofs.delivered_prefix.PeerBlocksAlone.{AreMates, mates}
 use Rattle.udt_laws.proofs.delivered_prefix.WindowRises.{IsWithin, block-within, carries-below}
 use Rattle.udt_laws.proofs.pairs.NamedIsBelow as bounds
-use Rattle.udt_laws.proofs.pairs.PairIsLawful.{paired-back, stands_first, stands_second, both-honest, pair-lawful}
+use Rattle.udt_laws.proofs.sockets.OneSocket.{paired-back}
+use Rattle.udt_laws.proofs.pairs.PairIsLawful.{stands_first, stands_second, both-honest, pair-lawful}
 use Rattle.udt_laws.proofs.pairs.PairPrefix.{meets-map, IsBlockBelow, near-receiver, act-below, stays-within, within-after, begins-within}
 use Rattle.udt_laws.proofs.sent_blocks.AcceptedIsCut.{blocks_of, step-cut}
 use Rattle.udt_laws.proofs.sent_blocks.EmissionsRead.{packet_of}
 use Rattle.udt_laws.proofs.sent_blocks.GoesToPeer.{emission-goes}
 use Rattle.udt_laws.proofs.sent_blocks.NakRanges.{EndsMeet, IsBetween, nak-ends, block-gap, gap-found, named-ends}
-use Rattle.udt_laws.proofs.sent_blocks.NamedWasSent.{only-named}
+use Rattle.udt_laws.proofs.sent_blocks.NamedWasSent.{only-named, IsEndless, items-endless, moment-endless, opening-endless}
 use Rattle.udt_laws.proofs.sent_blocks.ReportsFit.{ReportsFit, block-fits}
 use Rattle.udt_laws.proofs.sent_blocks.SentBlocks.{same-packet, way-begins, moment-at, emission-at}
 
@@ -122,6 +125,8 @@ module _ {C : Type 0} (w : Ways C) where
     pub are : AreMates w addr socket.own socket.history from other.own other.history
     pub all : AllComesFrom socket from other
     pub few : length (sent other.history) < 2 ^ 30
+    pub stream : socket.history.opening.kind ≡ Stream
+    pub other_stream : other.history.opening.kind ≡ Stream
 
   module _ (addr : Addr) (socket : Enrolled C) (from : Addr) (other : Enrolled C) (pair : IsOneOfPair addr socket from other) where
     comes : ComesFrom socket from other
@@ -134,6 +139,7 @@ module _ {C : Type 0} (w : Ways C) where
     blocks-below : bounds.BlocksBelow w other.history (limit_of other)
     unfolding limit_of
     blocks-below = bounds.below-sent w other.own other.way other.history pair.other_in.in_range pair.other_in.opened pair.other_in.legal
+        pair.other_stream
 
     -- where its receiving half stands in the beginning, and after some items
     begins : IsWithin (start_of other.history) (limit_of other) socket.history.opening.receiving
@@ -144,7 +150,7 @@ module _ {C : Type 0} (w : Ways C) where
         → IsWithin (start_of other.history) (limit_of other) (after_items w socket.history.opening front).receiving
     stands-after front rest joined =
         let split = ap arrived_by joined ∙ arrived_by-append front rest in
-        within-after w socket other from pair.other_in pair.are.has comes (limit_of other) limited blocks-below socket.history.opening front pair.are.own_is
+        within-after w socket other from pair.other_in pair.are.has comes (limit_of other) limited blocks-below socket.history.opening front pair.stream pair.are.own_is
         pair.are.peer_addr pair.are.same_isn begins
         (λ datagram among. subst (λ (l : List Datagram). Contains l datagram) (sym split) (Contains-append_left _ _ datagram among))
 
@@ -183,41 +189,46 @@ module _ {C : Type 0} (w : Ways C) where
         → Contains (emitted w other.history) emission → emission.datagram.bytes ≡ bytes
         → (t : State C) (act : Act) (reply : Reply) (x : Emitting w t act reply emission) → read bytes ≡ Ok (packet_of w t act reply emission x)
         → Contains emission.offsets offset → ReportsFit t.receiving
-        → IsWithin (start_of socket.history) (limit_of socket) t.receiving → MeetsAct (λ n payload. n < limit_of socket) t act
+        → IsWithin (start_of socket.history) (limit_of socket) t.receiving → MeetsAct (λ n payload. n < limit_of socket) t act → IsEndless w t
         → IsClose offset (read_by s (packet_of w t act reply emission x))
-    kind-close s emission bytes offset within acked among bytes_are t act reply (NewBlock block connected packs is) reads named fits stood meets =
+    kind-close s emission bytes offset within acked among bytes_are t act reply (NewBlock block connected packs is) reads named fits stood meets endless =
         near-receiver w socket other from pair.other_in pair.are.has (comes addr socket from other pair) (limit_of other) (limited addr socket from other pair)
         (blocks-below addr socket from other pair) s.receiving emission bytes block.bytes _ _ _ offset block.flags within among bytes_are reads named
-    kind-close s emission bytes offset within acked among bytes_are t act reply (LostBlock lost block connected packs is) reads named fits stood meets =
+    kind-close s emission bytes offset within acked among bytes_are t act reply (LostBlock lost block connected packs is) reads named fits stood meets endless =
         near-receiver w socket other from pair.other_in pair.are.has (comes addr socket from other pair) (limit_of other) (limited addr socket from other pair)
         (blocks-below addr socket from other pair) s.receiving emission bytes block.bytes _ _ _ offset block.flags within among bytes_are reads named
-    kind-close s emission bytes offset within acked among bytes_are t act reply (FullAck ack connected tells is) reads named fits stood meets =
+    kind-close s emission bytes offset within acked among bytes_are t act reply (DropRequest message connected packs is) reads named fits stood meets endless =
+        absurd (packing-no_drop w t.sending t.last message endless.none packs)
+    kind-close s emission bytes offset within acked among bytes_are t act reply (FullAck ack connected tells is) reads named fits stood meets endless =
         let there = tells-within (start_of socket.history) (limit_of socket) t ack fits stood tells in
         let same = only-named emission ack.offset offset (ap (λ (e : Emission). e.offsets) is) named in
         both-close (start_of socket.history) (limit_of socket) offset s.sending.blocks.first (limited from other addr socket back)
         (omega (arith, there.0, same)) (omega (arith, there.1, same)) acked.not_below acked.not_above
-    kind-close s emission bytes offset within acked among bytes_are t act reply (LightAck sender raw number flags stamp payload connected arrives carries sent replies is) reads named fits stood meets =
+    kind-close s emission bytes offset within acked among bytes_are t act reply (LightAck sender raw number flags stamp payload connected arrives carries sent replies is) reads named fits stood meets endless =
         let there = light-within (start_of socket.history) (limit_of socket) t act sender raw number flags stamp payload fits stood meets arrives carries sent in
         let same = only-named emission (ack_offset (after_block t.receiving t.last number flags payload)) offset (ap (λ (e : Emission). e.offsets) is) named in
         both-close (start_of socket.history) (limit_of socket) offset s.sending.blocks.first (limited from other addr socket back)
         (omega (arith, there.0, same)) (omega (arith, there.1, same)) acked.not_below acked.not_above
-    kind-close s emission bytes offset within acked among bytes_are t act reply (Reports range ranges connected reports is) reads named fits stood meets =
+    kind-close s emission bytes offset within acked among bytes_are t act reply (Reports range ranges connected reports is) reads named fits stood meets endless =
         let there = subst (λ (l : List ℕ). Contains l offset) (ap (λ (e : Emission). e.offsets) is) named in
         let ends = subst (λ l. EndsMeet (IsBetween t.receiving) l) reports (nak-ends t.receiving t.last t.rtt fits) in
         let between = named-ends (IsBetween t.receiving) (range ∷ ranges) offset ends there in
         both-close (start_of socket.history) (limit_of socket) offset s.sending.blocks.first (limited from other addr socket back)
         (omega (arith, between.0, stood.not_below)) (omega (arith, between.1, stood.not_above)) acked.not_below acked.not_above
-    kind-close s emission bytes offset within acked among bytes_are t act reply (ReportsGap sender raw number flags stamp payload ends connected arrives carries sent gap is) reads named fits stood meets =
+    kind-close s emission bytes offset within acked among bytes_are t act reply (ReportsGap sender raw number flags stamp payload ends connected arrives carries sent gap is) reads named fits stood meets endless =
         let there = subst (λ (l : List ℕ). Contains l offset) (ap (λ (e : Emission). e.offsets) is) named in
         let at = gap-within (start_of socket.history) (limit_of socket) t act sender raw number flags stamp payload ends fits stood meets arrives carries sent gap in
         let between = two-named (start_of socket.history) (limit_of socket) ends offset at there in
         both-close (start_of socket.history) (limit_of socket) offset s.sending.blocks.first (limited from other addr socket back)
         between.0 between.1 acked.not_below acked.not_above
-    kind-close s emission bytes offset within acked among bytes_are t act reply (AnswersAck number connected is) reads named fits stood meets =
+    kind-close s emission bytes offset within acked among bytes_are t act reply (ReportsDropGap sender raw message stamp first last range ends connected arrives asks sent messages taken gap is) reads named fits stood meets endless =
+        let streams = endless.stream in
+        absurd (cc)
+    kind-close s emission bytes offset within acked among bytes_are t act reply (AnswersAck number connected is) reads named fits stood meets endless =
         absurd (none-named offset (subst (λ (l : List ℕ). Contains l offset) (ap (λ (e : Emission). e.offsets) is) named))
-    kind-close s emission bytes offset within acked among bytes_are t act reply (SendsKeepAlive connected is) reads named fits stood meets =
+    kind-close s emission bytes offset within acked among bytes_are t act reply (SendsKeepAlive connected is) reads named fits stood meets endless =
         absurd (none-named offset (subst (λ (l : List ℕ). Contains l offset) (ap (λ (e : Emission). e.offsets) is) named))
-    kind-close s emission bytes offset within acked among bytes_are t act reply (TheEnd closing is) reads named fits stood meets =
+    kind-close s emission bytes offset within acked among bytes_are t act reply (TheEnd closing is) reads named fits stood meets endless =
         absurd (none-named offset (subst (λ (l : List ℕ). Contains l offset) (ap (λ (e : Emission). e.offsets) is) named))
 
     -- so what an emission names is
@@ -233,18 +244,15 @@ module _ {C : Type 0} (w : Ways C) where
         subst (λ (p : Packet). IsClose offset (read_by s p)) same
         (kind-close s emission bytes offset within acked among bytes_are (at_moment (after_items w other.history.opening at.front) at.item.event.now)
         at.item.event.act _ at.emitting (ap read (sym bytes_are) ∙ goes.reads) named moment.can.reports (named-within emission at)
-        (meets-at_moment (λ n payload. n < limit_of socket) (after_items w other.history.opening at.front) at.item.event.now at.item.event.act (meets-within emission at)))
+        (meets-at_moment (λ n payload. n < limit_of socket) (after_items w other.history.opening at.front) at.item.event.now at.item.event.act (meets-within emission at))
+        (moment-endless w (after_items w other.history.opening at.front) at.item.event.now
+        (items-endless w other.history.opening at.front
+        (opening-endless w other.own other.way other.history pair.other_in.opened pair.other_stream))))
 
     act-honest : (s : State C) (act : Act) → IsWithin (start_of other.history) (limit_of other) s.receiving
         → IsAckedWithin (start_of socket.history) (limit_of socket) s
         → ((datagram : Datagram) → Contains (arrived_by_act act) datagram → Contains (arrivals socket.history) datagram)
         → IsHonestAct w net addr s act
-    act-honest s (Send bytes) within acked among = tt
-    act-honest s (Recv room) within acked among = tt
-    act-honest s Pack within acked among = tt
-    act-honest s Tick within acked among = tt
-    act-honest s Close within acked among = tt
-    act-honest s Measure within acked among = tt
     act-honest s (Arrive a bytes) within acked among =
         let came = pair.all (record { addr = a; bytes = bytes }) (among _ (Contains-push [] _)) in
         let is = emitted-from_sent w other.history.opening other.history.items came.1.0 pair.other_in.legal came.1.1 in
@@ -259,26 +267,27 @@ module _ {C : Type 0} (w : Ways C) where
           datagram = datagram-is is.emission.datagram addr bytes (goes.addr ∙ pair.are.back_addr) bytes_are;
           close = λ packet offset reads named. close-to s is.emission bytes packet offset within acked is.among bytes_are reads named;
         }
+    act-honest s act within acked among = tt
 
-    items-honest : (s : State C) (blocks : List (List ℕ)) (items : List Item) → s.own ≡ socket.own → s.peer.addr ≡ from
+    items-honest : (s : State C) (blocks : List (List ℕ)) (items : List Item) → s.kind ≡ Stream → s.own ≡ socket.own → s.peer.addr ≡ from
         → (state_of w other.history).sending.isn ≡ s.receiving.isn
         → IsWithin (start_of other.history) (limit_of other) s.receiving → IsCut s.sending (start_of socket.history) blocks
         → SendsBelow w (limit_of socket) s items
         → ((datagram : Datagram) → Contains (arrived_by items) datagram → Contains (arrivals socket.history) datagram)
         → AreHonest w net addr s items
     unfolding arrived_by AreHonest
-    items-honest s blocks [] own_is addr_is isn_is within is_cut below among = tt
-    items-honest s blocks (item ∷ items) own_is addr_is isn_is within is_cut below among =
+    items-honest s blocks [] stream own_is addr_is isn_is within is_cut below among = tt
+    items-honest s blocks (item ∷ items) stream own_is addr_is isn_is within is_cut below among =
         let same = step-keeps w s item.event in
         let here = λ (datagram : Datagram) (h : Contains (arrived_by_act item.event.act) datagram). among datagram (Contains-append_left _ _ datagram h) in
         let meets = act-below w socket other from pair.other_in pair.are.has (comes addr socket from other pair) (limit_of other) (limited addr socket from other pair)
         (blocks-below addr socket from other pair) s item.event.act own_is addr_is isn_is within here in
         let next = stays-within w socket other from pair.other_in pair.are.has (comes addr socket from other pair) (limit_of other) (limited addr socket from other pair)
-        (blocks-below addr socket from other pair) s item.event meets within in
+        (blocks-below addr socket from other pair) s item.event stream meets within in
         let acked : IsAckedWithin (start_of socket.history) (limit_of socket) s =
         record { not_below = is_cut.not_before; not_above = omega (arith, is_cut.sent_from, below.0) } in (
           act-honest s item.event.act within acked here,
-          items-honest (step w s item.event).after (blocks ++ blocks_of s item.event) items (same.own ∙ own_is) (ap (λ (p : Peer). p.addr) same.peer ∙ addr_is)
+          items-honest (step w s item.event).after (blocks ++ blocks_of s item.event) items (same.kind ∙ stream) (same.own ∙ own_is) (ap (λ (p : Peer). p.addr) same.peer ∙ addr_is)
               (isn_is ∙ sym same.receiving.isn) next (step-cut w (start_of socket.history) blocks s item.event is_cut) below.1
               (λ datagram h. among datagram (Contains-append_right _ _ datagram h)),
         )
@@ -288,13 +297,15 @@ module _ {C : Type 0} (w : Ways C) where
     history-honest =
         let h = socket.history in
         let well = way-begins w socket.own socket.way h pair.in_range.in_range pair.in_range.opened in
-        items-honest h.opening [] h.items pair.are.own_is pair.are.peer_addr pair.are.same_isn (begins addr socket from other pair)
-        well.cut (sends-below_sent w socket.own socket.way h pair.in_range.in_range pair.in_range.opened pair.in_range.legal)
+        items-honest h.opening [] h.items pair.stream pair.are.own_is pair.are.peer_addr pair.are.same_isn (begins addr socket from other pair)
+        well.cut (sends-below_sent w socket.own socket.way h pair.in_range.in_range pair.in_range.opened pair.stream pair.in_range.legal)
         (λ datagram among. among)
 
   pub pair_honest : PairHonest w
-  pair_honest addr other_addr socket other apart in_range other_in paired all other_all few other_few =
+  pair_honest addr other_addr socket other apart in_range other_in paired stream all other_all few other_few =
       let net = both_records addr socket other_addr other in
+      let other_stream = pair-stream w addr socket.own socket.way socket.history other_addr other.own other.way other.history paired
+      in_range.opened other_in.opened stream in
       let back = paired-back addr socket.own socket.way other_addr other.own other.way paired in
       let one : IsOneOfPair addr socket other_addr other = record {
         in_range = in_range;
@@ -303,6 +314,8 @@ module _ {C : Type 0} (w : Ways C) where
             in_range.opened in_range.legal other_in.in_range other_in.opened other_in.legal;
         all = all;
         few = other_few;
+        stream = stream;
+        other_stream = other_stream;
       } in
       let two : IsOneOfPair other_addr other addr socket = record {
         in_range = other_in;
@@ -311,6 +324,8 @@ module _ {C : Type 0} (w : Ways C) where
             other_in.opened other_in.legal in_range.in_range in_range.opened in_range.legal;
         all = other_all;
         few = few;
+        stream = other_stream;
+        other_stream = stream;
       } in (
         pair-lawful w addr other_addr socket other apart in_range other_in paired,
         both-honest w addr other_addr socket other

@@ -5,6 +5,6 @@ use Rattle.udt_laws.proofs.prefix.Goals as goal
 
 pub returns : goal.returns
 returns g c = λ net addr socket other peer lawful honest here stream peer_is there own_is. record {
-  prefix = prefix-delivered g.C.Control.ways net addr socket other peer lawful honest here peer_is there own_is;
-  acknowledged = prefix-arrived g.C.Control.ways net addr socket other peer lawful honest here peer_is there own_is;
+  prefix = prefix-delivered g.C.Control.ways net addr socket other peer lawful honest here stream peer_is there own_is;
+  acknowledged = prefix-arrived g.C.Control.ways net addr socket other peer lawful honest here stream peer_is there own_is;
 }

@@ -10,14 +10,14 @@ use Rattle.udt_model.specs.State.{Datagram}
 use Rattle.udt_model.specs.Step.{step}
 use Rattle.udt_model.specs.Events.{Event, outs_of}
 use Rattle.udt_model.specs.Rate.{Ways}
-use Rattle.udt_model.specs.History.{History, state_of, happened}
+use Rattle.udt_model.specs.History.{History, state_of, happened, taken_by, accepted_by, accepted}
 use Rattle.udt_model.specs.Records.{Way, Enrolled, IsSocket, ArePaired}
 use Rattle.udt_model.specs.Emissions.{sent_by, sent, arrived_by_act, arrived_by, arrivals}
 use Rattle.udt_model.specs.Script.{from_host, event_at}
 use Rattle.udt_model.specs.Network.{ScriptSocket, ScriptDatagram, Network}
-use Rattle.udt_model.proofs.HistoryLemmas.{IsLegal-happened}
+use Rattle.udt_model.proofs.HistoryLemmas.{accepted_by-append, IsLegal-happened}
 use Rattle.udt_model.proofs.RecordLemmas.{sent_by-append, arrived_by-append}
-use Rattle.udt_laws.specs.Laws.{IsStream}
+use Rattle.udt_laws.proofs.scripts.LineSizes.{size_of_act, taken-size}
 use Rattle.udt_laws.proofs.scripts.ReplacedOne.{set-other, set-same, found-once, map-among}
 
 -- where a socket stands and how it was opened, which never changes
@@ -53,12 +53,16 @@ module _ {C : Type 0} where
   abbrev pub HaveFew : Network C → ℕ → Type 0
   HaveFew n most = (k : ℕ) (script_socket : ScriptSocket C) → slice_get n.sockets k ≡ Some script_socket → length script_socket.history.items ≤ most
 
+  -- and accepted this many bytes at most
+  abbrev pub HaveTaken : Network C → ℕ → Type 0
+  HaveTaken n size =
+      (k : ℕ) (script_socket : ScriptSocket C) → slice_get n.sockets k ≡ Some script_socket → length (accepted script_socket.history) ≤ size
+
 module _ {C : Type 0} (w : Ways C) where
   pub record IsPlanned (plans : List Plan) (k : ℕ) (script_socket : ScriptSocket C) : Type 0 where
     pub plan : Plan
     pub at : slice_get plans k ≡ Some plan
     pub host : script_socket.host ≡ plan.host
-    pub stream : IsStream script_socket.history
     pub socket : IsSocket w (enrolled_at k plan.way script_socket.history)
 
   -- the network is one that a script makes
@@ -80,6 +84,12 @@ module _ {C : Type 0} (w : Ways C) where
   arrivals-happened : (h : History C) (pass : ℕ) (event : Event) → arrivals (happened w h pass event) ≡ arrivals h ++ arrived_by_act event.act
   unfolding arrived_by
   arrivals-happened h pass event = arrived_by-append h.items _ ∙ ap (λ (more : List Datagram). arrivals h ++ more) (append-nil (arrived_by_act event.act))
+
+  accepted-happened : (h : History C) (pass : ℕ) (event : Event)
+      → accepted (happened w h pass event) ≡ accepted h ++ taken_by event.act (step w (state_of w h) event).reply
+  unfolding accepted_by
+  accepted-happened h pass event =
+      accepted_by-append h.items _ ∙ ap (λ (more : List ℕ). accepted h ++ more) (append-nil (taken_by event.act (step w (state_of w h) event).reply))
 
   length-happened : (h : History C) (pass : ℕ) (event : Event) → length (happened w h pass event).items ≡ length h.items + 1
   length-happened h pass event = length-append h.items _
@@ -168,7 +178,6 @@ module _ {C : Type 0} (w : Ways C) where
               plan = planned.plan;
               at = planned.at;
               host = planned.host;
-              stream = planned.stream;
               socket = record { in_range = socket.in_range; opened = socket.opened; legal = IsLegal-happened w script_socket.history 0 event socket.legal };
             } in
             subst (λ (j : ℕ). IsPlanned is.plans j found) new.0 (subst (IsPlanned is.plans place) new.1 mine)
@@ -199,4 +208,22 @@ module _ {C : Type 0} (w : Ways C) where
           let events = ap (λ (s : ScriptSocket C). length s.history.items) (sym new.1) in
           omega (arith, events, few place script_socket here, length-happened script_socket.history 0 event)
       | inr old ↦ omega (arith, few k found old)
+    ]
+
+    -- it accepted no more bytes than the event gives
+    pub event-takes : (size : ℕ) → HaveTaken n size → HaveTaken (event_at w n place script_socket event).network (size + size_of_act event.act)
+    unfolding event_at after_event_of
+    event-takes size taken k found at = elim (socket-cases k found at) [
+      | inl new ↦
+          let h = script_socket.history in
+          let reply = (step w (state_of w h) event).reply in
+          let bytes = ap (λ (s : ScriptSocket C). length (accepted s.history)) (sym new.1) ∙ ap length (accepted-happened h 0 event) in
+          omega (
+            arith,
+            bytes,
+            taken place script_socket here,
+            length-append (accepted h) (taken_by event.act reply),
+            taken-size event.act reply,
+          )
+      | inr old ↦ omega (arith, taken k found old)
     ]

@@ -8,7 +8,7 @@ use Rattle.udt_model.specs.declared.addresses.Addr.{Addr}
 use Rattle.udt_model.specs.State.{Datagram}
 use Rattle.udt_model.specs.Opening.{opening, CanOpen}
 use Rattle.udt_model.specs.Rate.{Ways}
-use Rattle.udt_model.specs.History.{AreLegal}
+use Rattle.udt_model.specs.History.{AreLegal, accepted_by, accepted}
 use Rattle.udt_model.specs.Records.{PairedAt}
 use Rattle.udt_model.specs.Emissions.{arrived_by, arrivals}
 use Rattle.udt_model.specs.Lines.{Pairing}
@@ -16,7 +16,7 @@ use Rattle.udt_model.specs.Script.{config_of, peer_of, paired_socket, paired}
 use Rattle.udt_model.specs.Network.{ScriptSocket, Network, first_host, second_host}
 use Rattle.udt_laws.proofs.scripts.ReplacedOne.{append-found, append-first, append-second}
 use Rattle.udt_laws.proofs.scripts.PairLines.{IsPairing}
-use Rattle.udt_laws.proofs.scripts.KeepsNetwork.{Plan, IsPlanned, HasMate, CameAs, IsNetwork, HaveFew}
+use Rattle.udt_laws.proofs.scripts.KeepsNetwork.{Plan, IsPlanned, HasMate, CameAs, IsNetwork, HaveFew, HaveTaken}
 
 two-found : {X : Type 0} (a b x : X) (j : ℕ) → slice_get (a ∷ b ∷ []) j ≡ Some x → ((j ≡ 0) × (a ≡ x)) ⊎ ((j ≡ 1) × (b ≡ x))
 two-found a b x zero found = inl (refl, cc)
@@ -62,9 +62,8 @@ module _ {C : Type 0} (w : Ways C) where
         plan = first_plan;
         at = append-second is.plans _ (length n.sockets) 0 first_plan (omega (arith, is.count)) refl;
         host = refl;
-        stream = refl;
         socket = record {
-          in_range = record { stream = refl; values = can_open second_host (length n.sockets + 2); own_fits = omega (arith, room); id_fits = omega (arith, room); isn_fits = in_range.isn };
+          in_range = record { values = can_open second_host (length n.sockets + 2); own_fits = omega (arith, room); id_fits = omega (arith, room); isn_fits = in_range.isn };
           opened = refl;
           legal = tt;
         };
@@ -78,9 +77,8 @@ module _ {C : Type 0} (w : Ways C) where
             plan = second_plan;
             at = append-second is.plans _ (length n.sockets + 1) 1 second_plan (omega (arith, is.count)) refl;
             host = refl;
-            stream = refl;
             socket = record {
-              in_range = record { stream = refl; values = can_open first_host (length n.sockets + 1); own_fits = omega (arith, room); id_fits = omega (arith, room); isn_fits = in_range.isn };
+              in_range = record { values = can_open first_host (length n.sockets + 1); own_fits = omega (arith, room); id_fits = omega (arith, room); isn_fits = in_range.isn };
               opened = ap (λ (own : ℕ). opening w own (config_of p) (peer_of p first_host (length n.sockets + 1)) 0 p.start) own_is;
               legal = tt;
             };
@@ -120,7 +118,7 @@ module _ {C : Type 0} (w : Ways C) where
       socket-planned k script_socket at = elim (socket-found k script_socket at) [
         | inl old ↦
             let planned = is.sockets k script_socket old in
-            record { plan = planned.plan; at = append-first is.plans _ k planned.plan planned.at; host = planned.host; stream = planned.stream; socket = planned.socket }
+            record { plan = planned.plan; at = append-first is.plans _ k planned.plan planned.at; host = planned.host; socket = planned.socket }
         | inr new ↦ elim new [
           | inl one ↦ subst (λ (at_k : ℕ). IsPlanned w with_both at_k script_socket) one.0 (subst (IsPlanned w with_both (length n.sockets)) one.1 first-planned)
           | inr two ↦ subst (λ (at_k : ℕ). IsPlanned w with_both at_k script_socket) two.0 (subst (IsPlanned w with_both (length n.sockets + 1)) two.1 second-planned)
@@ -166,6 +164,17 @@ module _ {C : Type 0} (w : Ways C) where
         ]
       ]
 
+      few-bytes : (size k : ℕ) (script_socket : ScriptSocket C) → HaveTaken n size → slice_get (n.sockets ++ first_socket ∷ second_socket ∷ []) k ≡ Some script_socket
+          → length (accepted script_socket.history) ≤ size
+      unfolding first_socket second_socket accepted_by
+      few-bytes size k script_socket taken at = elim (socket-found k script_socket at) [
+        | inl old ↦ taken k script_socket old
+        | inr new ↦ elim new [
+          | inl one ↦ omega (arith, ap (λ (s : ScriptSocket C). length (accepted s.history)) one.1)
+          | inr two ↦ omega (arith, ap (λ (s : ScriptSocket C). length (accepted s.history)) two.1)
+        ]
+      ]
+
     pub pair-keeps : IsNetwork w n → IsNetwork w (paired w n p).network
     unfolding paired first_socket second_socket with_both
     pair-keeps is = record {
@@ -182,3 +191,7 @@ module _ {C : Type 0} (w : Ways C) where
     pub pair-counts : IsNetwork w n → (most : ℕ) → HaveFew n most → HaveFew (paired w n p).network most
     unfolding paired first_socket second_socket
     pair-counts is most few k script_socket at = few-events is most k script_socket few at
+
+    pub pair-takes : IsNetwork w n → (size : ℕ) → HaveTaken n size → HaveTaken (paired w n p).network size
+    unfolding paired first_socket second_socket
+    pair-takes is size taken k script_socket at = few-bytes is size k script_socket taken at

@@ -11,77 +11,85 @@ use Rattle.udt_model.specs.declared.addresses.Addr.{Addr}
 use Rattle.udt_model.specs.declared.answers.Peer.{Peer}
 use Rattle.udt_model.specs.Wire.{target}
 use Rattle.udt_model.specs.State.{Datagram}
-use Rattle.udt_model.specs.Events.{Act, Send, Recv, Pack, Tick, Close, Measure, Arrive, Event, event}
+use Rattle.udt_model.specs.Events.{Act, Arrive, Event, event}
 use Rattle.udt_model.specs.Rate.{Ways}
 use Rattle.udt_model.specs.History.{History, state_of}
-use Rattle.udt_model.specs.Records.{Way, PairedAt, opened_by, IsSocket, ArePaired, PeerPair}
+use Rattle.udt_model.specs.Records.{Way, PairedAt, opened_by, IsSocket, ArePaired, PeerPair, own_peer}
 use Rattle.udt_model.specs.Emissions.{sent, arrived_by_act}
 use Rattle.udt_model.specs.Words.{◌>>=◌}
 use Rattle.udt_model.specs.Lines.{Pairing, Line, Silent, PairLine, CallLine, DeliverLine, RawLine, read_line, is_arrival, is_raw, AreEmitted}
 use Rattle.udt_model.specs.Script.{Printed, paired, may_pair, event_at, event_there, arrived, delivery, on_line, played_line, left_by, network_from, network_after, size_of}
 use Rattle.udt_model.specs.Network.{ScriptSocket, ScriptDatagram, Network, empty_network, place_of, is_enrolled, is_host, Route, ToSocket, Nowhere, route_to, route_by, route}
-use Rattle.udt_laws.specs.Laws.{ComesFrom, ScriptPrefix}
+use Rattle.udt_laws.specs.Laws.{ComesFrom, ScriptPrefix, ScriptMessages}
+use Rattle.udt_laws.proofs.laid_messages.PairMessages.{pair-messages}
+use Rattle.udt_laws.proofs.scripts.LineSizes.{size_of_act, size_of_line, line-size}
 use Rattle.udt_laws.proofs.scripts.ReplacedOne.{found-once, found-among}
 use Rattle.udt_laws.proofs.scripts.PairLines.{IsPairing, line-in_range}
 use Rattle.udt_laws.proofs.sockets.Opened.{last_peer}
 use Rattle.udt_laws.proofs.sent_blocks.GoesToPeer.{sent-goes}
 use Rattle.udt_laws.proofs.pairs.PairPrefix.{events-prefix}
 use Rattle.udt_laws.proofs.acked_has_arrived.AckedHasArrived.{events-arrived}
-use Rattle.udt_laws.proofs.scripts.KeepsNetwork.{Plan, enrolled_at, IsPlanned, CameAs, IsNetwork, HaveFew, event-keeps, event-counts}
-use Rattle.udt_laws.proofs.scripts.PairKeepsNetwork.{no-arrival, pair-keeps, pair-counts}
+use Rattle.udt_laws.proofs.scripts.KeepsNetwork.{Plan, enrolled_at, IsPlanned, CameAs, IsNetwork, HaveFew, HaveTaken, event-keeps, event-counts, event-takes}
+use Rattle.udt_laws.proofs.scripts.PairKeepsNetwork.{no-arrival, pair-keeps, pair-counts, pair-takes}
 
 module _ {C : Type 0} (w : Ways C) where
   -- ---- calls and arrivals
 
-  -- a network that a script makes, whose sockets have had this many events at most
-  record IsMade (n : Network C) (most : ℕ) : Type 0 where
+  -- a network that a script makes, whose sockets have had this many events at most, and accepted this many bytes
+  record IsMade (n : Network C) (most size : ℕ) : Type 0 where
     network : IsNetwork w n
     few : HaveFew n most
+    taken : HaveTaken n size
 
   -- what a line leaves of such a network, in which a socket may have had one event more
-  Keeps : Network C → ℕ → Option (Printed C) → Type 0
-  Keeps n most printed = IsMade (left_by n printed) (most + 1)
+  Keeps : Network C → ℕ → ℕ → Option (Printed C) → Type 0
+  Keeps n most size printed = IsMade (left_by n printed) (most + 1) size
 
-  event-made : (n : Network C) (most place : ℕ) (script_socket : ScriptSocket C) (event : Event) → slice_get n.sockets place ≡ Some script_socket
-      → ((datagram : Datagram) → Contains (arrived_by_act event.act) datagram → CameAs n.datagrams datagram) → IsMade n most
-      → IsMade (event_at w n place script_socket event).network (most + 1)
-  event-made n most place script_socket event here comes made = record {
+  event-made : (n : Network C) (most size more place : ℕ) (script_socket : ScriptSocket C) (event : Event) → slice_get n.sockets place ≡ Some script_socket
+      → ((datagram : Datagram) → Contains (arrived_by_act event.act) datagram → CameAs n.datagrams datagram)
+      → size_of_act event.act ≤ more → IsMade n most size
+      → IsMade (event_at w n place script_socket event).network (most + 1) (size + more)
+  event-made n most size more place script_socket event here comes fits made = record {
     network = event-keeps w n place script_socket event here made.network comes;
     few = event-counts w n place script_socket event here most made.few;
+    taken = λ k found at. omega (arith, event-takes w n place script_socket event here size made.taken k found at, fits);
   }
 
   few-more : (n : Network C) (most : ℕ) → HaveFew n most → HaveFew n (most + 1)
   few-more n most few k script_socket at = omega (arith, few k script_socket at)
 
-  stays : (n : Network C) (most : ℕ) → IsMade n most → IsMade n (most + 1)
-  stays n most made = record { network = made.network; few = few-more n most made.few }
+  taken-more : (n : Network C) (size more : ℕ) → HaveTaken n size → HaveTaken n (size + more)
+  taken-more n size more taken k script_socket at = omega (arith, taken k script_socket at)
 
-  call-found : (n : Network C) (most place : ℕ) (event : Event) (found : Option (ScriptSocket C)) → slice_get n.sockets place ≡ found
-      → ((datagram : Datagram) → Contains (arrived_by_act event.act) datagram → CameAs n.datagrams datagram) → IsMade n most
-      → Keeps n most (option_map (λ socket. event_at w n place socket event) found)
-  unfolding Keeps
-  call-found n most place event None here comes made = stays n most made
-  call-found n most place event (Some socket) here comes made = event-made n most place socket event here comes made
+  stays : (n : Network C) (most size more : ℕ) → IsMade n most size → IsMade n (most + 1) (size + more)
+  stays n most size more made =
+      record { network = made.network; few = few-more n most made.few; taken = taken-more n size more made.taken }
 
-  call-there : (n : Network C) (most : ℕ) (place : Option ℕ) (event : Event)
-      → ((datagram : Datagram) → Contains (arrived_by_act event.act) datagram → CameAs n.datagrams datagram) → IsMade n most
-      → Keeps n most (event_there w n place event)
+  call-found : (n : Network C) (most size more place : ℕ) (event : Event) (found : Option (ScriptSocket C)) → slice_get n.sockets place ≡ found
+      → ((datagram : Datagram) → Contains (arrived_by_act event.act) datagram → CameAs n.datagrams datagram)
+      → size_of_act event.act ≤ more → IsMade n most size
+      → Keeps n most (size + more) (option_map (λ socket. event_at w n place socket event) found)
   unfolding Keeps
-  call-there n most None event comes made = stays n most made
-  call-there n most (Some place) event comes made = call-found n most place event (slice_get n.sockets place) refl comes made
+  call-found n most size more place event None here comes fits made = stays n most size more made
+  call-found n most size more place event (Some socket) here comes fits made =
+      event-made n most size more place socket event here comes fits made
+
+  call-there : (n : Network C) (most size more : ℕ) (place : Option ℕ) (event : Event)
+      → ((datagram : Datagram) → Contains (arrived_by_act event.act) datagram → CameAs n.datagrams datagram)
+      → size_of_act event.act ≤ more → IsMade n most size
+      → Keeps n most (size + more) (event_there w n place event)
+  unfolding Keeps
+  call-there n most size more None event comes fits made = stays n most size more made
+  call-there n most size more (Some place) event comes fits made =
+      call-found n most size more place event (slice_get n.sockets place) refl comes fits made
 
   nothing-came : (n : Network C) (datagram : Datagram) → Contains [] datagram → CameAs n.datagrams datagram
   nothing-came n datagram among = absurd (omega (arith, among.1))
 
   -- no call is an arrival
   nothing-came_by : (n : Network C) (act : Act) → is_arrival act ≡ false → (datagram : Datagram) → Contains (arrived_by_act act) datagram → CameAs n.datagrams datagram
-  nothing-came_by n (Send bytes) call = nothing-came n
-  nothing-came_by n (Recv room) call = nothing-came n
-  nothing-came_by n Pack call = nothing-came n
-  nothing-came_by n Tick call = nothing-came n
-  nothing-came_by n Close call = nothing-came n
-  nothing-came_by n Measure call = nothing-came n
   nothing-came_by n (Arrive from bytes) call = absurd (cc)
+  nothing-came_by n act call = nothing-came n
 
   datagram-came : (n : Network C) (script_datagram : ScriptDatagram) → Contains n.datagrams script_datagram → (datagram : Datagram)
       → Contains (record { addr = script_datagram.from; bytes = script_datagram.bytes } ∷ []) datagram → CameAs n.datagrams datagram
@@ -123,80 +131,94 @@ module _ {C : Type 0} (w : Ways C) where
         | false ↦ λ e. absurd (cc)
       ] is
 
-  arrival-made : (n : Network C) (most now : ℕ) (script_datagram : ScriptDatagram) (r : Route C) → route w n.sockets script_datagram ≡ r → Contains n.datagrams script_datagram → IsMade n most
-      → IsMade (arrived w n now script_datagram r).network (most + 1)
-  arrival-made n most now script_datagram (ToSocket place script_socket) is among made =
-      event-made n most place script_socket (event now (Arrive script_datagram.from script_datagram.bytes)) (route-found n.sockets script_datagram place script_socket is)
-      (datagram-came n script_datagram among) made
-  arrival-made n most now script_datagram (Nowhere word) is among made = stays n most made
+  arrival-made : (n : Network C) (most size more now : ℕ) (script_datagram : ScriptDatagram) (r : Route C) → route w n.sockets script_datagram ≡ r → Contains n.datagrams script_datagram → IsMade n most size
+      → IsMade (arrived w n now script_datagram r).network (most + 1) (size + more)
+  arrival-made n most size more now script_datagram (ToSocket place script_socket) is among made =
+      event-made n most size more place script_socket (event now (Arrive script_datagram.from script_datagram.bytes)) (route-found n.sockets script_datagram place script_socket is)
+      (datagram-came n script_datagram among) (omega arith) made
+  arrival-made n most size more now script_datagram (Nowhere word) is among made = stays n most size more made
 
-  delivery-made : (n : Network C) (most number now : ℕ) (found : Option ScriptDatagram) → slice_get n.datagrams number ≡ found → IsMade n most
-      → Keeps n most (delivery w n now found)
+  delivery-made : (n : Network C) (most size more number now : ℕ) (found : Option ScriptDatagram) → slice_get n.datagrams number ≡ found → IsMade n most size
+      → Keeps n most (size + more) (delivery w n now found)
   unfolding Keeps
-  delivery-made n most number now None is made = stays n most made
-  delivery-made n most number now (Some script_datagram) is made =
-      arrival-made n most now script_datagram (route w n.sockets script_datagram) refl (found-among n.datagrams number script_datagram is) made
+  delivery-made n most size more number now None is made = stays n most size more made
+  delivery-made n most size more number now (Some script_datagram) is made =
+      arrival-made n most size more now script_datagram (route w n.sockets script_datagram) refl (found-among n.datagrams number script_datagram is) made
 
   -- ---- lines
 
-  paired-made : (n : Network C) (most : ℕ) (p : Pairing) → IsPairing p → length n.sockets + 2 ≤ MOST_SOCKETS → IsMade n most
-      → IsMade (paired w n p).network (most + 1)
+  paired-made : (n : Network C) (most size more : ℕ) (p : Pairing) → IsPairing p → length n.sockets + 2 ≤ MOST_SOCKETS → IsMade n most size
+      → IsMade (paired w n p).network (most + 1) (size + more)
   unfolding paired
-  paired-made n most p in_range room made =
+  paired-made n most size more p in_range room made =
       let both = pair-counts w n p in_range room made.network most made.few in
-      record { network = pair-keeps w n p in_range room made.network; few = few-more (paired w n p).network most both }
+      let taken = pair-takes w n p in_range room made.network size made.taken in
+      record {
+        network = pair-keeps w n p in_range room made.network;
+        few = few-more (paired w n p).network most both;
+        taken = taken-more (paired w n p).network size more taken;
+      }
 
-  silent-made : (n : Network C) (most : ℕ) → IsMade n most → Keeps n most (on_line w n Silent)
+  silent-made : (n : Network C) (most size more : ℕ) → IsMade n most size → Keeps n most (size + more) (on_line w n Silent)
   unfolding Keeps
-  silent-made n most made = stays n most made
+  silent-made n most size more made = stays n most size more made
 
-  refused-made : (n : Network C) (most : ℕ) → IsMade n most → Keeps n most None
+  refused-made : (n : Network C) (most size more : ℕ) → IsMade n most size → Keeps n most (size + more) None
   unfolding Keeps
-  refused-made n most made = stays n most made
+  refused-made n most size more made = stays n most size more made
 
-  pair-made : (n : Network C) (most : ℕ) (p : Pairing) → IsPairing p → IsMade n most → Keeps n most (if may_pair n p then Some (paired w n p) else None)
+  pair-made : (n : Network C) (most size more : ℕ) (p : Pairing) → IsPairing p → IsMade n most size → Keeps n most (size + more) (if may_pair n p then Some (paired w n p) else None)
   unfolding Keeps
-  pair-made n most p in_range made =
-      elim (may_pair n p) as (λ may. may_pair n p ≡ may → IsMade (left_by n (if may then Some (paired w n p) else None)) (most + 1)) [
+  pair-made n most size more p in_range made =
+      elim (may_pair n p) as (λ may. may_pair n p ≡ may → IsMade (left_by n (if may then Some (paired w n p) else None)) (most + 1) (size + more)) [
         | true ↦ λ test.
             let room = leb-true (length n.sockets + 2) MOST_SOCKETS (and_parts _ _ (and_parts _ _ (and_parts _ _ test).0).0).0 in
-            paired-made n most p in_range room made
-        | false ↦ λ test. stays n most made
+            paired-made n most size more p in_range room made
+        | false ↦ λ test. stays n most size more made
       ] refl
 
-  form-made : (n : Network C) (most : ℕ) (line : List ℕ) (form : Line) → read_line line ≡ Some form → is_raw (Some form) ≡ false → IsMade n most
-      → Keeps n most (on_line w n form)
-  form-made n most line Silent reads emitted made = silent-made n most made
-  form-made n most line (PairLine p) reads emitted made = pair-made n most p (line-in_range line p reads) made
-  form-made n most line (CallLine name event) reads emitted made =
-      call-there n most (place_of name n.sockets) event (nothing-came_by n event.act emitted) made
-  form-made n most line (DeliverLine number now) reads emitted made = delivery-made n most number now (slice_get n.datagrams number) refl made
-  form-made n most line (RawLine now datagram) reads emitted made = absurd (cc)
+  form-made : (n : Network C) (most size more : ℕ) (line : List ℕ) (form : Line) → read_line line ≡ Some form → size_of_line form ≤ more
+      → is_raw (Some form) ≡ false → IsMade n most size
+      → Keeps n most (size + more) (on_line w n form)
+  form-made n most size more line Silent reads fits emitted made = silent-made n most size more made
+  form-made n most size more line (PairLine p) reads fits emitted made = pair-made n most size more p (line-in_range line p reads) made
+  form-made n most size more line (CallLine name event) reads fits emitted made =
+      call-there n most size more (place_of name n.sockets) event (nothing-came_by n event.act emitted) fits made
+  form-made n most size more line (DeliverLine number now) reads fits emitted made =
+      delivery-made n most size more number now (slice_get n.datagrams number) refl made
+  form-made n most size more line (RawLine now datagram) reads fits emitted made = absurd (cc)
 
-  read-made : (n : Network C) (most : ℕ) (line : List ℕ) (form : Option Line) → read_line line ≡ form → is_raw form ≡ false → IsMade n most
-      → Keeps n most (form >>= on_line w n)
-  read-made n most line None reads emitted made = refused-made n most made
-  read-made n most line (Some form) reads emitted made = form-made n most line form reads emitted made
+  read-made : (n : Network C) (most size more : ℕ) (line : List ℕ) (form : Option Line) → read_line line ≡ form → length line ≤ more → is_raw form ≡ false → IsMade n most size
+      → Keeps n most (size + more) (form >>= on_line w n)
+  read-made n most size more line None reads fits emitted made = refused-made n most size more made
+  read-made n most size more line (Some form) reads fits emitted made =
+      form-made n most size more line form reads (omega (arith, fits, line-size line form reads)) emitted made
 
-  line-made : (n : Network C) (most : ℕ) (line : List ℕ) → is_raw (read_line line) ≡ false → IsMade n most → Keeps n most (played_line w n line)
+  line-made : (n : Network C) (most size : ℕ) (line : List ℕ) → is_raw (read_line line) ≡ false → IsMade n most size
+      → Keeps n most (size + (length line + 1)) (played_line w n line)
   unfolding played_line
-  line-made n most line emitted made = read-made n most line (read_line line) refl emitted made
+  line-made n most size line emitted made = read-made n most size (length line + 1) line (read_line line) refl (omega arith) emitted made
 
-  lines-made : (n : Network C) (most : ℕ) (lines : List (List ℕ)) → AreEmitted lines → IsMade n most → IsMade (network_from w n lines) (most + length lines)
+  lines-made : (n : Network C) (most size : ℕ) (lines : List (List ℕ)) → AreEmitted lines → IsMade n most size
+      → IsMade (network_from w n lines) (most + length lines) (size + size_of lines)
   unfolding network_from Keeps
-  lines-made n most [] emitted made =
+  lines-made n most size [] emitted made =
       let none : most + length {A = List ℕ} [] ≡ most = omega arith in
-      rw none made
-  lines-made n most (line ∷ lines) emitted made =
+      let empty : size + size_of [] ≡ size = omega arith in
+      rw (none, empty) made
+  lines-made n most size (line ∷ lines) emitted made =
       let others = λ (k : ℕ) (d : List ℕ) (lt : k < length lines). emitted (suc k) d (omega arith) in
-      let after = lines-made (left_by n (played_line w n line)) (most + 1) lines others (line-made n most line (emitted 0 line (omega arith)) made) in
-      let same : most + length (line ∷ lines) ≡ most + 1 + length lines = omega arith in
-      rw same after
+      let here = line-made n most size line (emitted 0 line (omega arith)) made in
+      let after = lines-made (left_by n (played_line w n line)) (most + 1) (size + (length line + 1)) lines others here in
+      let events : most + length (line ∷ lines) ≡ most + 1 + length lines = omega arith in
+      let all = sum_by-cons (λ (l : List ℕ). length l + 1) line lines in
+      let bytes : size + size_of (line ∷ lines) ≡ size + (length line + 1) + size_of lines = omega (arith, all) in
+      rw (events, bytes) after
 
   none-found : {X : Type 0} (k : ℕ) (x : X) → slice_get [] k ≡ Some x → ⊥
   none-found k x found = cc
 
-  empty-made : IsMade empty_network 0
+  empty-made : IsMade empty_network 0 0
   empty-made = record {
     network = record {
       plans = [];
@@ -207,12 +229,14 @@ module _ {C : Type 0} (w : Ways C) where
       arrived = λ k script_socket datagram at among. absurd (none-found k script_socket at);
     };
     few = λ k script_socket at. absurd (none-found k script_socket at);
+    taken = λ k script_socket at. absurd (none-found k script_socket at);
   }
 
-  network-made : (lines : List (List ℕ)) → AreEmitted lines → IsMade (network_after w lines) (length lines)
+  network-made : (lines : List (List ℕ)) → AreEmitted lines → IsMade (network_after w lines) (length lines) (size_of lines)
   network-made lines emitted =
       let none : 0 + length lines ≡ length lines = omega arith in
-      rw none at (lines-made empty_network 0 lines emitted empty-made)
+      let empty : 0 + size_of lines ≡ size_of lines = omega arith in
+      rw (none, empty) at (lines-made empty_network 0 0 lines emitted empty-made)
 
   -- ---- the law
 
@@ -262,22 +286,58 @@ module _ {C : Type 0} (w : Ways C) where
           came.bytes,
         )
 
-  pub script_prefix : ScriptPrefix w
-  script_prefix lines place peer_place script_socket peer few emitted at peer_at names =
-      let made = network-made lines emitted in
-      let n = network_after w lines in
-      let a = made.network.sockets place script_socket at in
-      let b = made.network.sockets peer_place peer peer_at in
-      let one = enrolled_at place a.plan.way script_socket.history in
-      let other = enrolled_at peer_place b.plan.way peer.history in
-      let id : (state_of w script_socket.history).peer.id ≡ peer_place + 1 = ap (λ (p : PeerPair). p.id) (same_Some _ _ names) in
-      let are = mate-at n made.network place peer_place script_socket a.plan b.plan a.socket a.at b.at id in
-      let comes = comes-from n made.network place peer_place script_socket peer at peer_at id a b in
+  -- two sockets of which the one names the other were made as a pair, and each got from the other alone
+  record AreScriptPair (k m : ℕ) (script_socket peer : ScriptSocket C) : Type 0 where
+    host : Addr
+    way : Way
+    other_host : Addr
+    other_way : Way
+    socket : IsSocket w (enrolled_at k way script_socket.history)
+    other : IsSocket w (enrolled_at m other_way peer.history)
+    paired : ArePaired host (k + 1) way other_host (m + 1) other_way
+    comes : ComesFrom (enrolled_at k way script_socket.history) other_host (enrolled_at m other_way peer.history)
+    back_comes : ComesFrom (enrolled_at m other_way peer.history) host (enrolled_at k way script_socket.history)
+
+  script-pair : (n : Network C) → IsNetwork w n → (k m : ℕ) (script_socket peer : ScriptSocket C) → slice_get n.sockets k ≡ Some script_socket
+      → slice_get n.sockets m ≡ Some peer → own_peer w script_socket.history ≡ Some (record { addr = peer.host; id = m + 1 })
+      → AreScriptPair k m script_socket peer
+  script-pair n is k m script_socket peer at peer_at names =
+      let a = is.sockets k script_socket at in
+      let b = is.sockets m peer peer_at in
+      let id : (state_of w script_socket.history).peer.id ≡ m + 1 = ap (λ (p : PeerPair). p.id) (same_Some _ _ names) in
+      let are = mate-at n is k m script_socket a.plan b.plan a.socket a.at b.at id in
+      let back = pair-id_back a.plan.host (k + 1) a.plan.way b.plan.host (m + 1) b.plan.way peer.history are b.socket.opened in
       record {
-        prefix = events-prefix w a.plan.host b.plan.host one other a.socket b.socket are a.stream comes
-            (omega (arith, made.few peer_place peer peer_at, few));
-        acknowledged = events-arrived w a.plan.host b.plan.host one other a.socket b.socket are comes (omega (arith, made.few place script_socket at, few));
+        host = a.plan.host;
+        way = a.plan.way;
+        other_host = b.plan.host;
+        other_way = b.plan.way;
+        socket = a.socket;
+        other = b.socket;
+        paired = are;
+        comes = comes-from n is k m script_socket peer at peer_at id a b;
+        back_comes = comes-from n is m k peer script_socket peer_at at back b a;
       }
+
+  pub script_prefix : ScriptPrefix w
+  script_prefix lines place peer_place script_socket peer few emitted at peer_at stream names =
+      let made = network-made lines emitted in
+      let pair = script-pair (network_after w lines) made.network place peer_place script_socket peer at peer_at names in
+      let one = enrolled_at place pair.way script_socket.history in
+      let other = enrolled_at peer_place pair.other_way peer.history in
+      record {
+        prefix = events-prefix w pair.host pair.other_host one other pair.socket pair.other pair.paired stream pair.comes
+            (omega (arith, made.few peer_place peer peer_at, few));
+        acknowledged = events-arrived w pair.host pair.other_host one other pair.socket pair.other pair.paired stream pair.comes
+            (omega (arith, made.few place script_socket at, few));
+      }
+
+  pub script_messages : ScriptMessages w
+  script_messages lines place peer_place script_socket peer few emitted at peer_at carries names =
+      let made = network-made lines emitted in
+      let pair = script-pair (network_after w lines) made.network place peer_place script_socket peer at peer_at names in
+      pair-messages w pair.host pair.other_host (enrolled_at place pair.way script_socket.history) (enrolled_at peer_place pair.other_way peer.history)
+      pair.socket pair.other pair.paired carries pair.comes pair.back_comes (omega (arith, made.taken peer_place peer peer_at, few))
 
 -- there are at most as many lines as bytes with their line feeds, so the lines of a script are few enough
 pub lines-within : (lines : List (List ℕ)) → length lines ≤ size_of lines

@@ -1,77 +1,173 @@
 -- How a history cuts what it accepts into blocks: the kept ones are the last of them.
-use Rattle.std.proofs.Common.{◌≡◌, ℕ, zero, suc, ◌≤◌, List, [], ◌∷◌, ◌++◌, length, take, Ok, Err, refl, ap, ◌∙◌, sym, subst, arith}
-use Rattle.std.specs.Prelude.{Result}
+use Rattle.std.proofs.Common.{◌≡◌, ℕ, zero, suc, ◌+◌, ◌*◌, ◌≤◌, Bool, false, List, [], ◌∷◌, ◌++◌, length, take, Ok, Err, refl, ap, ◌∙◌, sym, subst, inl, inr, arith}
+use Rattle.std.specs.Prelude.{Option, None, Result}
 use Rattle.std.specs.List.{concat}
-use Rattle.std.proofs.lemmas.List.{append_assoc, append-nil}
+use Rattle.std.proofs.Math.Nat.{mul-le-mul_right}
+use Rattle.std.proofs.lemmas.Bool.{cases_lt}
+use Rattle.std.proofs.lemmas.List.{append_assoc, append-nil, length-append, length-map}
 use Rattle.udt_model.specs.declared.addresses.Addr.{Addr}
 use Rattle.udt_model.specs.declared.answers.Phase.{Phase}
 use Rattle.udt_model.specs.declared.answers.Phase.TheVariants as phase
 use Rattle.udt_model.specs.declared.answers.SendNo.{SendNo}
+use Rattle.udt_model.specs.declared.packets.Kind.{Kind}
+use Rattle.udt_model.specs.declared.packets.Kind.TheVariants as kind
 use Rattle.udt_model.specs.declared.sockets.ExpOutcome.{ExpOutcome}
 use Rattle.udt_model.specs.declared.sockets.ExpOutcome.TheVariants as exp
 use Rattle.udt_model.specs.Arrivals.{on_read}
-use Rattle.udt_model.specs.Calls.{taken_as, send_in, recv_in, pack_in}
-use Rattle.udt_model.specs.Events.{Act, Send, Recv, Pack, Tick, Close, Measure, Arrive, Event, Sent, Outcome, at_moment}
+use Rattle.udt_model.specs.Calls.{taken_as, send_in, send_as, recv_in, recv_as, send_message_in, send_message_as, recv_message_in, recv_message_as, pack_in}
+use Rattle.udt_model.specs.Events.{Act, Send, Recv, SendMessage, RecvMessage, Pack, Tick, Close, Measure, Arrive, Event, Sent, SentMessage, at_moment, Reply}
 use Rattle.udt_model.specs.History.{Item, taken_by, accepted_by, after_items, AreLegal}
 use Rattle.udt_model.specs.Rate.{Ways}
-use Rattle.udt_model.specs.SendHalf.{Sending, send_answer, after_answer, after_send, Packing, packing}
+use Rattle.udt_model.specs.SendBlocks.{KeptBlock, count_for, following_message, end_of}
+use Rattle.udt_model.specs.SendHalf.{Sending, send_answer, message_answer, expiry_of, after_answer, after_send, after_send_message, packing}
 use Rattle.udt_model.specs.State.{State}
 use Rattle.udt_model.specs.Step.{on_act, step}
 use Rattle.udt_model.specs.Ticks.{exp_outcome, after_exp, after_reports, tick_in}
 use Rattle.udt_model.specs.Wire.{read}
 use Rattle.udt_model.proofs.ArrivalLemmas.{arrival-shows}
 use Rattle.udt_model.proofs.ReceivingLemmas.{concat-append}
-use Rattle.udt_model.proofs.SendingLemmas.{bytes_of, blocks_of-all, IsCut, new_blocks, cut-with_message, cut-after_packing, cut-after_ack, cut-after_nak, cut-after_timeout}
+use Rattle.udt_model.proofs.SendingLemmas.{bytes_of, length-blocks_of, blocks_of-all, IsCut, new_blocks, cut-with_message, cut-after_packing, cut-after_ack, cut-after_nak, cut-after_timeout}
 use Rattle.udt_model.proofs.StepLemmas.{step-keeps}
 
--- ---- the blocks of a history
+-- ---- the blocks of bytes
+
+-- joined the blocks are these bytes, and there are no more of them than bytes
+pub record AreCutOf (blocks : List (List ℕ)) (bytes : List ℕ) : Type 0 where
+  pub joined : concat blocks ≡ bytes
+  pub few : length blocks ≤ length bytes
+
+none-cut : AreCutOf [] []
+none-cut = record { joined = refl; few = omega arith }
+
+append-cut : (blocks more : List (List ℕ)) (bytes rest : List ℕ) → AreCutOf blocks bytes → AreCutOf more rest
+    → AreCutOf (blocks ++ more) (bytes ++ rest)
+append-cut blocks more bytes rest one two = record {
+  joined = concat-append blocks more ∙ ap (λ (front : List ℕ). front ++ concat more) one.joined
+      ∙ ap (λ (last : List ℕ). bytes ++ last) two.joined;
+  few = omega (arith, one.few, two.few, length-append blocks more, length-append bytes rest);
+}
+
+-- no block is empty
+count_for-few : (len payload : ℕ) → 1 ≤ payload → count_for len payload ≤ len
+count_for-few len payload some = elim (cases_lt len (count_for len payload)) [
+  | inl above ↦
+      let next : len + 1 ≤ count_for len payload = omega (arith, above) in
+      let most : (len + 1) * payload ≤ count_for len payload * payload = mul-le-mul_right payload next in
+      let each : 1 * len ≤ payload * len = mul-le-mul_right len some in
+      absurd (omega (arith, most, each, some))
+  | inr within ↦ within
+]
 
 module _ {C : Type 0} where
+  message-parts : (s : Sending C) (order : Bool) (expires : Option ℕ) (bytes : List ℕ) → 1 ≤ s.blocks.payload
+      → AreCutOf (bytes_of (new_blocks s order expires bytes)) bytes
+  message-parts s order expires bytes some =
+      let count = count_for (length bytes) s.blocks.payload in
+      let blocks = new_blocks s order expires bytes in
+      let many = length-blocks_of (following_message s.blocks count s.message order expires) s.blocks.payload (end_of s.blocks) count bytes in
+      record {
+        joined = blocks_of-all _ s.blocks.payload _ bytes some;
+        few = omega (arith, count_for-few (length bytes) s.blocks.payload some, many, length-map blocks (λ (block : KeptBlock). block.bytes));
+      }
+
+  -- ---- the blocks of a history
+
   -- the blocks into which a send cuts what it takes
-  abbrev pub blocks_taken : Sending C → List ℕ → Result ℕ SendNo → List (List ℕ)
-  blocks_taken s bytes (Ok zero) = []
-  blocks_taken s bytes (Ok (suc n)) = bytes_of (new_blocks s (take (suc n) bytes))
-  blocks_taken s bytes (Err why) = []
+  abbrev pub blocks_taken : Sending C → Bool → Option ℕ → List ℕ → Result ℕ SendNo → List (List ℕ)
+  blocks_taken s order expires bytes (Ok zero) = []
+  blocks_taken s order expires bytes (Ok (suc n)) = bytes_of (new_blocks s order expires (take (suc n) bytes))
+  blocks_taken s order expires bytes (Err why) = []
 
   abbrev pub blocks_sent : State C → List ℕ → Phase → List (List ℕ)
-  blocks_sent s bytes phase.Connected = blocks_taken s.sending bytes (send_answer s.sending (length bytes))
+  blocks_sent s bytes phase.Connected = blocks_taken s.sending false None bytes (send_answer s.sending (length bytes))
   blocks_sent s bytes (phase.Broken why) = []
   blocks_sent s bytes phase.Closing = []
   blocks_sent s bytes phase.Closed = []
 
+  -- a socket that carries messages takes no bytes of a stream
+  abbrev pub blocks_sent_as : State C → List ℕ → Kind → List (List ℕ)
+  blocks_sent_as s bytes kind.Stream = blocks_sent s bytes s.phase
+  blocks_sent_as s bytes kind.Message = []
+
+  abbrev pub blocks_asked : State C → Option ℕ → Bool → List ℕ → Phase → List (List ℕ)
+  blocks_asked s ttl order bytes phase.Connected =
+      blocks_taken s.sending order (expiry_of s.last ttl) bytes (message_answer s.sending (length bytes))
+  blocks_asked s ttl order bytes (phase.Broken why) = []
+  blocks_asked s ttl order bytes phase.Closing = []
+  blocks_asked s ttl order bytes phase.Closed = []
+
+  -- and one that carries a stream takes no message
+  abbrev pub blocks_asked_as : State C → Option ℕ → Bool → List ℕ → Kind → List (List ℕ)
+  blocks_asked_as s ttl order bytes kind.Stream = []
+  blocks_asked_as s ttl order bytes kind.Message = blocks_asked s ttl order bytes s.phase
+
   abbrev pub blocks_in : State C → Act → List (List ℕ)
-  blocks_in s (Send bytes) = blocks_sent s bytes s.phase
+  blocks_in s (Send bytes) = blocks_sent_as s bytes s.kind
+  blocks_in s (SendMessage ttl order bytes) = blocks_asked_as s ttl order bytes s.kind
   blocks_in s act = []
 
   -- the blocks that an event adds
   unfoldable pub blocks_of : State C → Event → List (List ℕ)
   blocks_of s event = blocks_in (at_moment s event.now) event.act
 
-  -- ---- joined they are what was accepted
+  -- ---- they are those of what was accepted
 
-  taken-joined : (s : Sending C) (bytes : List ℕ) (answer : Result ℕ SendNo) → 1 ≤ s.blocks.payload
-      → concat (blocks_taken s bytes answer) ≡ taken_by (Send bytes) (Sent (taken_as answer))
-  taken-joined s bytes (Ok zero) some = refl
-  taken-joined s bytes (Ok (suc n)) some = blocks_of-all _ s.blocks.payload _ (take (suc n) bytes) some
-  taken-joined s bytes (Err why) some = refl
+  taken-cut : (s : Sending C) (order : Bool) (expires : Option ℕ) (bytes : List ℕ) (answer : Result ℕ SendNo) → 1 ≤ s.blocks.payload
+      → AreCutOf (blocks_taken s order expires bytes answer) (taken_by (Send bytes) (Sent (taken_as answer)))
+  taken-cut s order expires bytes (Ok zero) some = none-cut
+  taken-cut s order expires bytes (Ok (suc n)) some = message-parts s order expires (take (suc n) bytes) some
+  taken-cut s order expires bytes (Err why) some = none-cut
 
-  sent-joined : (s : State C) (bytes : List ℕ) (phase : Phase) → 1 ≤ s.sending.blocks.payload
-      → concat (blocks_sent s bytes phase) ≡ taken_by (Send bytes) (send_in s bytes phase).reply
-  sent-joined s bytes phase.Connected some = taken-joined s.sending bytes (send_answer s.sending (length bytes)) some
-  sent-joined s bytes (phase.Broken why) some = refl
-  sent-joined s bytes phase.Closing some = refl
-  sent-joined s bytes phase.Closed some = refl
+  message-taken : (s : Sending C) (ttl : Option ℕ) (order : Bool) (expires : Option ℕ) (bytes : List ℕ) (answer : Result ℕ SendNo) → 1 ≤ s.blocks.payload
+      → AreCutOf (blocks_taken s order expires bytes answer) (taken_by (SendMessage ttl order bytes) (SentMessage (taken_as answer)))
+  message-taken s ttl order expires bytes (Ok zero) some = none-cut
+  message-taken s ttl order expires bytes (Ok (suc n)) some = message-parts s order expires (take (suc n) bytes) some
+  message-taken s ttl order expires bytes (Err why) some = none-cut
 
-  answer-cut : (s : Sending C) (start : ℕ) (blocks : List (List ℕ)) (bytes : List ℕ) (answer : Result ℕ SendNo) → IsCut s start blocks
-      → IsCut (after_answer s bytes answer) start (blocks ++ blocks_taken s bytes answer)
-  answer-cut s start blocks bytes (Ok zero) is_cut = rw append-nil is_cut
-  answer-cut s start blocks bytes (Ok (suc n)) is_cut = cut-with_message s start blocks (take (suc n) bytes) is_cut
-  answer-cut s start blocks bytes (Err why) is_cut = rw append-nil is_cut
+  sent-parts : (s : State C) (bytes : List ℕ) (phase : Phase) → 1 ≤ s.sending.blocks.payload
+      → AreCutOf (blocks_sent s bytes phase) (taken_by (Send bytes) (send_in s bytes phase).reply)
+  sent-parts s bytes phase.Connected some = taken-cut s.sending false None bytes (send_answer s.sending (length bytes)) some
+  sent-parts s bytes (phase.Broken why) some = none-cut
+  sent-parts s bytes phase.Closing some = none-cut
+  sent-parts s bytes phase.Closed some = none-cut
+
+  sent_as-parts : (s : State C) (bytes : List ℕ) (k : Kind) → 1 ≤ s.sending.blocks.payload
+      → AreCutOf (blocks_sent_as s bytes k) (taken_by (Send bytes) (send_as s bytes k).reply)
+  sent_as-parts s bytes kind.Stream some = sent-parts s bytes s.phase some
+  sent_as-parts s bytes kind.Message some = none-cut
+
+  asked-parts : (s : State C) (ttl : Option ℕ) (order : Bool) (bytes : List ℕ) (phase : Phase) → 1 ≤ s.sending.blocks.payload
+      → AreCutOf (blocks_asked s ttl order bytes phase) (taken_by (SendMessage ttl order bytes) (send_message_in s ttl order bytes phase).reply)
+  asked-parts s ttl order bytes phase.Connected some =
+      message-taken s.sending ttl order (expiry_of s.last ttl) bytes (message_answer s.sending (length bytes)) some
+  asked-parts s ttl order bytes (phase.Broken why) some = none-cut
+  asked-parts s ttl order bytes phase.Closing some = none-cut
+  asked-parts s ttl order bytes phase.Closed some = none-cut
+
+  asked_as-parts : (s : State C) (ttl : Option ℕ) (order : Bool) (bytes : List ℕ) (k : Kind) → 1 ≤ s.sending.blocks.payload
+      → AreCutOf (blocks_asked_as s ttl order bytes k) (taken_by (SendMessage ttl order bytes) (send_message_as s ttl order bytes k).reply)
+  asked_as-parts s ttl order bytes kind.Stream some = none-cut
+  asked_as-parts s ttl order bytes kind.Message some = asked-parts s ttl order bytes s.phase some
+
+  -- ---- the half that takes them
+
+  answer-cut : (s : Sending C) (start : ℕ) (blocks : List (List ℕ)) (order : Bool) (expires : Option ℕ) (bytes : List ℕ) (answer : Result ℕ SendNo)
+      → IsCut s start blocks → IsCut (after_answer s order expires bytes answer) start (blocks ++ blocks_taken s order expires bytes answer)
+  answer-cut s start blocks order expires bytes (Ok zero) is_cut = rw append-nil is_cut
+  answer-cut s start blocks order expires bytes (Ok (suc n)) is_cut = cut-with_message s start blocks order expires (take (suc n) bytes) is_cut
+  answer-cut s start blocks order expires bytes (Err why) is_cut = rw append-nil is_cut
 
   send-cut : (s : Sending C) (start : ℕ) (blocks : List (List ℕ)) (bytes : List ℕ) → IsCut s start blocks
-      → IsCut (after_send s bytes) start (blocks ++ blocks_taken s bytes (send_answer s (length bytes)))
+      → IsCut (after_send s bytes) start (blocks ++ blocks_taken s false None bytes (send_answer s (length bytes)))
   unfolding after_send
-  send-cut s start blocks bytes is_cut = answer-cut s start blocks bytes (send_answer s (length bytes)) is_cut
+  send-cut s start blocks bytes is_cut = answer-cut s start blocks false None bytes (send_answer s (length bytes)) is_cut
+
+  message-cut : (s : Sending C) (start : ℕ) (blocks : List (List ℕ)) (now : ℕ) (ttl : Option ℕ) (order : Bool) (bytes : List ℕ) → IsCut s start blocks
+      → IsCut (after_send_message s now ttl order bytes) start
+      (blocks ++ blocks_taken s order (expiry_of now ttl) bytes (message_answer s (length bytes)))
+  unfolding after_send_message
+  message-cut s start blocks now ttl order bytes is_cut =
+      answer-cut s start blocks order (expiry_of now ttl) bytes (message_answer s (length bytes)) is_cut
 
 module _ {C : Type 0} (w : Ways C) where
   -- the blocks that items add, from this state on
@@ -87,29 +183,32 @@ module _ {C : Type 0} (w : Ways C) where
       ap (λ (rest : List (List ℕ)). blocks_of s item.event ++ rest) (blocks_by-append next items more)
       ∙ sym (append_assoc (blocks_of s item.event) (blocks_by next items) (blocks_by (after_items w next items) more))
 
-  in-joined : (s : State C) (act : Act) → 1 ≤ s.sending.blocks.payload → concat (blocks_in s act) ≡ taken_by act (on_act w s act).reply
-  in-joined s (Send bytes) some = sent-joined s bytes s.phase some
-  in-joined s (Recv room) some = refl
-  in-joined s Pack some = refl
-  in-joined s Tick some = refl
-  in-joined s Close some = refl
-  in-joined s Measure some = refl
-  in-joined s (Arrive from bytes) some = refl
+  in-parts : (s : State C) (act : Act) → 1 ≤ s.sending.blocks.payload → AreCutOf (blocks_in s act) (taken_by act (on_act w s act).reply)
+  in-parts s (Send bytes) some = sent_as-parts s bytes s.kind some
+  in-parts s (Recv room) some = none-cut
+  in-parts s (SendMessage ttl order bytes) some = asked_as-parts s ttl order bytes s.kind some
+  in-parts s (RecvMessage room) some = none-cut
+  in-parts s Pack some = none-cut
+  in-parts s Tick some = none-cut
+  in-parts s Close some = none-cut
+  in-parts s Measure some = none-cut
+  in-parts s (Arrive from bytes) some = none-cut
 
-  of-joined : (s : State C) (event : Event) → 1 ≤ s.sending.blocks.payload → concat (blocks_of s event) ≡ taken_by event.act (step w s event).reply
+  pub event-parts : (s : State C) (event : Event) → 1 ≤ s.sending.blocks.payload
+      → AreCutOf (blocks_of s event) (taken_by event.act (step w s event).reply)
   unfolding blocks_of step
-  of-joined s event some = in-joined (at_moment s event.now) event.act some
+  event-parts s event some = in-parts (at_moment s event.now) event.act some
 
-  pub blocks_by-joined : (s : State C) (items : List Item) → AreLegal w s items → 1 ≤ s.sending.blocks.payload
-      → concat (blocks_by s items) ≡ accepted_by items
+  pub blocks_by-parts : (s : State C) (items : List Item) → AreLegal w s items → 1 ≤ s.sending.blocks.payload
+      → AreCutOf (blocks_by s items) (accepted_by items)
   unfolding blocks_by accepted_by AreLegal
-  blocks_by-joined s [] legal some = refl
-  blocks_by-joined s (item ∷ items) legal some =
+  blocks_by-parts s [] legal some = none-cut
+  blocks_by-parts s (item ∷ items) legal some =
       let next = (step w s item.event).after in
       let some_next = subst (λ (n : ℕ). 1 ≤ n) (sym (step-keeps w s item.event).sending.payload) some in
-      concat-append (blocks_of s item.event) (blocks_by next items)
-      ∙ ap (λ (front : List ℕ). front ++ concat (blocks_by next items)) (of-joined s item.event some ∙ ap (taken_by item.event.act) (sym legal.0))
-      ∙ ap (λ (rest : List ℕ). taken_by item.event.act item.reply ++ rest) (blocks_by-joined next items legal.2 some_next)
+      let one = subst (λ (reply : Reply). AreCutOf (blocks_of s item.event) (taken_by item.event.act reply)) (sym legal.0) (event-parts s item.event some) in
+      append-cut (blocks_of s item.event) (blocks_by next items) (taken_by item.event.act item.reply) (accepted_by items) one
+      (blocks_by-parts next items legal.2 some_next)
 
   -- ---- the kept ones are the last of them
 
@@ -132,6 +231,36 @@ module _ {C : Type 0} (w : Ways C) where
     recv_in-cut room (phase.Broken why) = stays-cut
     recv_in-cut room phase.Closing = stays-cut
     recv_in-cut room phase.Closed = stays-cut
+
+    send_as-cut : (bytes : List ℕ) (k : Kind) → IsCut (send_as s bytes k).after.sending start (blocks ++ blocks_sent_as s bytes k)
+    send_as-cut bytes kind.Stream = send_in-cut bytes s.phase
+    send_as-cut bytes kind.Message = stays-cut
+
+    recv_as-cut : (room : ℕ) (k : Kind) → IsCut (recv_as s room k).after.sending start (blocks ++ [])
+    recv_as-cut room kind.Stream = recv_in-cut room s.phase
+    recv_as-cut room kind.Message = stays-cut
+
+    asked_in-cut : (ttl : Option ℕ) (order : Bool) (bytes : List ℕ) (phase : Phase)
+        → IsCut (send_message_in s ttl order bytes phase).after.sending start (blocks ++ blocks_asked s ttl order bytes phase)
+    asked_in-cut ttl order bytes phase.Connected = message-cut s.sending start blocks s.last ttl order bytes is_cut
+    asked_in-cut ttl order bytes (phase.Broken why) = stays-cut
+    asked_in-cut ttl order bytes phase.Closing = stays-cut
+    asked_in-cut ttl order bytes phase.Closed = stays-cut
+
+    asked_as-cut : (ttl : Option ℕ) (order : Bool) (bytes : List ℕ) (k : Kind)
+        → IsCut (send_message_as s ttl order bytes k).after.sending start (blocks ++ blocks_asked_as s ttl order bytes k)
+    asked_as-cut ttl order bytes kind.Stream = stays-cut
+    asked_as-cut ttl order bytes kind.Message = asked_in-cut ttl order bytes s.phase
+
+    shown_in-cut : (room : ℕ) (phase : Phase) → IsCut (recv_message_in s room phase).after.sending start (blocks ++ [])
+    shown_in-cut room phase.Connected = stays-cut
+    shown_in-cut room (phase.Broken why) = stays-cut
+    shown_in-cut room phase.Closing = stays-cut
+    shown_in-cut room phase.Closed = stays-cut
+
+    shown_as-cut : (room : ℕ) (k : Kind) → IsCut (recv_message_as s room k).after.sending start (blocks ++ [])
+    shown_as-cut room kind.Stream = stays-cut
+    shown_as-cut room kind.Message = shown_in-cut room s.phase
 
     pack_in-cut : (phase : Phase) → IsCut (pack_in w s phase).after.sending start (blocks ++ [])
     pack_in-cut phase.Connected =
@@ -158,6 +287,7 @@ module _ {C : Type 0} (w : Ways C) where
           passed = λ counters answer differs. stays-cut;
           noticed = λ counters answer differs connected. stays-cut;
           brought = λ number flags stamp payload connected sender is. stays-cut;
+          dropped = λ message stamp first last range connected sender is messages taken. stays-cut;
           acknowledged = λ number stamp body offset connected sender is acks.
               none-added _ (cut-after_ack w s.sending start blocks s.rtt body is_cut);
           reported = λ stamp ranges connected sender is. none-added _ (cut-after_nak w s.sending start blocks s.rtt ranges is_cut);
@@ -166,8 +296,10 @@ module _ {C : Type 0} (w : Ways C) where
         })
 
     act-cut : (act : Act) → IsCut (on_act w s act).after.sending start (blocks ++ blocks_in s act)
-    act-cut (Send bytes) = send_in-cut bytes s.phase
-    act-cut (Recv room) = recv_in-cut room s.phase
+    act-cut (Send bytes) = send_as-cut bytes s.kind
+    act-cut (Recv room) = recv_as-cut room s.kind
+    act-cut (SendMessage ttl order bytes) = asked_as-cut ttl order bytes s.kind
+    act-cut (RecvMessage room) = shown_as-cut room s.kind
     act-cut Pack = pack_in-cut s.phase
     act-cut Tick = tick_in-cut s.phase
     act-cut Close = stays-cut

@@ -1,30 +1,26 @@
 -- What a socket emits reads as the packet that it is, which goes to the peer.
-use Rattle.std.proofs.Common.{◌≡◌, ℕ, ◌+◌, ◌*◌, ◌/◌, ◌%◌, ◌^◌, ◌<◌, ◌≤◌, Bool, true, false, List, [], ◌∷◌, ◌++◌, Some, Ok, refl, ap, ◌∙◌, sym, subst, arith}
-use Rattle.std.specs.Prelude.{map, length, filter, sum, ◌||◌, ◌==◌, nat_lt, nat_le, if◌then◌else◌}
+use Rattle.std.proofs.Common.{◌≡◌, ℕ, ◌*◌, ◌/◌, ◌%◌, ◌^◌, ◌<◌, ◌≤◌, Bool, true, false, List, [], ◌∷◌, ◌++◌, Ok, refl, ap, ◌∙◌, sym, subst, arith}
+use Rattle.std.specs.Prelude.{map, length, filter, sum, ◌||◌, ◌==◌, nat_le, if◌then◌else◌}
 use Rattle.std.specs.List.{AllByRecursion}
 use Rattle.std.proofs.lemmas.List.Elements.{All-from_recursion}
 use Rattle.std.proofs.Math.Nat.{div-le_self}
-use Rattle.udt_model.specs.declared.answers.Peer.{Peer}
-use Rattle.udt_model.specs.declared.answers.Phase.TheVariants as phase
-use Rattle.udt_model.specs.declared.packets.Flags.{Flags}
 use Rattle.udt_model.specs.Calls.{stamp_of, emission as emits}
 use Rattle.udt_model.specs.Events.{Act, Reply}
-use Rattle.udt_model.specs.Losses.{LostRange}
-use Rattle.udt_model.specs.Numbers.{sequence_number}
 use Rattle.udt_model.specs.Rate.{Ways}
 use Rattle.udt_model.specs.ReceiveHalf.{after_block}
 use Rattle.udt_model.specs.ReceiveReports.{full_ack, light_ack}
-use Rattle.udt_model.specs.SendHalf.{block_packet}
+use Rattle.udt_model.specs.SendBlocks.{Message}
+use Rattle.udt_model.specs.SendHalf.{block_packet, drop_packet}
 use Rattle.udt_model.specs.State.{State, Emission}
 use Rattle.udt_model.specs.Ticks.{numbers_of}
 use Rattle.udt_model.specs.Timing.{in_a_second, near_median, is_near, median, is_short, speed_of, capacity_of}
-use Rattle.udt_model.specs.Wire.{Packet, Block, KeepAlive, Ack, Nak, Shutdown, Ack2, IsRange, destination, IsInRange, read, spelling, type_word, word}
-use Rattle.udt_model.proofs.EmissionLemmas.{Emitting, NewBlock, LostBlock, FullAck, LightAck, Reports, ReportsGap, AnswersAck, SendsKeepAlive, TheEnd}
-use Rattle.udt_model.proofs.SendingLemmas.{MessagesFit, MessagesFit-at, kept_at-is, packing-sends, packing-again}
+use Rattle.udt_model.specs.Wire.{Packet, KeepAlive, Ack, Nak, Shutdown, Ack2, IsRange, destination, IsInRange, read, spelling, type_word, word}
+use Rattle.udt_model.proofs.EmissionLemmas.{Emitting, NewBlock, LostBlock, DropRequest, FullAck, LightAck, Reports, ReportsGap, ReportsDropGap, AnswersAck, SendsKeepAlive, TheEnd}
+use Rattle.udt_model.proofs.SendingLemmas.{MessagesFit, MessagesFit-at, MessagesFit-number, kept_at-is, packing-sends, packing-again, packing-drops}
 use Rattle.udt_model.proofs.TickLemmas.{ack_outcome-tells}
 use Rattle.udt_model.proofs.WireLemmas.{read-spelling, word-mod}
 use Rattle.udt_laws.proofs.sent_blocks.ReportsFit.{RoundTripFits, ReportsFit}
-use Rattle.udt_laws.proofs.sent_blocks.NakRanges.{EndsMeet, IsBetween, nak-ends, block-gap, numbers-are, gap-number}
+use Rattle.udt_laws.proofs.sent_blocks.NakRanges.{EndsMeet, IsBetween, nak-ends, block-gap, drop-gap, numbers-are, gap-number}
 
 -- ---- rates have 32 bits
 
@@ -81,6 +77,7 @@ module _ {C : Type 0} (w : Ways C) where
   abbrev pub packet_of : (s : State C) → (act : Act) → (reply : Reply) → (emission : Emission) → Emitting w s act reply emission → Packet
   packet_of s act reply emission (NewBlock block connected packs is) = block_packet s.sending (stamp_of s) s.peer.id s.sending.next block
   packet_of s act reply emission (LostBlock offset block connected packs is) = block_packet s.sending (stamp_of s) s.peer.id offset block
+  packet_of s act reply emission (DropRequest message connected packs is) = drop_packet s.sending (stamp_of s) s.peer.id message
   packet_of s act reply emission (FullAck ack connected tells is) = Ack ack.number (stamp_of s) s.peer.id (full_ack s.receiving s.rtt ack.offset)
   packet_of s act reply emission (LightAck from raw number flags stamp bytes connected arrives carries sender replies is) =
       Ack 0 (stamp_of s) s.peer.id (light_ack (after_block s.receiving s.last number flags bytes))
@@ -88,6 +85,8 @@ module _ {C : Type 0} (w : Ways C) where
   packet_of s act reply emission (ReportsGap from raw number flags stamp bytes ends connected arrives carries sender gap is) =
       Nak (stamp_of s) s.peer.id
       (numbers_of (record s { receiving = after_block s.receiving s.last number flags bytes }) (record { first = ends.0; last = ends.1 }) ∷ [])
+  packet_of s act reply emission (ReportsDropGap from raw message stamp first last range ends connected arrives asks sender messages taken gap is) =
+      Nak (stamp_of s) s.peer.id (numbers_of s (record { first = ends.0; last = ends.1 }) ∷ [])
   packet_of s act reply emission (AnswersAck number connected is) = Ack2 (number % 2 ^ 32) (stamp_of s) s.peer.id
   packet_of s act reply emission (SendsKeepAlive connected is) = KeepAlive (stamp_of s) s.peer.id
   packet_of s act reply emission (TheEnd closing is) = Shutdown (stamp_of s) s.peer.id
@@ -96,10 +95,12 @@ module _ {C : Type 0} (w : Ways C) where
   pub packet-dest : (s : State C) (act : Act) (reply : Reply) (emission : Emission) (x : Emitting w s act reply emission) → destination (packet_of s act reply emission x) ≡ s.peer.id
   packet-dest s act reply emission (NewBlock block connected packs is) = refl
   packet-dest s act reply emission (LostBlock offset block connected packs is) = refl
+  packet-dest s act reply emission (DropRequest message connected packs is) = refl
   packet-dest s act reply emission (FullAck ack connected tells is) = refl
   packet-dest s act reply emission (LightAck from raw number flags stamp bytes connected arrives carries sender replies is) = refl
   packet-dest s act reply emission (Reports range ranges connected reports is) = refl
   packet-dest s act reply emission (ReportsGap from raw number flags stamp bytes ends connected arrives carries sender gap is) = refl
+  packet-dest s act reply emission (ReportsDropGap from raw message stamp first last range ends connected arrives asks sender messages taken gap is) = refl
   packet-dest s act reply emission (AnswersAck number connected is) = refl
   packet-dest s act reply emission (SendsKeepAlive connected is) = refl
   packet-dest s act reply emission (TheEnd closing is) = refl
@@ -112,6 +113,16 @@ module _ {C : Type 0} (w : Ways C) where
   packet-in_range s act reply emission (LostBlock offset block connected packs is) can =
       let at = kept_at-is s.sending.blocks offset block (packing-again w s.sending s.last offset block packs).kept in
       (omega arith, MessagesFit-at s.sending.blocks.kept _ block can.messages at.found, omega arith, can.id)
+  packet-in_range s act reply emission (DropRequest message connected packs is) can =
+      let dropped = packing-drops w s.sending s.last message packs in
+      let at = kept_at-is s.sending.blocks dropped.offset dropped.block dropped.least.kept in
+      let number = MessagesFit-number s.sending.blocks.kept _ dropped.block can.messages at.found in (
+        subst (λ (m : Message). m.number < 2 ^ 29) dropped.is number,
+        omega arith,
+        omega arith,
+        omega arith,
+        can.id,
+      )
   packet-in_range s act reply emission (FullAck ack connected tells is) can =
       let told = ack_outcome-tells s.receiving s.last s.rtt ack tells in
       let number : ack.number < 2 ^ 32 = omega (arith, told.number, can.reports.number) in
@@ -133,6 +144,10 @@ module _ {C : Type 0} (w : Ways C) where
       let one : AllByRecursion IsRange (numbers_of t (record { first = ends.0; last = ends.1 }) ∷ []) =
       (gap-number s t ends can.reports (block-gap s.receiving number ends gap), tt) in
       (omega arith, All-from_recursion IsRange (numbers_of t (record { first = ends.0; last = ends.1 }) ∷ []) one, omega arith, can.id)
+  packet-in_range s act reply emission (ReportsDropGap from raw message stamp first last range ends connected arrives asks sender messages taken gap is) can =
+      let one : AllByRecursion IsRange (numbers_of s (record { first = ends.0; last = ends.1 }) ∷ []) =
+      (gap-number s s ends can.reports (drop-gap s.receiving first last range ends taken gap), tt) in
+      (omega arith, All-from_recursion IsRange (numbers_of s (record { first = ends.0; last = ends.1 }) ∷ []) one, omega arith, can.id)
   packet-in_range s act reply emission (AnswersAck number connected is) can = (omega arith, omega arith, can.id)
   packet-in_range s act reply emission (SendsKeepAlive connected is) can = (omega arith, can.id)
   packet-in_range s act reply emission (TheEnd closing is) can = (omega arith, can.id)
@@ -149,10 +164,12 @@ module _ {C : Type 0} (w : Ways C) where
   spells : (s : State C) (act : Act) (reply : Reply) (emission : Emission) (x : Emitting w s act reply emission) → Spells s emission (packet_of s act reply emission x)
   spells s act reply emission (NewBlock block connected packs is) = spells-by s emission _ _ is
   spells s act reply emission (LostBlock offset block connected packs is) = spells-by s emission _ _ is
+  spells s act reply emission (DropRequest message connected packs is) = spells-by s emission _ _ is
   spells s act reply emission (FullAck ack connected tells is) = spells-by s emission _ _ is
   spells s act reply emission (LightAck from raw number flags stamp bytes connected arrives carries sender replies is) = spells-by s emission _ _ is
   spells s act reply emission (Reports range ranges connected reports is) = spells-by s emission _ _ is
   spells s act reply emission (ReportsGap from raw number flags stamp bytes ends connected arrives carries sender gap is) = spells-by s emission _ _ is
+  spells s act reply emission (ReportsDropGap from raw message stamp first last range ends connected arrives asks sender messages taken gap is) = spells-by s emission _ _ is
   spells s act reply emission (AnswersAck number connected is) =
       let by = spells-by s emission (Ack2 number (stamp_of s) s.peer.id) [] is in
       record { bytes = by.bytes ∙ ack2-spelling number (stamp_of s) s.peer.id; sent_to = by.sent_to }

@@ -1,7 +1,7 @@
--- What the data packets of a history name: offsets below the first that was never sent, which rises by at most one with
--- each event, and by at most one for each datagram.
-use Rattle.std.proofs.Common.{◌≡◌, ℕ, zero, suc, ◌+◌, ◌≤◌, List, [], ◌∷◌, ◌++◌, length, Ok, Err, refl, ap, ◌∙◌, subst, inl, inr, arith}
-use Rattle.std.specs.Prelude.{Result, Option, None, Some, map, nat_lt, if◌then◌else◌}
+-- What the data packets of a history name: offsets below the first that was never sent, which on a stream rises by at most
+-- one with each event, and by at most one for each datagram.
+use Rattle.std.proofs.Common.{◌≡◌, ℕ, zero, suc, ◌+◌, ◌≤◌, Bool, false, List, [], ◌∷◌, length, Ok, Err, refl, ap, ◌∙◌, sym, subst, inl, inr, arith}
+use Rattle.std.specs.Prelude.{Result, Option, None, nat_lt}
 use Rattle.std.specs.List.{Contains}
 use Rattle.std.proofs.lemmas.Bool.{cases_Bool}
 use Rattle.std.proofs.lemmas.List.{length-append, length-map}
@@ -11,16 +11,20 @@ use Rattle.udt_model.specs.declared.answers.Phase.{Phase}
 use Rattle.udt_model.specs.declared.answers.Phase.TheVariants as phase
 use Rattle.udt_model.specs.declared.answers.SendNo.{SendNo}
 use Rattle.udt_model.specs.declared.packets.Flags.{Flags}
+use Rattle.udt_model.specs.declared.packets.Kind.{Kind}
+use Rattle.udt_model.specs.declared.packets.Kind.TheVariants as kind
 use Rattle.udt_model.specs.declared.sockets.ExpOutcome.{ExpOutcome}
 use Rattle.udt_model.specs.declared.sockets.ExpOutcome.TheVariants as exp
 use Rattle.udt_model.specs.Arrivals.{on_read}
-use Rattle.udt_model.specs.Calls.{send_in, recv_in, packed_so, pack_in}
+use Rattle.udt_model.specs.Calls.{send_in, send_as, recv_in, recv_as, send_message_in, send_message_as, recv_message_in, recv_message_as, packed_so, pack_in}
 use Rattle.udt_model.specs.Emissions.{sent_by}
-use Rattle.udt_model.specs.Events.{Act, Send, Recv, Pack, Tick, Close, Measure, Arrive, Event, Reply, Outcome, outs_of, at_moment}
-use Rattle.udt_model.specs.History.{Item, after_items, AreLegal}
+use Rattle.udt_model.specs.Events.{Act, Send, Recv, SendMessage, RecvMessage, Pack, Tick, Close, Measure, Arrive, Event, Reply, Outcome, outs_of, at_moment}
+use Rattle.udt_model.specs.History.{Item, History, after_items, AreLegal}
 use Rattle.udt_model.specs.Losses.{LostRange}
 use Rattle.udt_model.specs.Rate.{Ways}
-use Rattle.udt_model.specs.SendHalf.{Sending, send_answer, after_answer, after_send, Packing, Waits, Retransmits, Sends, Idles, packing, after_packing}
+use Rattle.udt_model.specs.Opening.{opening}
+use Rattle.udt_model.specs.Records.{Way, PairedAt, opened_by}
+use Rattle.udt_model.specs.SendHalf.{Sending, send_answer, message_answer, expiry_of, after_answer, after_send, after_send_message, Packing, Waits, Retransmits, Drops, Sends, Idles, packing}
 use Rattle.udt_model.specs.SendReports.{entering, after_entering, after_nak, after_timeout}
 use Rattle.udt_model.specs.State.{State, Emission}
 use Rattle.udt_model.specs.Step.{on_act, step}
@@ -28,7 +32,9 @@ use Rattle.udt_model.specs.Ticks.{exp_outcome, after_exp, after_reports, tick_in
 use Rattle.udt_model.specs.Timing.{RoundTrip}
 use Rattle.udt_model.specs.Wire.{WireRange, Block, read}
 use Rattle.udt_model.proofs.ArrivalLemmas.{arrival-shows}
-use Rattle.udt_model.proofs.EmissionLemmas.{Emitting, NewBlock, LostBlock, FullAck, LightAck, Reports, ReportsGap, AnswersAck, SendsKeepAlive, TheEnd}
+use Rattle.udt_model.proofs.EmissionLemmas.{Emitting, NewBlock, LostBlock, DropRequest, FullAck, LightAck, Reports, ReportsGap, ReportsDropGap, AnswersAck, SendsKeepAlive, TheEnd}
+use Rattle.udt_model.proofs.StepLemmas.{step-keeps}
+use Rattle.udt_model.proofs.StreamLemmas.{NoneExpires, packing-no_drop, stream-none_expires}
 use Rattle.udt_model.proofs.SendingLemmas.{IsCut, after_ack-next, packing-again, lost-within}
 use Rattle.udt_laws.proofs.sent_blocks.EmissionsRead.{packet_of}
 
@@ -38,14 +44,19 @@ module _ {C : Type 0} where
     pub once : outcome.after.sending.next ≤ next + 1
     pub sends : outcome.after.sending.next ≤ next + length outcome.emissions
 
-  answer-next : (s : Sending C) (bytes : List ℕ) (answer : Result ℕ SendNo) → (after_answer s bytes answer).next ≡ s.next
-  answer-next s bytes (Ok zero) = refl
-  answer-next s bytes (Ok (suc n)) = refl
-  answer-next s bytes (Err why) = refl
+  answer-next : (s : Sending C) (order : Bool) (expires : Option ℕ) (bytes : List ℕ) (answer : Result ℕ SendNo)
+      → (after_answer s order expires bytes answer).next ≡ s.next
+  answer-next s order expires bytes (Ok zero) = refl
+  answer-next s order expires bytes (Ok (suc n)) = refl
+  answer-next s order expires bytes (Err why) = refl
 
   send-next : (s : Sending C) (bytes : List ℕ) → (after_send s bytes).next ≡ s.next
   unfolding after_send
-  send-next s bytes = answer-next s bytes (send_answer s (length bytes))
+  send-next s bytes = answer-next s false None bytes (send_answer s (length bytes))
+
+  message-next : (s : Sending C) (now : ℕ) (ttl : Option ℕ) (order : Bool) (bytes : List ℕ) → (after_send_message s now ttl order bytes).next ≡ s.next
+  unfolding after_send_message
+  message-next s now ttl order bytes = answer-next s order (expiry_of now ttl) bytes (message_answer s (length bytes))
 
   -- it stays
   stays-next : (s : State C) (outcome : Outcome C) → outcome.after.sending.next ≡ s.sending.next → Advances s.sending.next outcome
@@ -86,17 +97,49 @@ module _ {C : Type 0} (w : Ways C) where
     recv-advances room phase.Closing = stays-next s _ refl
     recv-advances room phase.Closed = stays-next s _ refl
 
-    packed-advances : (p : Packing) → Advances s.sending.next (packed_so w s p)
-    packed-advances (Waits until) = stays-next s _ refl
-    packed-advances (Retransmits offset block) = stays-next s _ refl
-    packed-advances (Sends block) = record { once = omega arith; sends = omega arith }
-    packed-advances Idles = stays-next s _ refl
+    send_as-advances : (bytes : List ℕ) (k : Kind) → Advances s.sending.next (send_as s bytes k)
+    send_as-advances bytes kind.Stream = send-advances bytes s.phase
+    send_as-advances bytes kind.Message = stays-next s _ refl
 
-    pack-advances : (phase : Phase) → Advances s.sending.next (pack_in w s phase)
-    pack-advances phase.Connected = packed-advances (packing w s.sending s.last)
-    pack-advances (phase.Broken why) = stays-next s _ refl
-    pack-advances phase.Closing = stays-next s _ refl
-    pack-advances phase.Closed = stays-next s _ refl
+    recv_as-advances : (room : ℕ) (k : Kind) → Advances s.sending.next (recv_as s room k)
+    recv_as-advances room kind.Stream = recv-advances room s.phase
+    recv_as-advances room kind.Message = stays-next s _ refl
+
+    message-advances : (ttl : Option ℕ) (order : Bool) (bytes : List ℕ) (phase : Phase)
+        → Advances s.sending.next (send_message_in s ttl order bytes phase)
+    message-advances ttl order bytes phase.Connected = stays-next s _ (message-next s.sending s.last ttl order bytes)
+    message-advances ttl order bytes (phase.Broken why) = stays-next s _ refl
+    message-advances ttl order bytes phase.Closing = stays-next s _ refl
+    message-advances ttl order bytes phase.Closed = stays-next s _ refl
+
+    message_as-advances : (ttl : Option ℕ) (order : Bool) (bytes : List ℕ) (k : Kind)
+        → Advances s.sending.next (send_message_as s ttl order bytes k)
+    message_as-advances ttl order bytes kind.Stream = stays-next s _ refl
+    message_as-advances ttl order bytes kind.Message = message-advances ttl order bytes s.phase
+
+    show-advances : (room : ℕ) (phase : Phase) → Advances s.sending.next (recv_message_in s room phase)
+    show-advances room phase.Connected = stays-next s _ refl
+    show-advances room (phase.Broken why) = stays-next s _ refl
+    show-advances room phase.Closing = stays-next s _ refl
+    show-advances room phase.Closed = stays-next s _ refl
+
+    show_as-advances : (room : ℕ) (k : Kind) → Advances s.sending.next (recv_message_as s room k)
+    show_as-advances room kind.Stream = stays-next s _ refl
+    show_as-advances room kind.Message = show-advances room s.phase
+
+    packed-advances : (p : Packing) → NoneExpires s.sending.blocks.kept → packing w s.sending s.last ≡ p
+        → Advances s.sending.next (packed_so w s p)
+    packed-advances (Waits until) none is = stays-next s _ refl
+    packed-advances (Retransmits offset block) none is = stays-next s _ refl
+    packed-advances (Drops message) none is = absurd (packing-no_drop w s.sending s.last message none is)
+    packed-advances (Sends block) none is = record { once = omega arith; sends = omega arith }
+    packed-advances Idles none is = stays-next s _ refl
+
+    pack-advances : (phase : Phase) → NoneExpires s.sending.blocks.kept → Advances s.sending.next (pack_in w s phase)
+    pack-advances phase.Connected none = packed-advances (packing w s.sending s.last) none refl
+    pack-advances (phase.Broken why) none = stays-next s _ refl
+    pack-advances phase.Closing none = stays-next s _ refl
+    pack-advances phase.Closed none = stays-next s _ refl
 
     exp-next : (what : ExpOutcome) → (after_exp w (after_reports s) what).sending.next ≡ s.sending.next
     exp-next exp.NotDue = refl
@@ -115,24 +158,57 @@ module _ {C : Type 0} (w : Ways C) where
       passed = λ counters answer differs. stays-next s _ refl;
       noticed = λ counters answer differs connected. stays-next s _ refl;
       brought = λ number flags stamp payload connected sender is. stays-next s _ refl;
+      dropped = λ message stamp first last range connected sender is messages taken. stays-next s _ refl;
       acknowledged = λ number stamp body offset connected sender is acks. stays-next s _ (after_ack-next w s.sending s.rtt body);
       reported = λ stamp ranges connected sender is. stays-next s _ (nak-next s.sending s.rtt ranges);
       confirmed = λ number ack connected found. stays-next s _ refl;
       ended = λ connected. stays-next s _ refl;
     })
 
-    act-advances : (act : Act) → Advances s.sending.next (on_act w s act)
-    act-advances (Send bytes) = send-advances bytes s.phase
-    act-advances (Recv room) = recv-advances room s.phase
-    act-advances Pack = pack-advances s.phase
-    act-advances Tick = tick-advances s.phase
-    act-advances Close = stays-next s _ refl
-    act-advances Measure = stays-next s _ refl
-    act-advances (Arrive from bytes) = arrive-advances from bytes
+    act-advances : (act : Act) → NoneExpires s.sending.blocks.kept → Advances s.sending.next (on_act w s act)
+    act-advances (Send bytes) none = send_as-advances bytes s.kind
+    act-advances (Recv room) none = recv_as-advances room s.kind
+    act-advances (SendMessage ttl order bytes) none = message_as-advances ttl order bytes s.kind
+    act-advances (RecvMessage room) none = show_as-advances room s.kind
+    act-advances Pack none = pack-advances s.phase none
+    act-advances Tick none = tick-advances s.phase
+    act-advances Close none = stays-next s _ refl
+    act-advances Measure none = stays-next s _ refl
+    act-advances (Arrive from bytes) none = arrive-advances from bytes
 
-  pub step-advances : (s : State C) (event : Event) → Advances s.sending.next (step w s event)
+  pub step-advances : (s : State C) (event : Event) → NoneExpires s.sending.blocks.kept → Advances s.sending.next (step w s event)
   unfolding step
-  step-advances s event = act-advances (at_moment s event.now) event.act
+  step-advances s event none = act-advances (at_moment s event.now) event.act none
+
+  -- a stream none of whose blocks expires, which it stays
+  pub record IsEndless (s : State C) : Type 0 where
+    pub stream : s.kind ≡ kind.Stream
+    pub none : NoneExpires s.sending.blocks.kept
+
+  pub stays-endless : (s : State C) (event : Event) → IsEndless s → IsEndless (step w s event).after
+  stays-endless s event endless = record {
+    stream = (step-keeps w s event).kind ∙ endless.stream;
+    none = stream-none_expires w s event endless.stream endless.none;
+  }
+
+  pub moment-endless : (s : State C) (now : ℕ) → IsEndless s → IsEndless (at_moment s now)
+  moment-endless s now endless = record { stream = endless.stream; none = endless.none }
+
+  pub items-endless : (s : State C) (items : List Item) → IsEndless s → IsEndless (after_items w s items)
+  unfolding after_items
+  items-endless s [] endless = endless
+  items-endless s (item ∷ items) endless = items-endless (step w s item.event).after items (stays-endless s item.event endless)
+
+  -- a stream begins so
+  opening-endless_by : (own : ℕ) (way : Way) → NoneExpires (opened_by w own way).sending.blocks.kept
+  unfolding opening
+  opening-endless_by own (PairedAt config peer now start) = tt
+
+  pub opening-endless : (own : ℕ) (way : Way) (h : History C) → h.opening ≡ opened_by w own way → h.opening.kind ≡ kind.Stream → IsEndless h.opening
+  opening-endless own way h opened stream = record {
+    stream = stream;
+    none = subst (λ (s : State C). NoneExpires s.sending.blocks.kept) (sym opened) (opening-endless_by own way);
+  }
 
   -- an event emits as many datagrams as it has emissions
   pub outs-many : (outcome : Outcome C) → length (outs_of outcome) ≡ length outcome.emissions
@@ -143,13 +219,13 @@ module _ {C : Type 0} (w : Ways C) where
     pub events : after ≤ next + length items
     pub sends : after ≤ next + length (sent_by items)
 
-  pub items-advance : (s : State C) (items : List Item) → AreLegal w s items → HasAdvanced s.sending.next (after_items w s items).sending.next items
+  pub items-advance : (s : State C) (items : List Item) → IsEndless s → AreLegal w s items → HasAdvanced s.sending.next (after_items w s items).sending.next items
   unfolding after_items AreLegal sent_by
-  items-advance s [] legal = record { events = omega arith; sends = omega arith }
-  items-advance s (item ∷ items) legal =
+  items-advance s [] endless legal = record { events = omega arith; sends = omega arith }
+  items-advance s (item ∷ items) endless legal =
       let next = (step w s item.event).after in
-      let one = step-advances s item.event in
-      let rest = items-advance next items legal.2 in
+      let one = step-advances s item.event endless.none in
+      let rest = items-advance next items (stays-endless s item.event endless) legal.2 in
       let many = ap length legal.1 ∙ outs-many (step w s item.event) in
       record {
         events = omega (arith, one.once, rest.events);
@@ -166,10 +242,12 @@ module _ {C : Type 0} (w : Ways C) where
   packet-below s act reply start blocks emission (LostBlock lost block connected packs is) number flags stamp dest payload offset cut same named =
       let within = lost-within s.sending start blocks lost block cut (packing-again w s.sending s.last lost block packs) in
       omega (arith, within.1, only-named emission lost offset (ap (λ (e : Emission). e.offsets) is) named)
+  packet-below s act reply start blocks emission (DropRequest message connected packs is) number flags stamp dest payload offset cut same named = absurd (cc)
   packet-below s act reply start blocks emission (FullAck ack connected tells is) number flags stamp dest payload offset cut same named = absurd (cc)
   packet-below s act reply start blocks emission (LightAck from raw n f t bytes connected arrives carries sender replies is) number flags stamp dest payload offset cut same named = absurd (cc)
   packet-below s act reply start blocks emission (Reports range ranges connected reports is) number flags stamp dest payload offset cut same named = absurd (cc)
   packet-below s act reply start blocks emission (ReportsGap from raw n f t bytes ends connected arrives carries sender gap is) number flags stamp dest payload offset cut same named = absurd (cc)
+  packet-below s act reply start blocks emission (ReportsDropGap from raw m t first last range ends connected arrives asks sender messages taken gap is) number flags stamp dest payload offset cut same named = absurd (cc)
   packet-below s act reply start blocks emission (AnswersAck n connected is) number flags stamp dest payload offset cut same named = absurd (cc)
   packet-below s act reply start blocks emission (SendsKeepAlive connected is) number flags stamp dest payload offset cut same named = absurd (cc)
   packet-below s act reply start blocks emission (TheEnd closing is) number flags stamp dest payload offset cut same named = absurd (cc)

@@ -1,7 +1,7 @@
 -- The numbers that ACKs and NAKs carry fit their places, whatever happens to a socket.
-use Rattle.std.proofs.Common.{◌≡◌, ℕ, ◌+◌, ◌-◌, ◌*◌, ◌/◌, ◌^◌, ◌<◌, ◌≤◌, Bool, true, false, max, List, [], ◌∷◌, ◌++◌, length, Some, None, Ok, refl, ap, ◌∙◌, sym, subst, arith}
-use Rattle.std.specs.Prelude.{Option, nat_lt, if◌then◌else◌}
-use Rattle.std.proofs.lemmas.Bool.{cases_Bool, ltb-true}
+use Rattle.std.proofs.Common.{◌≡◌, ℕ, ◌+◌, ◌-◌, ◌^◌, ◌<◌, ◌≤◌, Bool, true, false, max, List, [], ◌∷◌, ◌++◌, length, Some, None, refl, sym, subst, arith}
+use Rattle.std.specs.Prelude.{Option, ◌==◌, nat_lt, if◌then◌else◌}
+use Rattle.std.proofs.lemmas.Bool.{cases_Bool}
 use Rattle.std.proofs.lemmas.Bool.Decides.{nat_tests}
 use Rattle.std.proofs.lemmas.List.{length-drop}
 use Rattle.udt_model.specs.declared.addresses.Addr.{Addr}
@@ -13,27 +13,30 @@ use Rattle.udt_model.specs.declared.limits.TheConstants.{GREATEST_RTT, MOST_BLOC
 use Rattle.udt_model.specs.declared.packets.AckBody.{AckBody}
 use Rattle.udt_model.specs.declared.packets.AckBody.TheVariants.{Light, Buffer, Full}
 use Rattle.udt_model.specs.declared.packets.Flags.{Flags}
+use Rattle.udt_model.specs.declared.packets.Kind.{Kind}
+use Rattle.udt_model.specs.declared.packets.Kind.TheVariants as kind
 use Rattle.udt_model.specs.declared.sockets.ExpOutcome.{ExpOutcome}
 use Rattle.udt_model.specs.declared.sockets.ExpOutcome.TheVariants as exp
 use Rattle.udt_model.specs.declared.sockets.SentAck.{SentAck}
 use Rattle.udt_model.specs.Arrivals.{on_read}
-use Rattle.udt_model.specs.Calls.{send_in, received_by, recv_in, pack_in}
-use Rattle.udt_model.specs.Events.{Act, Send, Recv, Pack, Tick, Close, Measure, Arrive, Event, at_moment}
+use Rattle.udt_model.specs.Calls.{send_in, send_as, recv_in, recv_as, send_message_in, send_message_as, recv_message_in, recv_message_as, pack_in}
+use Rattle.udt_model.specs.Events.{Act, Send, Recv, SendMessage, RecvMessage, Pack, Tick, Close, Measure, Arrive, Event, at_moment}
 use Rattle.udt_model.specs.History.{Item, after_items}
-use Rattle.udt_model.specs.Losses.{report, after_report, with_missing, without_missing}
+use Rattle.udt_model.specs.Losses.{LostRange, report, after_report, with_missing, without_missing}
 use Rattle.udt_model.specs.Rate.{Ways}
 use Rattle.udt_model.specs.ReceiveBlocks.{placing_of, after_place}
-use Rattle.udt_model.specs.ReceiveHalf.{Receiving, measured, since_last, offset_of, placing_at, missing_after, with_new, after_placing, after_block, after_receive}
+use Rattle.udt_model.specs.ReceiveHalf.{Receiving, measured, since_last, offset_of, placing_at, missing_after, after_placing, after_block, drop_range, with_taken, after_receive, after_receive_message}
 use Rattle.udt_model.specs.ReceiveOrder.{IsInOrder}
-use Rattle.udt_model.specs.ReceiveReports.{number_after, nak_words, AckOutcome, IsEarly, IsKnown, EmitsAck, ack_outcome, after_ack_outcome, after_ack_timer, after_nak_timer, confirmed_by, after_ack2, round_trip_to}
-use Rattle.udt_model.specs.SendReports.{Acking, Acks, IsStale, sampled, round_trip_after}
+use Rattle.udt_model.specs.ReceiveReports.{number_after, nak_words, AckOutcome, IsEarly, IsKnown, EmitsAck, ack_outcome, after_ack_outcome, after_ack_timer, after_nak_timer, confirmed_by, after_ack2}
+use Rattle.udt_model.specs.SendReports.{sampled}
 use Rattle.udt_model.specs.State.{State}
 use Rattle.udt_model.specs.Step.{on_act, step}
 use Rattle.udt_model.specs.Ticks.{exp_outcome, after_exp, after_reports, tick_in}
 use Rattle.udt_model.specs.Timing.{RoundTrip, after_sample, last_under, period_of}
 use Rattle.udt_model.specs.Wire.{read}
 use Rattle.udt_model.proofs.ArrivalLemmas.{arrival-shows}
-use Rattle.udt_model.proofs.HalfLemmas.{after_receive-keeps, after_block-keeps, after_ack_timer-keeps, after_nak_timer-keeps, after_ack2-keeps}
+use Rattle.udt_model.proofs.DropLemmas.{taken_in_order, shown_in_order}
+use Rattle.udt_model.proofs.HalfLemmas.{after_receive_message-keeps, after_block-keeps}
 use Rattle.udt_model.proofs.InOrder.{placed_in_order, read_in_order, reported_in_order}
 use Rattle.udt_model.proofs.MissingOffsets.{AreRisingMissing, added-rising, arrived-rising, reported-rising}
 use Rattle.udt_model.proofs.ReceivingSteps.{receiving-shows}
@@ -173,12 +176,50 @@ receive-fits r count fits = record {
   arrivals = fits.arrivals;
 }
 
+-- a message that is received changes neither what is missing nor what was measured
+shown-others : (r : Receiving) (room : ℕ) → ((after_receive_message r room).last_ack ≡ r.last_ack)
+    × ((after_receive_message r room).missing ≡ r.missing) × ((after_receive_message r room).arrivals ≡ r.arrivals)
+shown-others r room =
+    (grind (arith, cases_Bool (room == 0)), grind (arith, cases_Bool (room == 0)), grind (arith, cases_Bool (room == 0)))
+
+shown-fits : (r : Receiving) (room : ℕ) → ReportsFit r → ReportsFit (after_receive_message r room)
+shown-fits r room fits =
+    let same = shown-others r room in
+    record {
+      capacity = subst (λ (n : ℕ). n ≤ MOST_BLOCKS) (sym (after_receive_message-keeps r room).capacity) fits.capacity;
+      number = subst (λ (ack : Option SentAck). number_after ack < 2 ^ 31) (sym same.0) fits.number;
+      order = shown_in_order r room fits.order;
+      rising = subst (AreRisingMissing 0) (sym same.1) fits.rising;
+      arrivals = subst (λ (samples : List ℕ). length samples ≤ SAMPLE_WINDOW) (sym same.2) fits.arrivals;
+    }
+
+taken-rising : (r : Receiving) (now : ℕ) (range : LostRange) → ReportsFit r → AreRisingMissing 0 (with_taken r now range).missing
+taken-rising r now range fits =
+    elim (nat_lt r.top range.first) as (λ above. AreRisingMissing 0 (
+    if above then with_missing r.top (range.first - 1) now r.missing else without_missing range.first range.last r.missing)) [
+      | true ↦ added-rising 0 r.top (range.first - 1) now r.missing (omega arith) fits.rising fits.order.below
+      | false ↦ arrived-rising 0 range.first range.last r.missing fits.rising
+    ]
+
+taken-fits : (r : Receiving) (now first last : ℕ) (range : LostRange) → drop_range r first last ≡ Some range → ReportsFit r
+    → ReportsFit (with_taken r now range)
+taken-fits r now first last range taken fits = record {
+  capacity = fits.capacity;
+  number = fits.number;
+  order = taken_in_order r now first last range taken fits.order;
+  rising = taken-rising r now range fits;
+  arrivals = fits.arrivals;
+}
+
 module _ {C : Type 0} (w : Ways C) where
   pub step-fits : (s : State C) (event : Event) → ReportsFit s.receiving → ReportsFit (step w s event).after.receiving
   step-fits s event fits = receiving-shows w s event ReportsFit (record {
     stays = fits;
-    reads = λ room. receive-fits s.receiving _ fits;
+    reads = λ room streams. receive-fits s.receiving _ fits;
+    shows = λ room messages. shown-fits s.receiving room fits;
     carries = λ now from raw number flags stamp bytes is sender reads. block-fits s.receiving now number flags bytes fits;
+    drops = λ now from raw message stamp first last range is sender reads messages taken.
+        taken-fits s.receiving now first last range taken fits;
     tells = λ now known. nak_timer-fits _ now known (ack_timer-fits s.receiving now known fits);
     confirms = λ number. ack2-fits s.receiving number fits;
   })
@@ -208,6 +249,36 @@ module _ {C : Type 0} (w : Ways C) where
     recv-round room phase.Closing = fits
     recv-round room phase.Closed = fits
 
+    send_as-round : (bytes : List ℕ) (k : Kind) → RoundTripFits (send_as s bytes k).after.rtt
+    send_as-round bytes kind.Stream = send-round bytes s.phase
+    send_as-round bytes kind.Message = fits
+
+    recv_as-round : (room : ℕ) (k : Kind) → RoundTripFits (recv_as s room k).after.rtt
+    recv_as-round room kind.Stream = recv-round room s.phase
+    recv_as-round room kind.Message = fits
+
+    send_message-round : (ttl : Option ℕ) (order : Bool) (bytes : List ℕ) (phase : Phase)
+        → RoundTripFits (send_message_in s ttl order bytes phase).after.rtt
+    send_message-round ttl order bytes phase.Connected = fits
+    send_message-round ttl order bytes (phase.Broken why) = fits
+    send_message-round ttl order bytes phase.Closing = fits
+    send_message-round ttl order bytes phase.Closed = fits
+
+    send_message_as-round : (ttl : Option ℕ) (order : Bool) (bytes : List ℕ) (k : Kind)
+        → RoundTripFits (send_message_as s ttl order bytes k).after.rtt
+    send_message_as-round ttl order bytes kind.Stream = fits
+    send_message_as-round ttl order bytes kind.Message = send_message-round ttl order bytes s.phase
+
+    recv_message-round : (room : ℕ) (phase : Phase) → RoundTripFits (recv_message_in s room phase).after.rtt
+    recv_message-round room phase.Connected = fits
+    recv_message-round room (phase.Broken why) = fits
+    recv_message-round room phase.Closing = fits
+    recv_message-round room phase.Closed = fits
+
+    recv_message_as-round : (room : ℕ) (k : Kind) → RoundTripFits (recv_message_as s room k).after.rtt
+    recv_message_as-round room kind.Stream = fits
+    recv_message_as-round room kind.Message = recv_message-round room s.phase
+
     pack-round : (phase : Phase) → RoundTripFits (pack_in w s phase).after.rtt
     pack-round phase.Connected = fits
     pack-round (phase.Broken why) = fits
@@ -231,6 +302,7 @@ module _ {C : Type 0} (w : Ways C) where
       passed = λ counters answer differs. fits;
       noticed = λ counters answer differs connected. fits;
       brought = λ number flags stamp payload connected sender is. fits;
+      dropped = λ message stamp first last range connected sender is messages taken. fits;
       acknowledged = λ number stamp body offset connected sender is acks. sampled-fits s.rtt body fits;
       reported = λ stamp ranges connected sender is. fits;
       confirmed = λ number ack connected found. sample-fits s.rtt (s.last - ack.moment) fits;
@@ -238,8 +310,10 @@ module _ {C : Type 0} (w : Ways C) where
     })
 
     act-round : (act : Act) → RoundTripFits (on_act w s act).after.rtt
-    act-round (Send bytes) = send-round bytes s.phase
-    act-round (Recv room) = recv-round room s.phase
+    act-round (Send bytes) = send_as-round bytes s.kind
+    act-round (Recv room) = recv_as-round room s.kind
+    act-round (SendMessage ttl order bytes) = send_message_as-round ttl order bytes s.kind
+    act-round (RecvMessage room) = recv_message_as-round room s.kind
     act-round Pack = pack-round s.phase
     act-round Tick = tick-round s.phase
     act-round Close = fits

@@ -1,6 +1,6 @@
 -- What a socket emits over a history: packets to its peer, of which data packets carry the blocks of what it accepted,
 -- each with the offset that it names.
-use Rattle.std.proofs.Common.{◌≡◌, ℕ, zero, suc, ◌-◌, ◌^◌, ◌<◌, ◌≤◌, List, [], ◌∷◌, ◌++◌, drop, Some, Ok, refl, ap, ◌∙◌, sym, subst, arith}
+use Rattle.std.proofs.Common.{◌≡◌, ℕ, zero, suc, ◌-◌, ◌^◌, ◌<◌, ◌≤◌, List, [], ◌∷◌, ◌++◌, Some, Ok, refl, ap, ◌∙◌, sym, subst, arith}
 use Rattle.std.specs.Prelude.{slice_get}
 use Rattle.std.specs.List.{Contains}
 use Rattle.std.proofs.lemmas.List.{drop_all}
@@ -15,15 +15,14 @@ use Rattle.udt_model.specs.Opening.{opening, IsOpening}
 use Rattle.udt_model.specs.Rate.{Ways}
 use Rattle.udt_model.specs.Records.{Way, PairedAt, opened_by, IsWay}
 use Rattle.udt_model.specs.State.{State, Emission}
-use Rattle.udt_model.specs.Step.{step}
 use Rattle.udt_model.specs.Wire.{Packet, Block, destination, read}
-use Rattle.udt_model.proofs.EmissionLemmas.{Emitting, NewBlock, LostBlock, FullAck, LightAck, Reports, ReportsGap, AnswersAck, SendsKeepAlive, TheEnd, IsEmittedAt, emitted-at}
+use Rattle.udt_model.proofs.EmissionLemmas.{Emitting, NewBlock, LostBlock, DropRequest, FullAck, LightAck, Reports, ReportsGap, ReportsDropGap, AnswersAck, SendsKeepAlive, TheEnd, IsEmittedAt, emitted-at}
 use Rattle.udt_model.proofs.InOrder.{none_in_order}
 use Rattle.udt_model.proofs.SendingLemmas.{IsCut, cut-kept_at, packing-sends, packing-again, lost-within}
 use Rattle.udt_model.proofs.StepLemmas.{after_items-keeps}
 use Rattle.udt_laws.specs.Laws.{CarriesBlock, HasBlocks, EmittedBlocks}
 use Rattle.udt_laws.proofs.sockets.Opened.{opened_start}
-use Rattle.udt_laws.proofs.sent_blocks.AcceptedIsCut.{blocks_by, blocks_by-append, blocks_by-joined, items-cut}
+use Rattle.udt_laws.proofs.sent_blocks.AcceptedIsCut.{blocks_by, blocks_by-append, blocks_by-parts, items-cut}
 use Rattle.udt_laws.proofs.sent_blocks.EmissionsRead.{CanSpell, packet_of, packet-dest, IsSpelled, emission-spelled}
 use Rattle.udt_laws.proofs.sent_blocks.ReportsFit.{RoundTripFits, ReportsFit, items-fit, items-round}
 
@@ -112,10 +111,12 @@ module _ {C : Type 0} (w : Ways C) where
           carries = cut-kept_at s.sending start blocks offset block cut least.kept ∙ ap (λ (b : List ℕ). Some b) bytes_are;
           numbered = cc;
         }
+    block-of (DropRequest message connected packs is) same = absurd (cc)
     block-of (FullAck ack connected tells is) same = absurd (cc)
     block-of (LightAck from raw number' flags' stamp' bytes connected arrives carries sender replies is) same = absurd (cc)
     block-of (Reports range ranges connected reports is) same = absurd (cc)
     block-of (ReportsGap from raw number' flags' stamp' bytes ends connected arrives carries sender gap is) same = absurd (cc)
+    block-of (ReportsDropGap from raw message stamp' first last range ends connected arrives asks sender messages taken gap is) same = absurd (cc)
     block-of (AnswersAck number' connected is) same = absurd (cc)
     block-of (SendsKeepAlive connected is) same = absurd (cc)
     block-of (TheEnd closing is) same = absurd (cc)
@@ -148,6 +149,7 @@ module _ {C : Type 0} (w : Ways C) where
       sent_to = omega arith;
       lost = tt;
       messages = tt;
+      ends = tt;
       message = omega arith;
       payload = omega (arith, in_range.values.payload, in_range.values.peer_payload);
     };
@@ -209,7 +211,7 @@ module _ {C : Type 0} (w : Ways C) where
     pub has_blocks : HasBlocks w h
     has_blocks = record {
       blocks = blocks_by w h.opening h.items;
-      joined = blocks_by-joined w h.opening h.items legal (way-begins own way h in_range opened).cut.payload;
+      joined = (blocks_by-parts w h.opening h.items legal (way-begins own way h in_range opened).cut.payload).joined;
       kept = last-cut.kept;
       emits = carries-block;
     }

@@ -8,6 +8,7 @@ use Rattle.udt_ring.specs.Parts.{Part, empty_part}
 use Rattle.udt_rcv_buffer.specs.PlacedParts.{IsUnused}
 use Rattle.udt_rcv_buffer.proofs.PlacedLemmas.{placed_from-unused}
 use Rattle.udt_rcv_buffer.proofs.BufferLemmas.{none_settled, none_marked, none_first}
+use Rattle.udt_rcv_buffer.proofs.WalkedLemmas.{none_ends-all}
 use Rattle.udt_rcv_buffer.proofs.buffer.RcvBuffer.new.Goals as goal
 use Rattle.udt_rcv_buffer.proofs.buffer.RcvBuffer.new.Goals.{In_ok-ring}
 
@@ -21,14 +22,18 @@ count c = ap (λ (parts : List (Part Head)). length parts) c.in_ok-ring.ensures.
 
 pub invariant_of-result : goal.invariant_of-result
 invariant_of-result c =
+    let here = (goal.at.invariant_of-result c).In_ok-ring in
     let parts = c.in_ok-ring.ring.list in
     record {
-      few = omega (arith, count c, c.ranges.blocks);
-      marked = none_marked _ parts (unused c) refl refl refl;
-      run = none_first parts (unused c);
-      settled = none_settled parts (unused c);
+      few = omega (arith, count here, c.ranges.blocks);
+      marked = none_marked _ parts (unused here) refl refl refl;
+      run = none_first parts (unused here);
+      settled = none_settled parts (unused here);
       limit = omega (arith, c.requires);
+      next = λ _. none_ends-all 0 parts (unused here) (λ at part lt. absurd (omega (arith, lt)));
     }
 
 pub returns : goal.returns
-returns c = rw (c.in_ok-ring.ensures.room, count c, placed_from-unused c.in_ok-ring.ring.list c.args.start (unused c)) refl
+returns c =
+    let here = (goal.at.returns c).In_ok-ring in
+    rw (c.in_ok-ring.ensures.room, count here, placed_from-unused c.in_ok-ring.ring.list c.args.start (unused here)) refl

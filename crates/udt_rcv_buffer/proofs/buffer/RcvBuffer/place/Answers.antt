@@ -1,6 +1,6 @@
 use Rattle.std.proofs.Common.{◌≡◌, ℕ, List, ◌+◌, ◌-◌, ◌≤◌, true, false, Some, refl, ap, ◌∙◌, sym, arith}
 use Rattle.std.proofs.lemmas.List.{length-set}
-use Rattle.std.proofs.lemmas.Option.{slice_get_within}
+use Rattle.std.proofs.lemmas.Option.{slice_get_within, same_Some}
 use Rattle.udt_model.specs.declared.answers.Placed.TheVariants as placing
 use Rattle.udt_model.specs.ReceiveBlocks.{is_taken, placing_of}
 use Rattle.udt_rcv_buffer.specs.declared.head.Head.{Head}
@@ -10,7 +10,8 @@ use Rattle.udt_rcv_buffer.specs.PlacedParts.{placed_from}
 use Rattle.udt_rcv_buffer.specs.Buffers.{received_of}
 use Rattle.udt_rcv_buffer.proofs.PlacedLemmas.{is_taken-part, put_block-part}
 use Rattle.udt_rcv_buffer.proofs.ReceivedLemmas.{placing-below, placing-above, placing-within, after_place-is}
-use Rattle.udt_rcv_buffer.proofs.BufferLemmas.{placed_marked, placed_settled, get-set, ends-set}
+use Rattle.udt_rcv_buffer.proofs.BufferLemmas.{placed_marked, placed_settled, get-set, get-set_other, ends-set}
+use Rattle.udt_rcv_buffer.proofs.NextLemmas.{gapless-after}
 use Rattle.udt_rcv_buffer.proofs.buffer.RcvBuffer.place.Goals as goal
 use Rattle.udt_rcv_buffer.proofs.buffer.RcvBuffer.place.Goals.{Then-offset-self, Then-offset-self-2, Then-head, Else-head}
 
@@ -77,6 +78,22 @@ add-requires c =
       fits = c.put.ensures.fits;
     }
 
+-- what was next before the block came
+pub add-requires-2-clause-was : goal.add-requires-2-clause-was
+add-requires-2-clause-was c kept =
+    let b = c.self.inside in
+    let place = c.args.offset - b.base in
+    let with : Part Head = record { head = record { used = true; consumed = false; flags = c.args.flags }; bytes = c.args.bytes.now } in
+    let list = ap (λ (ps : Parts Head). ps.list) c.put.ensures.next in
+    record {
+      before = b.ring.list;
+      len = rw list (sym (length-set b.ring.list place with));
+      same = λ k other. rw list (sym (get-set_other b.ring.list k place with other));
+      missing = λ part found. let same = same_Some _ part (sym c.part.ensures.value ∙ found) in rw (← same) c.if-head.false;
+      next = c.self.invariant.next kept;
+      gapped = λ k le. gapless-after b.marks.run k b.ring.list c.self.invariant.run (omega (arith, le, c.add.ensures.later));
+    }
+
 pub invariant_of-self : goal.invariant_of-self
 invariant_of-self c =
     let b = c.self.inside in
@@ -91,6 +108,7 @@ invariant_of-self c =
       run = c.add.ensures.run;
       settled = rw (list, c.add.ensures.given) (placed_settled b.marks.given b.ring.list place _ part i.settled c.part.ensures.value c.if-head.false refl c.requires.some);
       limit = omega (arith, i.limit, c.add.ensures.top, c.requires.limit, c.if-offset-self.false);
+      next = c.add-2.ensures;
     }
 
 pub returns-clause-value : goal.returns-clause-value

@@ -34,7 +34,7 @@ pub invariant_of-self : goal.invariant_of-self
 invariant_of-self c =
     let s = c.settle.ensures in
     let same = len ((goal.at.invariant_of-self c).After-settle) in
-    record { few = omega (arith, same, c.self.invariant.few); marked = s.marked; run = s.run; settled = s.settled; limit = s.limit }
+    record { few = omega (arith, same, c.self.invariant.few); marked = s.marked; run = s.run; settled = s.settled; limit = s.limit; next = c.consume-2.ensures }
 
 pub returns-clause-next : goal.returns-clause-next
 returns-clause-next c =

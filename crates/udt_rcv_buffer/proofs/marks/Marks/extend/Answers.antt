@@ -16,6 +16,7 @@ loop-self-preserved c =
       marked = grown c.loop-self.self _ c.args.ring.now.list _ i.marked c.part.ensures.value (is_true c.part.result.0.used c.if-not-head.false) refl refl refl;
       given = i.given;
       top = i.top;
+      later = omega (arith, i.later);
     }
 
 -- at the top no part is used

@@ -1,4 +1,4 @@
-use Rattle.std.proofs.Common.{◌≡◌, ◌-◌}
+use Rattle.std.proofs.Common.{◌≡◌, ◌-◌, ◌≤◌}
 use Rattle.udt_rcv_buffer.specs.Marked.{IsMarked}
 use Rattle.udt_rcv_buffer.proofs.marks.Marks.extend.Given as goal
 
@@ -7,6 +7,7 @@ invariant-loop-self l = record {
   marked : IsMarked l.self l.ring.list;
   given : l.self.given ≡ l.fn.self.given;
   top : l.self.top ≡ l.fn.self.top;
+  later : l.fn.self.run ≤ l.self.run;
 }
 
 abbrev pub decreases-loop-self : goal.decreases-loop-self

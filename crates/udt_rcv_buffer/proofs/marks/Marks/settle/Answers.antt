@@ -2,7 +2,7 @@ use Rattle.std.proofs.Common.{◌≡◌, ◌+◌, ◌-◌, ◌<◌, ◌≤◌, �
 use Rattle.std.specs.Prelude.{slice_get}
 use Rattle.udt_model.specs.ReceiveBlocks.{beginning}
 use Rattle.std.proofs.lemmas.List.Elements.{All-replicate, All-take}
-use Rattle.std.proofs.lemmas.List.{take-take}
+use Rattle.std.proofs.lemmas.List.{take-take, append-nil}
 use Rattle.udt_rcv_buffer.specs.declared.head.TheConstants.{MISSING}
 use Rattle.udt_rcv_buffer.specs.declared.head.Head.{Head}
 use Rattle.udt_ring.specs.Parts.{Part, Parts, empty_part}
@@ -34,6 +34,13 @@ pub returns-clause-len : goal.returns-clause-len
 returns-clause-len c =
     let here = (goal.at.returns-clause-len c).After-turn in
     rw (parts_then here) (length-passed c.passed-count.result.0 c.args.ring.now.list (empty_part MISSING) (within here))
+
+-- where no part is passed, all stay
+pub returns-clause-same : goal.returns-clause-same
+returns-clause-same c low =
+    let here = (goal.at.returns-clause-same c).After-turn in
+    let none : c.passed-count.result.0 ≡ 0 = omega (arith, low) in
+    parts_then here ∙ rw none (append-nil c.args.ring.now.list)
 
 pub returns-clause-room : goal.returns-clause-room
 returns-clause-room c = ap (λ (ps : Parts Head). ps.room) c.turn.ensures

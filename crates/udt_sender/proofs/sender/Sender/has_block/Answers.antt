@@ -1,6 +1,6 @@
 -- Where some offset is lost, its block is kept.
-use Rattle.std.proofs.Common.{◌≡◌, true, ap, sym, subst, arith}
-use Rattle.udt_model.specs.SendHalf.{Sending, leaves_next}
+use Rattle.std.proofs.Common.{◌≡◌, true, sym, subst, arith}
+use Rattle.udt_model.specs.SendHalf.{Sending, due_moment, leaves_next}
 use Rattle.udt_sender.specs.Halves.{sending_of}
 use Rattle.udt_sender.specs.Packets.{leaves}
 use Rattle.udt_sender.proofs.LostLemmas.{first_lost, some_least}
@@ -13,5 +13,5 @@ returns-then-len-gt0 g c =
     let s = c.self.inside in
     let least = some_least s.loss.lost (omega (arith, c.if-len-gt0.true, c.len.ensures.value)) in
     let first = first_lost s.buffer s.next s.loss.lost least.0 i.lost i.unsent least.1 in
-    subst (λ (s : Sending g.row.C.Denot). true ≡ leaves (leaves_next g.C.Control.ways s s.lost)) c.self.view_is
-    (sym (ap leaves (leaves-lost g.C.Control.ways (sending_of s) least.0 first)))
+    subst (λ (s : Sending g.row.C.Denot). true ≡ leaves (leaves_next g.C.Control.ways s (due_moment g.C.Control.ways s) s.lost)) c.self.view_is
+    (sym (leaves-lost g.C.Control.ways (sending_of s) (due_moment g.C.Control.ways (sending_of s)) least.0 first))

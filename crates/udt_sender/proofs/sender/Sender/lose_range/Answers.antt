@@ -18,6 +18,7 @@ invariant_of-self g c =
       blocks = i.blocks;
       kept = i.kept;
       sound = i.sound;
+      messages = i.messages;
       sent = i.sent;
       unsent = i.unsent;
       within = i.within;

@@ -22,6 +22,7 @@ invariant_of-self g c =
       blocks = i.blocks;
       kept = i.kept;
       sound = i.sound;
+      messages = i.messages;
       sent = omega (arith, i.sent);
       unsent = omega (arith, here);
       within = i.within;

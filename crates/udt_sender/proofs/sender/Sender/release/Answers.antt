@@ -4,6 +4,7 @@ use Rattle.std.proofs.lemmas.List.{length-drop}
 use Rattle.std.proofs.lemmas.List.Elements.{All-drop}
 use Rattle.udt_ranges.proofs.OffsetLemmas.{Rising-from_offset}
 use Rattle.udt_sender.specs.Packets.{IsSound}
+use Rattle.udt_sender.proofs.MessageLemmas.{release_in_messages}
 use Rattle.udt_sender.proofs.sender.Sender.release.Goals as goal
 
 pub invariant_of-self : goal.invariant_of-self
@@ -22,6 +23,7 @@ invariant_of-self g c =
       blocks = rw next i.blocks;
       kept = rw next (omega (arith, len, i.kept));
       sound = rw next (All-drop (IsSound s.buffer.payload) (c.args.offset - s.buffer.first) s.buffer.kept i.sound);
+      messages = rw next (release_in_messages s.buffer c.args.offset acked (omega (arith, sent, i.unsent)) i.messages);
       sent = rw next sent;
       unsent = rw next (omega (arith, len, acked, sent, i.unsent));
       within = rw next (omega (arith, len, acked, sent, i.unsent, i.within));

@@ -1,10 +1,11 @@
 -- What is accepted can be sent.
-use Rattle.std.proofs.Common.{◌≡◌, false, eqb, ◌+◌, ◌-◌, length, refl, ◌∙◌, arith}
+use Rattle.std.proofs.Common.{◌≡◌, false, eqb, ◌+◌, ◌-◌, length, None, refl, ◌∙◌, arith}
 use Rattle.udt_model.specs.declared.limits.TheConstants.{PACKET_LIMIT}
 use Rattle.udt_model.specs.SendBlocks.{end_of, free_of}
 use Rattle.udt_model.specs.SendHalf.{room_of}
 use Rattle.udt_sender.specs.Halves.{sending_of}
 use Rattle.udt_sender.proofs.BlockLemmas.{accept_sound, accept_kept}
+use Rattle.udt_sender.proofs.MessageLemmas.{accept_in_messages}
 use Rattle.udt_sender.proofs.PackLemmas.{fits-some, takes-some}
 use Rattle.udt_sender.proofs.sender.Sender.send.Goals as goal
 use Rattle.udt_sender.proofs.sender.Sender.send.Goals.{After-accept-taken}
@@ -20,7 +21,7 @@ invariant_of-self g c =
     let room = room_is g (goal.at.invariant_of-self g c).After-accept-taken in
     let most = PACKET_LIMIT - end_of s.buffer in
     let next = rw room at c.accept-taken.ensures.next in
-    let kept = accept_kept s.buffer c.args.bytes.now most s.message false i.payload in
+    let kept = accept_kept s.buffer c.args.bytes.now most s.message false None i.payload in
     record {
       isn = i.isn;
       payload = rw next i.payload;
@@ -28,7 +29,8 @@ invariant_of-self g c =
       small = rw next i.small;
       blocks = rw next i.blocks;
       kept = rw next (omega (arith, kept, i.kept));
-      sound = rw next (accept_sound s.buffer c.args.bytes.now most s.message false (omega (arith, i.message)) i.payload i.sound);
+      sound = rw next (accept_sound s.buffer c.args.bytes.now most s.message false None (omega (arith, i.message)) i.payload i.sound);
+      messages = rw next (accept_in_messages s.buffer c.args.bytes.now most s.message false None i.messages);
       sent = rw next i.sent;
       unsent = rw next (omega (arith, kept, i.unsent));
       within = rw next (omega (arith, kept, i.within));

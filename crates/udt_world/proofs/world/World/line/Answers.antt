@@ -7,7 +7,7 @@ use Rattle.udt_world.specs.Transcripts.{TellsLine}
 use Rattle.udt_world.specs.Views.{view_of}
 use Rattle.udt_world.specs.Worlds.{lines_in}
 use Rattle.udt_world.proofs.TranscriptLemmas.{accepted-more, tells}
-use Rattle.udt_world.proofs.WorldLemmas.{printed-none, accepted, refused, Accepted, Refused, steps_few, steps, few_lines}
+use Rattle.udt_world.proofs.WorldLemmas.{printed-none, accepted, refused, Accepted, Refused, steps_few, steps, few_lines, shows_small, shows}
 use Rattle.udt_world.proofs.world.World.line.Goals as goal
 
 -- the line doesn't fit
@@ -22,6 +22,9 @@ returns-then-not-fits-clause-answer g c =
 
 pub returns-then-not-fits-clause-in_step : goal.returns-then-not-fits-clause-in_step
 returns-then-not-fits-clause-in_step g c = rw (sym c.self.view_is) (steps g.C.Control.ways c.self.inside c.self.invariant)
+
+pub returns-then-not-fits-clause-shown : goal.returns-then-not-fits-clause-shown
+returns-then-not-fits-clause-shown g c = rw (sym c.self.view_is) (shows g.C.Control.ways c.self.inside c.self.invariant)
 
 was_accepted : (g : _) (c : goal.After-self-1 g)
     → Accepted g.C.Control.ways (lines_in c.self.inside) (map items_of c.keep_line.new.lines.items) c.args.line.now (view_of c.keep_line.new.network) c.args.out.now.items c.keep_line.new.out.items
@@ -52,6 +55,9 @@ returns-in-Ok-true-clause-answer g c =
 pub returns-in-Ok-true-clause-in_step : goal.returns-in-Ok-true-clause-in_step
 returns-in-Ok-true-clause-in_step g c = steps g.C.Control.ways _ (invariant_of-self g c)
 
+pub returns-in-Ok-true-clause-shown : goal.returns-in-Ok-true-clause-shown
+returns-in-Ok-true-clause-shown g c = shows g.C.Control.ways _ (invariant_of-self g c)
+
 pub returns-in-Ok-true-clause-prefix : goal.returns-in-Ok-true-clause-prefix
 returns-in-Ok-true-clause-prefix g c =
     let here : Some (lines_in c.self.inside) ≡ c.args.self.now = rw c.if-self.false at c.self.view_is in
@@ -81,3 +87,7 @@ returns-in-Ok-false-clause-answer g c =
 pub returns-in-Ok-false-clause-in_step : goal.returns-in-Ok-false-clause-in_step
 returns-in-Ok-false-clause-in_step g c = steps_few g.C.Control.ways c.self.inside.lost (map items_of c.keep_line.new.lines.items) (λ kept.
     few_lines (map items_of c.keep_line.new.lines.items) (omega (arith, ap size_of (was_refused g c).same, c.self.invariant.size_is kept, c.self.invariant.bound)))
+
+pub returns-in-Ok-false-clause-shown : goal.returns-in-Ok-false-clause-shown
+returns-in-Ok-false-clause-shown g c = shows_small g.C.Control.ways c.self.inside.lost (map items_of c.keep_line.new.lines.items) (λ kept.
+    omega (arith, ap size_of (was_refused g c).same, c.self.invariant.size_is kept, c.self.invariant.bound))
