@@ -1,0 +1,3 @@
+mod SortedLemmas
+mod KeyLemmas
+pub mod DrawerLemmas
