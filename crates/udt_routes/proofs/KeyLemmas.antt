@@ -1,6 +1,5 @@
 -- Keys tell addresses and pairs apart.
 use Rattle.std.proofs.Common.{◌≡◌, ℕ, ◌==◌, Bool, true, false, ◌&&◌, eq-eqb, refl, sym, ap, ◌∙◌, true≢false}
-use Rattle.std.proofs.lemmas.Bool.{eqb-true, and_parts}
 use Rattle.std.proofs.lemmas.Map.Lookups.{exact_unsigned}
 use Rattle.std.specs.Cmp.{eq_by_cmp_equiv, nat_cmp_total}
 use Rattle.std.specs.declared.cmp.Ordering.{Ordering}
@@ -9,11 +8,12 @@ use Rattle.std.specs.Ordering.{is_eq, nat_cmp, ordering_then}
 use Rattle.udt_model.specs.declared.addresses.Addr.{Addr}
 use Rattle.udt_model.specs.declared.addresses.Ip.{Ip}
 use Rattle.udt_model.specs.declared.addresses.Ip.TheVariants.{V4, V6}
-use Rattle.udt_model.specs.Addresses.{same_ip}
+use Rattle.udt_model.specs.Addresses.{same_ip, same_addr}
 use Rattle.udt_model.proofs.AddressLemmas.{same_addr-is}
-use Rattle.udt_routes.specs.Keys.{AddrKey, PairKey, ip_key_of, key_of, key_cmp, pair_key_of, same_pair_key}
+use Rattle.udt_routes.specs.Keys.{AddrKey, ip_key_of, key_of, key_cmp}
 
-is_equal : (c : Ordering) → is_eq c ≡ true → c ≡ Equal
+-- where a comparison tests as equal it is
+pub is_equal : (c : Ordering) → is_eq c ≡ true → c ≡ Equal
 is_equal Less e = absurd (true≢false (sym e))
 is_equal Equal e = refl
 is_equal Greater e = absurd (true≢false (sym e))
@@ -29,7 +29,8 @@ then_second Less q e = absurd (true≢false (sym e))
 then_second Equal q e = is_equal q e
 then_second Greater q e = absurd (true≢false (sym e))
 
-cmp_same : (n : ℕ) → nat_cmp n n ≡ Equal
+-- a number compares as equal with itself
+pub cmp_same : (n : ℕ) → nat_cmp n n ≡ Equal
 cmp_same n = is_equal (nat_cmp n n) ((eq_by_cmp_equiv nat_cmp_total).refl n)
 
 key_equal : (k : AddrKey) → is_eq (key_cmp k k) ≡ true
@@ -58,26 +59,10 @@ same_from (V6 x) (V4 y) p q e = absurd (true≢false (sym e))
 pub key_tells : (a b : Addr) → is_eq (key_cmp (key_of a) (key_of b)) ≡ true → a ≡ b
 key_tells a b e = same_addr-is a b (same_from a.ip b.ip a.port b.port e)
 
--- so it is with pairs
-pair_equal : (k : PairKey) → same_pair_key k k ≡ true
-pair_equal k =
-    ap (λ c. ((c && (k.0.1 == k.0.1)) && (k.0.2 == k.0.2)) && (k.1 == k.1)) (eq-eqb k.0.0 k.0.0 refl)
-    ∙ ap (λ c. (c && (k.0.2 == k.0.2)) && (k.1 == k.1)) (eq-eqb k.0.1 k.0.1 refl)
-    ∙ ap (λ c. c && (k.1 == k.1)) (eq-eqb k.0.2 k.0.2 refl)
-    ∙ eq-eqb k.1 k.1 refl
-
-pub pair_same : (p : Addr × ℕ) → same_pair_key (pair_key_of p) (pair_key_of p) ≡ true
-pair_same p = pair_equal (pair_key_of p)
-
-same_keys : (i j : Ip) (p q : ℕ) → (let k = ip_key_of i p in let l = ip_key_of j q in ((k.0 == l.0 && k.1 == l.1) && k.2 == l.2) ≡ true) → (same_ip i j && (p == q)) ≡ true
-same_keys (V4 x) (V4 y) p q e = e
-same_keys (V6 x) (V6 y) p q e = e
-same_keys (V4 x) (V6 y) p q e = e
-same_keys (V6 x) (V4 y) p q e = e
-
-pub pair_tells : (p q : Addr × ℕ) → same_pair_key (pair_key_of p) (pair_key_of q) ≡ true → p ≡ q
-pair_tells p q e =
-    let parts = and_parts _ _ e in
-    let addr = same_addr-is p.0 q.0 (same_keys p.0.ip q.0.ip p.0.port q.0.port parts.0) in
-    let peer = eqb-true p.1 q.1 parts.1 in
-    λ j. (addr j, peer j)
+-- and an address is the same as itself
+pub same_addr-refl : (a : Addr) → same_addr a a ≡ true
+same_addr-refl a = by a.ip a.port
+  where
+    by : (i : Ip) (m : ℕ) → (same_ip i i && (m == m)) ≡ true
+    by (V4 b) m = ap (λ c. c && (m == m)) (eq-eqb b b refl) ∙ eq-eqb m m refl
+    by (V6 b) m = ap (λ c. c && (m == m)) (eq-eqb b b refl) ∙ eq-eqb m m refl

@@ -1,39 +1,24 @@
--- How the table lies in memory: maps by ID and by address, with room for all that they may hold.
-use Rattle.std.specs.Prelude.{◌≡◌, ℕ, ◌+◌, ◌≤◌, nat_eq, length, vec_capacity, Some}
-use Rattle.std.specs.HashMap.{get, spare}
+-- How the table of an endpoint lies in memory: sockets in the order of their IDs, with room for all.
+use Rattle.std.specs.Prelude.{◌≡◌, ◌≤◌, length, vec_capacity}
 use Rattle.std.specs.Ordering.{nat_cmp}
-use Rattle.udt_model.specs.declared.addresses.Addr.{Addr}
-use Rattle.udt_routes.specs.Keys.{key_of, key_cmp, pair_key_of, same_pair_key}
-use Rattle.udt_routes.specs.Sorted.{value_at, IsRising}
+use Rattle.udt_routes.specs.Sorted.{IsRising}
 use Rattle.udt_routes.specs.Tables.{Table}
 use Rattle.udt_routes.specs.declared.routes.Routes.TheInside.{Inside}
 
 module _ {R : Type 0} where
   abbrev pub table_of : Inside R → Table R
   table_of s = record {
-    ids = s.ids;
+    ids = s.adoptions.ids;
     live = s.live;
     enrolled = s.enrolled.items;
-    adoptions = s.pairs.entries;
+    adoptions = s.adoptions.adopted;
     listener = s.listener;
-    meetings = s.meetings.items;
+    meetings = s.meetings.met;
   }
 
-  -- the maps by ID and by address say the same, the lists are in order, and there is room
-  pub record IsSound (s : Inside R) : Type 0 where
-    pub enrolled_rise : IsRising nat_cmp s.enrolled.items
-    pub enrolled_fit : length s.enrolled.items ≤ s.live
-    pub enrolled_room : s.live ≤ vec_capacity s.enrolled
-    pub pairs_room : s.ids ≤ length s.pairs.entries + spare s.pairs
-    pub adopters_room : s.ids ≤ length s.adopters.entries + spare s.adopters
-    pub adopters_len : length s.adopters.entries ≡ length s.pairs.entries
-    pub adopted : (own : ℕ) (pair : Addr × ℕ) → get same_pair_key s.adopters (pair_key_of pair) ≡ Some own → get nat_eq s.pairs own ≡ Some pair
-    pub adopting : (own : ℕ) (pair : Addr × ℕ) → get nat_eq s.pairs own ≡ Some pair → get same_pair_key s.adopters (pair_key_of pair) ≡ Some own
-    pub meetings_rise : IsRising nat_cmp s.meetings.items
-    pub meetings_fit : length s.meetings.items ≤ s.live
-    pub meetings_room : s.live ≤ vec_capacity s.meetings
-    pub meeters_rise : IsRising key_cmp s.meeters.items
-    pub meeters_len : length s.meeters.items ≡ length s.meetings.items
-    pub meeters_room : s.live ≤ vec_capacity s.meeters
-    pub met : (id : ℕ) (addr : Addr) → value_at key_cmp s.meeters.items (key_of addr) ≡ Some id → value_at nat_cmp s.meetings.items id ≡ Some addr
-    pub meeting : (id : ℕ) (addr : Addr) → value_at nat_cmp s.meetings.items id ≡ Some addr → value_at key_cmp s.meeters.items (key_of addr) ≡ Some id
+  -- the sockets are in order, and they and the meetings have room for as many as may be
+  pub record IsTable (s : Inside R) : Type 0 where
+    pub rises : IsRising nat_cmp s.enrolled.items
+    pub within : length s.enrolled.items ≤ s.live
+    pub room : s.live ≤ vec_capacity s.enrolled
+    pub meetings : s.meetings.live ≡ s.live

@@ -1,13 +1,14 @@
 -- Where a datagram goes: to a socket, or nowhere, for one of four reasons.
-use Rattle.std.specs.Prelude.{ℕ, ◌==◌, Bool, false, not, ◌&&◌, is_some, List, [], ◌∷◌, Option, Some, None, Result, Ok, Err, if◌then◌else◌}
+use Rattle.std.specs.Prelude.{ℕ, ◌==◌, Bool, false, not, is_some, List, Option, Some, None, Result, Ok, Err, if◌then◌else◌}
 use Rattle.udt_model.specs.declared.addresses.Addr.{Addr}
 use Rattle.udt_model.specs.declared.handshakes.Asked.{Asked}
 use Rattle.udt_model.specs.declared.handshakes.Asked.TheVariants as asks
 use Rattle.udt_model.specs.declared.packets.Malformed.{Malformed}
 use Rattle.udt_model.specs.declared.packets.Shake.{Shake}
-use Rattle.udt_model.specs.Addresses.{same_addr}
 use Rattle.udt_model.specs.Handshakes.{asked}
 use Rattle.udt_model.specs.Wire.{Packet, Block, Handshake, KeepAlive, Ack, Nak, Shutdown, Ack2, DropAsk, read, target}
+use Rattle.udt_routes.specs.Meets.{meeter_of}
+use Rattle.udt_routes.specs.Pairs.{adopter_of}
 use Rattle.udt_routes.specs.Tables.{Table, what_of}
 
 -- the socket with this ID gets the datagram, or it is dropped under a word
@@ -34,17 +35,6 @@ abbrev pub handshake_in : Result Packet Malformed → Option Shake
 handshake_in (Ok packet) = handshake_of packet
 handshake_in (Err why) = None
 
--- the ID that has adopted a pair
-abbrev pub adopter_of : Addr → ℕ → List (ℕ × (Addr × ℕ)) → Option ℕ
-adopter_of addr peer [] = None
-adopter_of addr peer (a ∷ adoptions) =
-    if same_addr a.1.0 addr && (a.1.1 == peer) then Some a.0 else adopter_of addr peer adoptions
-
--- the ID of the socket that meets an address
-abbrev pub meeter_of : Addr → List (ℕ × Addr) → Option ℕ
-meeter_of addr [] = None
-meeter_of addr (m ∷ meetings) = if same_addr m.1 addr then Some m.0 else meeter_of addr meetings
-
 -- another ID than this one
 abbrev pub is_other : ℕ → Option ℕ → Bool
 is_other id None = false
@@ -59,7 +49,7 @@ module _ {R : Type 0} (t : Table R) (from : Addr) where
   -- the ID that has adopted the pair of a handshake
   abbrev pub adopter_in : Option Shake → Option ℕ
   adopter_in None = None
-  adopter_in (Some shake) = adopter_of from shake.id t.adoptions
+  adopter_in (Some shake) = adopter_of t.adoptions (from, shake.id)
 
   -- to the socket that is named, unless another one has adopted the sender
   abbrev pub to_named : ℕ → Option Shake → Routed
@@ -70,7 +60,7 @@ module _ {R : Type 0} (t : Table R) (from : Addr) where
 
   -- to the one that meets the sender, or to the listener
   abbrev pub by_type : Asked → Routed
-  by_type asks.Meets = to_place (meeter_of from t.meetings)
+  by_type asks.Meets = to_place (meeter_of t.meetings from)
   by_type asks.Requests = to_place t.listener
   by_type asks.Answers = DroppedShake
   by_type asks.Agrees = DroppedShake

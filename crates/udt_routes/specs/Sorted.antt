@@ -1,5 +1,5 @@
 -- Pairs of a key and a value in rising order of their keys, read as a finite map.
-use Rattle.std.specs.Prelude.{◌≡◌, ℕ, ◌<◌, ◌≤◌, Bool, true, false, List, length, Some, None, Option}
+use Rattle.std.specs.Prelude.{◌≡◌, ℕ, ◌<◌, ◌≤◌, Bool, true, false, List, length, Some, None, Option, if◌then◌else◌}
 use Rattle.std.specs.declared.cmp.Ordering.{Ordering}
 use Rattle.std.specs.declared.cmp.Ordering.TheVariants.{Less, Equal, Greater}
 use Rattle.std.specs.Ordering.{is_eq}
@@ -7,6 +7,10 @@ use Rattle.std.specs.Map.{lookup, keys_of}
 use Rattle.std.specs.BTreeMap.{is_at}
 use Rattle.std.specs.List.{HoldsAt, AllWithin}
 use Rattle.std.specs.List.Sorted.{IsStrictlySortedBy}
+
+-- how many a thing adds that is there or isn't
+abbrev pub one_of : Bool → ℕ
+one_of there = if there then 1 else 0
 
 module _ {K V : Type 0} (cmp : K → K → Ordering) where
   -- the value of the key

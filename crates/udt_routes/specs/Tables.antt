@@ -1,11 +1,11 @@
 -- What is known of the sockets of one endpoint.
-use Rattle.std.specs.Prelude.{◌≡◌, ◌≢◌, ◌⊎◌, ◌<◌, ◌≤◌, ℕ, Bool, IsSome, not, ◌&&◌, nat_lt, nat_eq, is_some, List, [], ◌∷◌, ◌++◌, length, Option, Some, None, if◌then◌else◌, refl}
+use Rattle.std.specs.Prelude.{◌≡◌, ◌+◌, ℕ, Bool, not, ◌&&◌, nat_lt, nat_eq, is_some, List, [], length, Option, Some, None, if◌then◌else◌, refl}
 use Rattle.std.specs.Coded.{Coded, code_by, coded×, coded_ℕ, coded_list, coded_option}
-use Rattle.std.specs.Map.{lookup}
 use Rattle.std.specs.Ordering.{nat_cmp}
 use Rattle.udt_model.specs.declared.addresses.Addr.{Addr}
 use Rattle.udt_model.specs.contracts.addresses.Addr as addr
-use Rattle.udt_routes.specs.Sorted.{value_at, Becomes}
+use Rattle.udt_routes.specs.Meets.{Meets}
+use Rattle.udt_routes.specs.Sorted.{value_at, Becomes, one_of}
 
 -- how many pairs may be adopted and how many sockets enrolled; what is enrolled under each ID; the pair
 -- of a peer's address and socket ID that a socket has adopted, after the socket's own ID, in the order of
@@ -48,64 +48,21 @@ module _ {R : Type 0} where
   abbrev pub can_enrol : Table R → ℕ → Bool
   can_enrol t id = not (is_some (what_of t id)) && nat_lt (length t.enrolled) t.live
 
-  -- the pair that a socket has adopted
-  abbrev pub pair_of : Table R → ℕ → Option (Addr × ℕ)
-  pair_of t own = lookup (nat_eq own) t.adoptions
-
-  -- the ID that has adopted a pair, or none where no ID has
-  abbrev pub IsAdopter : Table R → Addr × ℕ → Option ℕ → Type 0
-  IsAdopter t pair None = (own : ℕ) → pair_of t own ≢ Some pair
-  IsAdopter t pair (Some own) = pair_of t own ≡ Some pair
-
-  -- some ID has adopted a pair
-  abbrev pub IsAdopted : Table R → Addr × ℕ → Type 0
-  IsAdopted t pair = (own : ℕ) × (pair_of t own ≡ Some pair)
-
-  -- no two IDs have adopted the same pair
-  abbrev pub IsAdoptedOnce : Table R → Type 0
-  IsAdoptedOnce t =
-      (one other : ℕ) (pair : Addr × ℕ) → pair_of t one ≡ Some pair → pair_of t other ≡ Some pair → one ≡ other
-
-  -- the address that a socket meets
-  abbrev pub met_by : Table R → ℕ → Option Addr
-  met_by t id = value_at nat_cmp t.meetings id
-
-  -- the ID of the socket that meets an address, or none where no socket does
-  abbrev pub IsMeeter : Table R → Addr → Option ℕ → Type 0
-  IsMeeter t addr None = (id : ℕ) → met_by t id ≢ Some addr
-  IsMeeter t addr (Some id) = met_by t id ≡ Some addr
-
-  -- some socket meets an address
-  abbrev pub IsMet : Table R → Addr → Type 0
-  IsMet t addr = (id : ℕ) × (met_by t id ≡ Some addr)
-
-  -- a socket can meet an address that no socket meets, where it meets none, and fewer are met than may be
-  pub record CanMeet (t : Table R) (addr : Addr) (id : ℕ) : Type 0 where
-    pub free : IsMeeter t addr None
-    pub unbound : met_by t id ≡ None
-    pub room : length t.meetings < t.live
-
-  -- the address is met, or the socket meets one, or as many are met as may be
-  abbrev pub IsMeetTaken : Table R → Addr → ℕ → Type 0
-  IsMeetTaken t addr id = IsMet t addr ⊎ (IsSome (met_by t id) ⊎ (t.live ≤ length t.meetings))
-
-  -- no two sockets meet the same address
-  abbrev pub IsMetOnce : Table R → Type 0
-  IsMetOnce t = (one other : ℕ) (addr : Addr) → met_by t one ≡ Some addr → met_by t other ≡ Some addr → one ≡ other
-
   -- an ID is enrolled, and nothing else changes
   pub record Enrols (old new : Table R) (id : ℕ) (what : R) : Type 0 where
     pub enrolled : Becomes nat_cmp old.enrolled new.enrolled id (Some what)
+    pub count : length new.enrolled ≡ length old.enrolled + 1
     pub others : new ≡ record old { enrolled = new.enrolled }
 
   -- an ID isn't enrolled any more, and neither listens nor meets an address. Its adoption stays
   pub record Leaves (old new : Table R) (id : ℕ) : Type 0 where
     pub enrolled : Becomes nat_cmp old.enrolled new.enrolled id None
-    pub meetings : Becomes nat_cmp old.meetings new.meetings id None
+    pub count : length new.enrolled + one_of (is_some (what_of old id)) ≡ length old.enrolled
+    pub meetings : Meets old.meetings new.meetings id None
     pub listener : new.listener ≡ listener_without old.listener id
     pub others : new ≡ record old { enrolled = new.enrolled; meetings = new.meetings; listener = new.listener }
 
-  -- a socket meets an address, or none, and nothing else changes
-  pub record Meets (old new : Table R) (id : ℕ) (addr : Option Addr) : Type 0 where
-    pub meetings : Becomes nat_cmp old.meetings new.meetings id addr
+  -- a socket meets this address, or none, and nothing else changes
+  pub record MeetsOnly (old new : Table R) (id : ℕ) (addr : Option Addr) : Type 0 where
+    pub meetings : Meets old.meetings new.meetings id addr
     pub others : new ≡ record old { meetings = new.meetings }

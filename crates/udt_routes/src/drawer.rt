@@ -1,5 +1,7 @@
 // IDs for new sockets, counted down from a first one.
 
+ghost use Rattle.udt_routes.specs.Drawers.{DrawsOnce};
+
 use std::marker::Model;
 
 /// A share of the IDs of an endpoint, of which none is given twice.
@@ -60,3 +62,9 @@ impl Drawer {
         Some(self.first - depth as u32)
     }
 }
+
+/// Drawers at different places that share the IDs from the same first one down never give the same
+/// ID, and none gives an ID twice.
+pub fn draws_once()
+    ensures { DrawsOnce }
+{}

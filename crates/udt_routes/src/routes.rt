@@ -1,46 +1,22 @@
 // The table of one endpoint: maps by ID and by address, in room that is reserved at the start.
 
-use crate::keys::{AddrKey, PairKey, addr_key, pair_key};
+use crate::adoptions::Adoptions;
+use crate::errors::{ListenTwice, MeetTaken, OutOfMemory, Taken};
+use crate::meetings::Meetings;
 use crate::sorted::{find, put, take_out};
-use indexmap::IndexMap;
-use std::alloc::{AllocError, Global};
+use std::alloc::Global;
 use std::marker::Model;
 use udt_model::Addr;
-
-/// Memory ran out.
-#[derive(Clone, Copy, Debug, PartialEq, Eq)]
-pub struct OutOfMemory;
-
-impl From<AllocError> for OutOfMemory {
-    fn from(_error: AllocError) -> OutOfMemory {
-        OutOfMemory
-    }
-}
-
-/// The pair is adopted already.
-#[derive(Clone, Copy, Debug, PartialEq, Eq)]
-pub struct Taken;
-
-/// A socket listens already.
-#[derive(Clone, Copy, Debug, PartialEq, Eq)]
-pub struct ListenTwice;
-
-/// The address is met already, the socket meets one already, or as many are met as may be.
-#[derive(Clone, Copy, Debug, PartialEq, Eq)]
-pub struct MeetTaken;
 
 /// The sockets of one endpoint by their IDs: what is enrolled under each, which pair of a peer's
 /// address and socket ID it has adopted, which one listens, and which address each one meets.
 #[derive(Drop)]
 pub struct Routes<R> {
-    ids: u32,
     live: u32,
     enrolled: Vec<(u32, R)>,
-    pairs: IndexMap<u32, (Addr, u32)>,
-    adopters: IndexMap<PairKey, u32>,
+    adoptions: Adoptions,
     listener: Option<u32>,
-    meetings: Vec<(u32, Addr)>,
-    meeters: Vec<(AddrKey, u32)>,
+    meetings: Meetings,
 }
 
 impl<R> Model for Routes<R> {
@@ -50,17 +26,19 @@ impl<R> Model for Routes<R> {
 
     ghost coded = { table_code R.code };
 
-    ghost use Rattle.udt_routes.specs.Inside.{table_of, IsSound};
+    ghost use Rattle.udt_routes.specs.Inside.{table_of, IsTable};
 
     ghost view = { table_of };
 
-    ghost invariant = { IsSound };
+    ghost invariant = { IsTable };
 }
 
 impl<R: Drop> Routes<R> {
-    ghost use Rattle.std.specs.Prelude.{◌≡◌, ◌≢◌, ◌<◌, ◌++◌, [], ◌∷◌, length, is_some, is_ok, not, IfOk, IfErr, OnOk, OnErr, IsNone, Some, None};
+    ghost use Rattle.std.specs.Prelude.{◌≡◌, ◌≢◌, ◌<◌, ◌++◌, [], ◌∷◌, length, is_some, is_ok, not, IfOk, IfErr, OnOk, OnErr, Some, None};
     ghost use Rattle.std.specs.Option.{option_copied};
-    ghost use Rattle.udt_routes.specs.Tables.{empty_table, what_of, can_enrol, pair_of, IsAdopter, IsAdoptedOnce, met_by, IsMeeter, IsMetOnce, listener_without, Enrols, Leaves, Meets, IsAdopted, CanMeet, IsMeetTaken};
+    ghost use Rattle.udt_routes.specs.Pairs.{pair_of, adopter_of, IsAdoptedOnce};
+    ghost use Rattle.udt_routes.specs.Meets.{met_by, meeter_of, can_meet, IsMetOnce};
+    ghost use Rattle.udt_routes.specs.Tables.{empty_table, what_of, can_enrol, listener_without, Enrols, Leaves, MeetsOnly};
 
     /// A table of no sockets, for at most so many adoptions and so many enrolled sockets. All memory is
     /// taken here.
@@ -68,19 +46,14 @@ impl<R: Drop> Routes<R> {
         ensures { IfOk result (λ t. t ≡ empty_table ids live) }
     {
         let enrolled = Vec::with_capacity(alloc, live as usize)?;
-        let pairs = IndexMap::with_capacity(alloc, ids as usize)?;
-        let adopters = IndexMap::with_capacity(alloc, ids as usize)?;
-        let meetings = Vec::with_capacity(alloc, live as usize)?;
-        let meeters = Vec::with_capacity(alloc, live as usize)?;
+        let adoptions = Adoptions::new(alloc, ids)?;
+        let meetings = Meetings::new(alloc, live)?;
         Ok(Routes {
-            ids,
             live,
             enrolled,
-            pairs,
-            adopters,
+            adoptions,
             listener: None,
             meetings,
-            meeters,
         })
     }
 
@@ -105,7 +78,7 @@ impl<R: Drop> Routes<R> {
         ensures next { Leaves self.old self.new id }
     {
         self.clear_listener(id);
-        self.stop_meeting(id);
+        self.meetings.free(id);
         take_out(&mut self.enrolled, &id)
     }
 
@@ -116,37 +89,30 @@ impl<R: Drop> Routes<R> {
         find(&self.enrolled, &id)
     }
 
-    /// Adopts the pair of a peer's address and socket ID, for good.
+    /// Adopts the pair of a peer's address and socket ID, for good. Taken where it is adopted.
     pub fn adopt(&mut self, own: u32, addr: Addr, peer: u32) -> Result<(), Taken>
-        requires first { IsNone (pair_of self.old own) }
+        requires first { pair_of self.old.adoptions own ≡ None }
         requires room { length self.old.adoptions < self.old.ids }
+        ensures exact { is_ok result ≡ not (is_some (adopter_of self.old.adoptions (addr, peer))) }
         ensures ok { OnOk result (self.new ≡ record self.old { adoptions = self.old.adoptions ++ (own, (addr, peer)) ∷ [] }) }
-        ensures free { OnOk result (IsAdopter self.old (addr, peer) None) }
-        ensures taken { OnErr result (IsAdopted self.old (addr, peer)) }
         ensures err { OnErr result (self.new ≡ self.old) }
-        ensures once { IsAdoptedOnce self.new }
+        ensures once { IsAdoptedOnce self.new.adoptions }
     {
-        let key = pair_key(addr, peer);
-        if self.adopters.contains_key(&key) {
-            return Err(Taken);
-        }
-        self.adopters.insert(key, own).unwrap();
-        self.pairs.insert(own, (addr, peer)).unwrap();
-        Ok(())
+        self.adoptions.adopt(own, addr, peer)
     }
 
     /// The ID that has adopted a pair.
     pub fn adopted(&self, addr: Addr, peer: u32) -> Option<u32>
-        ensures { IsAdopter self.now (addr, peer) result }
+        ensures { result ≡ adopter_of self.now.adoptions (addr, peer) }
     {
-        self.adopters.get(&pair_key(addr, peer)).copied()
+        self.adoptions.adopted(addr, peer)
     }
 
     /// The pair that an ID has adopted.
     pub fn peer_of(&self, own: u32) -> Option<(Addr, u32)>
-        ensures { result ≡ pair_of self.now own }
+        ensures { result ≡ pair_of self.now.adoptions own }
     {
-        self.pairs.get(&own).copied()
+        self.adoptions.peer_of(own)
     }
 
     /// Makes a socket the listener, where none listens.
@@ -181,47 +147,32 @@ impl<R: Drop> Routes<R> {
     /// Lets a socket meet an address, where no socket meets it, this one meets none, and fewer are met
     /// than may be.
     pub fn set_meeting(&mut self, to: Addr, id: u32) -> Result<(), MeetTaken>
-        ensures can { OnOk result (CanMeet self.old to id) }
-        ensures taken { OnErr result (IsMeetTaken self.old to id) }
-        ensures ok { OnOk result (Meets self.old self.new id (Some to)) }
+        ensures exact { is_ok result ≡ can_meet self.old.live self.old.meetings to id }
+        ensures ok { OnOk result (MeetsOnly self.old self.new id (Some to)) }
         ensures err { OnErr result (self.new ≡ self.old) }
-        ensures once { IsMetOnce self.new }
     {
-        let key = addr_key(to);
-        if self.meetings.len() >= self.live as usize
-            || find(&self.meetings, &id).is_some()
-            || find(&self.meeters, &key).is_some()
-        {
+        if !self.meetings.can_meet(to, id) {
             return Err(MeetTaken);
         }
-        put(&mut self.meetings, id, to);
-        put(&mut self.meeters, key, id);
+        self.meetings.meet(to, id);
         Ok(())
     }
 
     /// The ID of the socket that meets an address.
     pub fn meeting(&self, from: Addr) -> Option<u32>
-        ensures { IsMeeter self.now from result }
+        ensures value { result ≡ meeter_of self.now.meetings from }
+        ensures once { IsMetOnce self.now.meetings }
     {
-        find(&self.meeters, &addr_key(from)).copied()
+        self.meetings.meeter(from)
     }
 
     /// Frees an address, where this ID meets it.
     pub fn clear_meeting(&mut self, to: Addr, id: u32)
-        ensures held { met_by self.old id ≡ Some to → Meets self.old self.new id None }
-        ensures kept { met_by self.old id ≢ Some to → self.new ≡ self.old }
+        ensures held { met_by self.old.meetings id ≡ Some to → MeetsOnly self.old self.new id None }
+        ensures kept { met_by self.old.meetings id ≢ Some to → self.new ≡ self.old }
     {
-        if self.meeting(to) == Some(id) {
-            self.stop_meeting(id);
-        }
-    }
-
-    // Frees the address that this ID meets, where it meets one.
-    fn stop_meeting(&mut self, id: u32)
-        ensures { Meets self.old self.new id None }
-    {
-        if let Some(to) = take_out(&mut self.meetings, &id) {
-            take_out(&mut self.meeters, &addr_key(to));
+        if self.meetings.meeter(to) == Some(id) {
+            self.meetings.free(id);
         }
     }
 }

@@ -1,6 +1,6 @@
 // Pairs of a key and a value in rising order of their keys, in room that was reserved.
 
-ghost use Rattle.std.specs.Prelude.{◌≡◌, ◌+◌, ◌<◌, ◌≤◌, vec_len, vec_capacity, is_some, if◌then◌else◌, IfOk, IfErr, None};
+ghost use Rattle.std.specs.Prelude.{◌≡◌, ◌+◌, ◌<◌, ◌≤◌, vec_len, vec_capacity, is_some, if◌then◌else◌, IfOk, IfErr, IfNone, None};
 ghost use Rattle.std.specs.Option.{option_copied};
 ghost use Rattle.udt_routes.specs.Sorted.{value_at, IsRising, IsAt, IsGapFor, Puts, TakesOut};
 
@@ -54,6 +54,7 @@ pub(crate) fn put<K: Ord + Copy + Drop, V>(pairs: &mut Vec<(K, V)>, key: K, valu
 pub(crate) fn take_out<K: Ord + Copy + Drop, V>(pairs: &mut Vec<(K, V)>, key: &K) -> Option<V>
     requires { IsRising K.cmp pairs.old.items }
     ensures value { result ≡ value_at K.cmp pairs.old.items key.now }
+    ensures kept { IfNone result (pairs.new ≡ pairs.old) }
     ensures next { TakesOut K.cmp pairs.old.items pairs.new.items key.now }
     ensures order { IsRising K.cmp pairs.new.items }
     ensures len { vec_len pairs.new + (if is_some result then 1 else 0) ≡ vec_len pairs.old }
