@@ -25,7 +25,7 @@ same_id i j e = exact_unsigned i j (is_equal (nat_cmp i j) e)
 -- the address of a meeter is met by it
 pub addr_of_meeter : (met : List (ℕ × Addr)) → IsRising nat_cmp met → (id : ℕ) (a : Addr) → meeter_of met a ≡ Some id → met_by met id ≡ Some a
 addr_of_meeter [] rises id a found = absurd (cc)
-addr_of_meeter (m ∷ met) rises id a found = by (same_addr a m.1) refl found
+addr_of_meeter (m ∷ met) rises id a found = by (same_addr a m.1) refl (addr_of_meeter met (sorted_tail nat_cmp m.0 (keys_of met) rises) id a) found
   where
     later : met_by met id ≡ Some a → (c : Bool) → is_eq (nat_cmp id m.0) ≡ c → cond c (Some m.1) (met_by met id) ≡ Some a
     later there false e = there
@@ -33,22 +33,22 @@ addr_of_meeter (m ∷ met) rises id a found = by (same_addr a m.1) refl found
         let none : met_by met id ≡ None = lookup-none (is_at (nat_cmp id)) met (none_past_head (eq_by_cmp_equiv nat_cmp_total) id m met (IsDistinct-from_sorted nat_cmp (keys_of (m ∷ met)) rises) e) in
         absurd (cc)
 
-    by : (b : Bool) → same_addr a m.1 ≡ b → cond b (Some m.0) (meeter_of met a) ≡ Some id → met_by (m ∷ met) id ≡ Some a
-    by true same here =
+    by : (b : Bool) → same_addr a m.1 ≡ b → (meeter_of met a ≡ Some id → met_by met id ≡ Some a) → cond b (Some m.0) (meeter_of met a) ≡ Some id → met_by (m ∷ met) id ≡ Some a
+    by true same rest here =
         let whose : m.0 ≡ id = cc in
         let is : is_eq (nat_cmp id m.0) ≡ true = ap (λ j. is_eq (nat_cmp id j)) whose ∙ ap is_eq (cmp_same id) in
         ap (λ c. cond c (Some m.1) (met_by met id)) is ∙ ap Some (sym (same_addr-is a m.1 same))
-    by false other there = later (addr_of_meeter met (sorted_tail nat_cmp m.0 (keys_of met) rises) id a there) (is_eq (nat_cmp id m.0)) refl
+    by false other rest there = later (rest there) (is_eq (nat_cmp id m.0)) refl
 
 -- an address that is met has a meeter
 met_has_meeter : (met : List (ℕ × Addr)) (id : ℕ) (a : Addr) → met_by met id ≡ Some a → meeter_of met a ≡ None → ⊥
 met_has_meeter [] id a there none = cc
-met_has_meeter (m ∷ met) id a there none = by (is_eq (nat_cmp id m.0)) there (same_addr a m.1) refl none
+met_has_meeter (m ∷ met) id a there none = by (met_has_meeter met id a) (is_eq (nat_cmp id m.0)) there (same_addr a m.1) refl none
   where
-    by : (c : Bool) → cond c (Some m.1) (met_by met id) ≡ Some a → (b : Bool) → same_addr a m.1 ≡ b → cond b (Some m.0) (meeter_of met a) ≡ None → ⊥
-    by c there true e none = cc
-    by false there false e none = met_has_meeter met id a there none
-    by true there false e none =
+    by : (met_by met id ≡ Some a → meeter_of met a ≡ None → ⊥) → (c : Bool) → cond c (Some m.1) (met_by met id) ≡ Some a → (b : Bool) → same_addr a m.1 ≡ b → cond b (Some m.0) (meeter_of met a) ≡ None → ⊥
+    by rest c there true e none = cc
+    by rest false there false e none = rest there none
+    by rest true there false e none =
         let is : m.1 ≡ a = cc in
         true≢false (sym (ap (same_addr a) is ∙ same_addr-refl a) ∙ e)
 
@@ -72,6 +72,10 @@ module _ (ids : List (ℕ × Addr)) (addrs : List (AddrKey × ℕ)) (rises : IsR
     addr = addr_of_meeter ids rises;
     meeter = λ id a there. sym (meeter_of-keyed a) ∙ alike.to_id id a there;
   }
+
+-- no meetings say the same both ways
+pub none_alike : AreAlike [] []
+none_alike = record { to_addr = λ id a found. absurd (cc); to_id = λ id a found. absurd (cc) }
 
 -- the values of an ID, after a change at one
 id_value : {ids ids' : List (ℕ × Addr)} (id : ℕ) (v : Option Addr) → Becomes nat_cmp ids ids' id v → (i : ℕ) → value_at nat_cmp ids' i ≡ cond (is_eq (nat_cmp id i)) v (value_at nat_cmp ids i)

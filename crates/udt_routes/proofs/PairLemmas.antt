@@ -65,36 +65,36 @@ same_pair-is p q same =
 -- a look-up that finds something finds it still where more follows
 pair_of-kept : (adopted : List (ℕ × Pair)) (x : ℕ × Pair) (own : ℕ) (p : Pair) → pair_of adopted own ≡ Some p → pair_of (adopted ++ x ∷ []) own ≡ Some p
 pair_of-kept [] x own p found = absurd (cc)
-pair_of-kept (a ∷ adopted) x own p found = by (nat_eq own a.0) found
+pair_of-kept (a ∷ adopted) x own p found = by (nat_eq own a.0) (pair_of-kept adopted x own p) found
   where
-    by : (b : Bool) → cond b (Some a.1) (pair_of adopted own) ≡ Some p → cond b (Some a.1) (pair_of (adopted ++ x ∷ []) own) ≡ Some p
-    by true found = found
-    by false found = pair_of-kept adopted x own p found
+    by : (b : Bool) → (pair_of adopted own ≡ Some p → pair_of (adopted ++ x ∷ []) own ≡ Some p) → cond b (Some a.1) (pair_of adopted own) ≡ Some p → cond b (Some a.1) (pair_of (adopted ++ x ∷ []) own) ≡ Some p
+    by true rest found = found
+    by false rest found = rest found
 
 adopter_of-kept : (adopted : List (ℕ × Pair)) (x : ℕ × Pair) (p : Pair) (own : ℕ) → adopter_of adopted p ≡ Some own → adopter_of (adopted ++ x ∷ []) p ≡ Some own
 adopter_of-kept [] x p own found = absurd (cc)
-adopter_of-kept (a ∷ adopted) x p own found = by (same_pair p a.1) found
+adopter_of-kept (a ∷ adopted) x p own found = by (same_pair p a.1) (adopter_of-kept adopted x p own) found
   where
-    by : (b : Bool) → cond b (Some a.0) (adopter_of adopted p) ≡ Some own → cond b (Some a.0) (adopter_of (adopted ++ x ∷ []) p) ≡ Some own
-    by true found = found
-    by false found = adopter_of-kept adopted x p own found
+    by : (b : Bool) → (adopter_of adopted p ≡ Some own → adopter_of (adopted ++ x ∷ []) p ≡ Some own) → cond b (Some a.0) (adopter_of adopted p) ≡ Some own → cond b (Some a.0) (adopter_of (adopted ++ x ∷ []) p) ≡ Some own
+    by true rest found = found
+    by false rest found = rest found
 
 -- and one that finds nothing comes to what follows
 pair_of-next : (adopted : List (ℕ × Pair)) (x : ℕ × Pair) (own : ℕ) → pair_of adopted own ≡ None → pair_of (adopted ++ x ∷ []) own ≡ cond (nat_eq own x.0) (Some x.1) None
 pair_of-next [] x own none = refl
-pair_of-next (a ∷ adopted) x own none = by (nat_eq own a.0) none
+pair_of-next (a ∷ adopted) x own none = by (nat_eq own a.0) (pair_of-next adopted x own) none
   where
-    by : (b : Bool) → cond b (Some a.1) (pair_of adopted own) ≡ None → cond b (Some a.1) (pair_of (adopted ++ x ∷ []) own) ≡ cond (nat_eq own x.0) (Some x.1) None
-    by true none = absurd (cc)
-    by false none = pair_of-next adopted x own none
+    by : (b : Bool) → (pair_of adopted own ≡ None → pair_of (adopted ++ x ∷ []) own ≡ cond (nat_eq own x.0) (Some x.1) None) → cond b (Some a.1) (pair_of adopted own) ≡ None → cond b (Some a.1) (pair_of (adopted ++ x ∷ []) own) ≡ cond (nat_eq own x.0) (Some x.1) None
+    by true rest none = absurd (cc)
+    by false rest none = rest none
 
 adopter_of-next : (adopted : List (ℕ × Pair)) (x : ℕ × Pair) (p : Pair) → adopter_of adopted p ≡ None → adopter_of (adopted ++ x ∷ []) p ≡ cond (same_pair p x.1) (Some x.0) None
 adopter_of-next [] x p none = refl
-adopter_of-next (a ∷ adopted) x p none = by (same_pair p a.1) none
+adopter_of-next (a ∷ adopted) x p none = by (same_pair p a.1) (adopter_of-next adopted x p) none
   where
-    by : (b : Bool) → cond b (Some a.0) (adopter_of adopted p) ≡ None → cond b (Some a.0) (adopter_of (adopted ++ x ∷ []) p) ≡ cond (same_pair p x.1) (Some x.0) None
-    by true none = absurd (cc)
-    by false none = adopter_of-next adopted x p none
+    by : (b : Bool) → (adopter_of adopted p ≡ None → adopter_of (adopted ++ x ∷ []) p ≡ cond (same_pair p x.1) (Some x.0) None) → cond b (Some a.0) (adopter_of adopted p) ≡ None → cond b (Some a.0) (adopter_of (adopted ++ x ∷ []) p) ≡ cond (same_pair p x.1) (Some x.0) None
+    by true rest none = absurd (cc)
+    by false rest none = rest none
 
 module _ (adopted : List (ℕ × Pair)) (own : ℕ) (p : Pair) (once : IsAdoptedOnce adopted) (first : pair_of adopted own ≡ None) (free : adopter_of adopted p ≡ None) where
   found_pair : (o : ℕ) (q : Pair) → adopter_of (adopted ++ (own, p) ∷ []) q ≡ Some o → pair_of (adopted ++ (own, p) ∷ []) o ≡ Some q

@@ -13,6 +13,11 @@ use Rattle.std.proofs.lemmas.Map.Entries.{none_below_head}
 use Rattle.std.proofs.lemmas.Map.Keys.{sorted_head, sorted_tail, IsDistinct-from_sorted}
 use Rattle.udt_routes.specs.Sorted.{value_at, IsRising, IsAt, IsGapFor, Puts, TakesOut}
 
+-- no pairs are in order
+pub rising_none : {K : Type 0} (V : Type 0) (cmp : K → K → Ordering) → IsRising {K = K} {V = V} cmp []
+unfolding IsStrictlySortedBy
+rising_none V cmp = tt
+
 -- no answer stands past the last of the three
 index_at_most : (c : Ordering) → ordering_index c ≤ 2
 index_at_most Less = omega arith

@@ -1,5 +1,5 @@
 use Rattle.std.proofs.Common.{◌≡◌, ◌+◌, ◌≤◌, ◌∷◌, [], None, not, length, length-append, arith, sym, ap, ◌∙◌}
-use Rattle.udt_routes.specs.Pairs.{pair_of, adopter_of, IsAdoptedOnce}
+use Rattle.udt_routes.specs.Pairs.{Pair, pair_of}
 use Rattle.udt_routes.specs.PairMaps.{keyed}
 use Rattle.udt_routes.proofs.PairLemmas.{held, free, keyed-push, once-push}
 use Rattle.udt_routes.proofs.adoptions.Adoptions.adopt.Goals as goal
@@ -20,7 +20,7 @@ returns-clause-exact c =
 pub returns-clause-once : goal.returns-clause-once
 returns-clause-once c =
     let adopted = c.self.inside.pairs.entries in
-    let pair = (c.args.addr, c.args.peer) in
+    let pair : Pair = (c.args.addr, c.args.peer) in
     let first : pair_of adopted c.args.own ≡ None = rw (← c.self.view_is) at c.requires.first in
     let none = free c.self.inside.adopters.entries adopted c.pair_key-key.result pair c.self.invariant.alike c.pair_key-key.ensures c.contains_key.result c.contains_key.ensures c.if-contains_key.false in
     rw c.note-2.ensures.entries (once-push adopted c.args.own pair c.self.invariant.once first none)
@@ -30,7 +30,7 @@ pub invariant_of-self : goal.invariant_of-self
 invariant_of-self c =
     let s = c.self.inside in
     let adopted = s.pairs.entries in
-    let pair = (c.args.addr, c.args.peer) in
+    let pair : Pair = (c.args.addr, c.args.peer) in
     let first : pair_of adopted c.args.own ≡ None = rw (← c.self.view_is) at c.requires.first in
     let none = free s.adopters.entries adopted c.pair_key-key.result pair c.self.invariant.alike c.pair_key-key.ensures c.contains_key.result c.contains_key.ensures c.if-contains_key.false in
     record {
