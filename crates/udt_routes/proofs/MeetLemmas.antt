@@ -73,6 +73,27 @@ module _ (ids : List (ℕ × Addr)) (addrs : List (AddrKey × ℕ)) (rises : IsR
     meeter = λ id a there. sym (meeter_of-keyed a) ∙ alike.to_id id a there;
   }
 
+-- what is met after one was taken out was met before
+pub taken_from : (old new : List (ℕ × Addr)) (id : ℕ) → Becomes nat_cmp old new id None → (i : ℕ) (b : Addr) → met_by new i ≡ Some b → met_by old i ≡ Some b
+taken_from old new id becomes i b found = by (is_eq (nat_cmp id i)) refl
+  where
+    by : (c : Bool) → is_eq (nat_cmp id i) ≡ c → met_by old i ≡ Some b
+    by true e =
+        let gone = becomes.changed i e in
+        absurd (cc)
+    by false e = sym (becomes.others i e) ∙ found
+
+-- so each address is still met by one socket
+pub fewer_once : (old new : List (ℕ × Addr)) → IsRising nat_cmp new → ((i : ℕ) (b : Addr) → met_by new i ≡ Some b → met_by old i ≡ Some b) → IsMetOnce old → IsMetOnce new
+fewer_once old new rises from once = record {
+  addr = addr_of_meeter new rises;
+  meeter = λ id a there. by id a there (meeter_of new a) refl;
+}
+  where
+    by : (id : ℕ) (a : Addr) → met_by new id ≡ Some a → (m : Option ℕ) → meeter_of new a ≡ m → meeter_of new a ≡ Some id
+    by id a there None e = absurd (met_has_meeter new id a there e)
+    by id a there (Some j) e = e ∙ sym (once.meeter j a (from j a (addr_of_meeter new rises j a e))) ∙ once.meeter id a (from id a there)
+
 -- no meetings say the same both ways
 pub none_alike : AreAlike [] []
 none_alike = record { to_addr = λ id a found. absurd (cc); to_id = λ id a found. absurd (cc) }
