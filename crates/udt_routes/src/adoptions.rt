@@ -3,14 +3,13 @@
 ghost use Rattle.std.specs.Prelude.{◌≡◌, ◌+◌, ◌<◌, ◌≤◌, ◌++◌, [], ◌∷◌, length, is_some, is_ok, not, IfOk, OnOk, OnErr, None};
 ghost use Rattle.udt_routes.specs.Pairs.{pair_of, adopter_of, IsAdoptedOnce};
 
+use crate::errors::{OutOfMemory, Taken};
 use crate::keys::{PairKey, pair_key};
 use crate::room::note;
 use indexmap::IndexMap;
 use std::alloc::Global;
 use std::marker::Model;
 use udt_model::Addr;
-
-use crate::errors::{OutOfMemory, Taken};
 
 /// The pairs that the sockets of an endpoint have adopted. None is ever taken out.
 #[derive(Drop)]
