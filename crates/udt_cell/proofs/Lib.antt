@@ -1,0 +1,4 @@
+mod CountLemmas
+mod QuietLemmas
+mod ItemLemmas
+pub mod LegalLemmas
