@@ -5,4 +5,4 @@ pub mod delivered_prefix
 pub mod acked_has_arrived
 pub mod pairs
 pub mod scripts
-pub mod messages
+pub mod laid_messages

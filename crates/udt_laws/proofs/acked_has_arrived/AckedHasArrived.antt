@@ -1,6 +1,8 @@
--- No more blocks of a socket are acknowledged than have arrived at its peer.
-use Rattle.std.proofs.Common.{◌≡◌, ℕ, ◌+◌, ◌^◌, ◌<◌, ◌≤◌, List, [], ◌∷◌, length, Some, Ok, refl, ap, ◌∙◌, sym, subst, arith}
+-- What is acknowledged of a socket was placed or dropped at its peer: of a stream, no more blocks than have arrived there.
+use Rattle.std.proofs.Common.{◌≡◌, ℕ, ◌+◌, ◌^◌, ◌<◌, ◌≤◌, List, [], ◌∷◌, ◌++◌, length, Some, Ok, refl, ap, ◌∙◌, sym, subst, inl, inr, arith}
+use Rattle.std.specs.Prelude.{◌==◌}
 use Rattle.std.specs.List.{Contains}
+use Rattle.std.proofs.lemmas.Bool.{eqb-true, or_cases}
 use Rattle.std.proofs.lemmas.Option.{same_Some}
 use Rattle.std.proofs.lemmas.List.Elements.{Contains-append_left, Contains-append_right, Contains-push}
 use Rattle.udt_model.specs.declared.packets.Kind.TheVariants.{Stream}
@@ -14,57 +16,69 @@ use Rattle.udt_model.specs.State.{State, Datagram, Emission}
 use Rattle.udt_model.specs.SendReports.{acked_number}
 use Rattle.udt_model.specs.Step.{step}
 use Rattle.udt_model.specs.Events.{Act, Arrive}
-use Rattle.udt_model.specs.History.{Item, History, start_of, acked, arrived}
+use Rattle.udt_model.specs.History.{Item, History, start_of, acked, arrived, placed_offsets, dropped_offsets}
 use Rattle.udt_model.specs.Records.{Enrolled, IsSocket, EndpointRecord, StandsAt, PeerPair, own_peer, ArePaired, AreLawful}
-use Rattle.udt_model.specs.Emissions.{emitted, sent, arrived_by_act, arrived_by, arrivals}
+use Rattle.udt_model.specs.Emissions.{sent, arrived_by_act, arrived_by, arrivals}
 use Rattle.udt_model.specs.Honest.{IsHonestAct, AreHonest, IsHonest}
 use Rattle.udt_model.proofs.NearLemmas.{near-found, near-is}
 use Rattle.udt_model.proofs.RecordLemmas.{emitted-from_sent}
-use Rattle.udt_model.proofs.StepLemmas.{step-keeps, after_items-keeps}
+use Rattle.udt_model.proofs.StepLemmas.{step-keeps}
 use Rattle.udt_model.proofs.WireLemmas.{target-of-read}
 use Rattle.udt_laws.specs.Laws.{ComesFrom, PairArrived}
-use Rattle.udt_laws.proofs.sockets.Opened.{names}
-use Rattle.udt_laws.proofs.sockets.OneSocket.{same-socket, emitter-is}
-use Rattle.udt_laws.proofs.acked_has_arrived.AcksNamePlaced.{TellsOf, HasPlaced}
+use Rattle.udt_laws.proofs.sockets.Opened.{names, pair-stream}
+use Rattle.udt_laws.proofs.sockets.OneSocket.{from-sender, own-pair-back, AreOwnPair, own-pair}
+use Rattle.udt_laws.proofs.acked_has_arrived.AcksNamePlaced.{TellsOf, HasPlaced, HasTaken, stream-placed, all-taken}
 use Rattle.udt_laws.proofs.acked_has_arrived.AckedWasNamed.{AcksAct, AllAck, items-acked}
 use Rattle.udt_laws.proofs.acked_has_arrived.SendsOneAnEvent.{SendsBelow, sends-below_sent, sends-below_events}
-use Rattle.udt_laws.proofs.acked_has_arrived.PeerAcksAlone.{HasAllBelow, AreAckMates, ack-mates, all-arrived}
+use Rattle.udt_laws.proofs.acked_has_arrived.PeerAcksAlone.{AreAckMates, ack-mates, AcksOnly, all-arrived}
+use Rattle.udt_laws.proofs.acked_has_arrived.CountsWithoutGap.{IsAmong, AllBetween}
+use Rattle.udt_laws.proofs.acked_has_arrived.EventsPlace.{ItemsMeet}
 
 -- an offset that was sent is none above another with its sequence number, where fewer than 2^30 were sent
 not-above : (isn start number offset named_ack : ℕ) → sequence_number isn offset ≡ number → sequence_number isn named_ack ≡ number → start ≤ named_ack
     → offset < start + 2 ^ 30 → offset ≤ named_ack
 not-above isn start number offset named_ack is told_is low few = omega arith
 
+-- what is among some offsets is contained in them
+among-contained : (offset : ℕ) (offsets : List ℕ) → IsAmong offset offsets → Contains offsets offset
+among-contained offset [] among = absurd (cc)
+among-contained offset (first ∷ others) among = elim (or_cases (first == offset) _ among) [
+  | inl here ↦ subst (λ (n : ℕ). Contains (n ∷ others) offset) (sym (eqb-true first offset here))
+      (Contains-append_left (offset ∷ []) others offset (Contains-push [] offset))
+  | inr later ↦ Contains-append_right (first ∷ []) others offset (among-contained offset others later)
+]
+
 module _ {C : Type 0} (w : Ways C) where
   -- nothing counts as acknowledged at first
-  begins-acked : (h g : History C) → start_of g ≡ start_of h → HasAllBelow w g (start_of h)
-  begins-acked h g same_start n low high = absurd (omega (arith, same_start))
+  begins-acked : (P : ℕ → Type 0) (h g : History C) → start_of g ≡ start_of h → AllBetween P (start_of g) (start_of h)
+  begins-acked P h g same_start n low high = absurd (omega (arith, low, high, same_start))
 
   -- ---- where records are lawful and honest
 
   module _ (net : List (EndpointRecord C)) (lawful : AreLawful w net) (addr other_addr : Addr) (own : ℕ) (other : Enrolled C) (stands : StandsAt net other_addr other)
-      (names_back : own_peer w other.history ≡ Some (record { addr = addr; id = own })) (h : History C)
-      (are : AreAckMates w addr own h other_addr other.own other.history) where
+      (names_back : own_peer w other.history ≡ Some (record { addr = addr; id = own })) (h : History C) (P : ℕ → Type 0)
+      (are : AreAckMates w P addr own h other_addr other.own other.history) where
+    -- all below this offset meets it
+    abbrev AllBelow : ℕ → Type 0
+    AllBelow offset = AllBetween P (start_of other.history) offset
+
     act-acks : (s : State C) (act : Act) → s.own ≡ own → s.peer.addr ≡ other_addr → s.sending.isn ≡ h.opening.sending.isn
-        → IsHonestAct w net addr s act → AcksAct (HasAllBelow w other.history) s act
+        → IsHonestAct w net addr s act → AcksAct AllBelow s act
     act-acks s (Arrive from bytes) own_is addr_is isn_is was = λ number stamp body offset from_is reads at.
-        let packet = Ack number stamp s.own body in
-        let same = emitter-is w net lawful addr other_addr own other stands names_back s from bytes packet (from_is ∙ addr_is) was reads refl own_is in
-        let among = subst (λ (x : Enrolled C). Contains (emitted w x.history) was.emission) same was.emits in
-        let bytes_are : was.emission.datagram.bytes ≡ bytes = ap (λ (d : Datagram). d.bytes) was.datagram in
-        let tells = are.tells was.emission number stamp s.own body among (ap read bytes_are ∙ reads) in
-        let close = was.close packet tells.offset reads
-        (subst (λ (offsets : List ℕ). Contains offsets tells.offset) (sym tells.names) (Contains-push [] tells.offset)) in
+        let near = from-sender w net lawful addr other_addr own other stands names_back s from bytes (Ack number stamp s.own body)
+        (from_is ∙ addr_is) was reads refl own_is in
+        let tells = are.tells near.emission number stamp s.own body near.among (ap read near.same ∙ reads) in
+        let close = near.close tells.offset (subst (λ (offsets : List ℕ). Contains offsets tells.offset) (sym tells.names) (Contains-push [] tells.offset)) in
         let carries : sequence_number s.sending.isn tells.offset ≡ acked_number body =
         ap (λ (isn : ℕ). sequence_number isn tells.offset) (isn_is ∙ sym are.same_isn) ∙ tells.numbered in
         let there = near-is s.sending.isn s.sending.blocks.first (acked_number body) tells.offset
         (record { carries = carries; not_above = close.0; not_below = close.1 }) in
         let is : tells.offset ≡ offset = same_Some _ _ (sym there ∙ at.is_near) in
-        subst (HasAllBelow w other.history) is tells.all
+        subst AllBelow is tells.all
     act-acks s act own_is addr_is isn_is honest = tt
 
     items-ack : (s : State C) (items : List Item) → s.own ≡ own → s.peer.addr ≡ other_addr → s.sending.isn ≡ h.opening.sending.isn
-        → AreHonest w net addr s items → AllAck w (HasAllBelow w other.history) s items
+        → AreHonest w net addr s items → AllAck w AllBelow s items
     unfolding AreHonest
     items-ack s [] own_is addr_is isn_is honest = tt
     items-ack s (item ∷ items) own_is addr_is isn_is honest =
@@ -74,41 +88,57 @@ module _ {C : Type 0} (w : Ways C) where
               (same.sending.isn ∙ isn_is) honest.1,
         )
 
-    history-arrived : AreHonest w net addr h.opening h.items → acked w h ≤ arrived w other.history
-    history-arrived honest =
-        all-arrived w h other.history are.same_start
-        (items-acked w (HasAllBelow w other.history) h.opening h.items
-        (items-ack h.opening h.items are.own_is are.peer_addr refl honest) (begins-acked h other.history are.same_start))
+    history-acks : AreHonest w net addr h.opening h.items → AcksOnly w P h other.history
+    history-acks honest = record {
+      same_start = are.same_start;
+      all = items-acked w AllBelow h.opening h.items
+          (items-ack h.opening h.items are.own_is are.peer_addr refl honest) (begins-acked P h other.history are.same_start);
+    }
+
+  -- of two sockets of these that were made as a pair, whatever the one counts as acknowledged meets what all that the other
+  -- places and drops meets
+  acknowledged-meets : (net : List (EndpointRecord C)) (addr other_addr : Addr) (socket other : Enrolled C) (P : ℕ → Type 0)
+      → AreLawful w net → IsHonest w net → StandsAt net addr socket → StandsAt net other_addr other
+      → AreOwnPair w addr socket other_addr other → ItemsMeet w P other.history.opening other.history.items
+      → AcksOnly w P socket.history other.history
+  acknowledged-meets net addr other_addr socket other P lawful honest here there pair meet =
+      let are = ack-mates w P addr socket.own socket.way socket.history other_addr other.own other.way other.history pair.paired
+      pair.socket_is.opened pair.other_is.in_range pair.other_is.opened pair.other_is.legal meet in
+      let names_back = names w other.history addr socket.own are.back_addr are.back_id in
+      history-acks net lawful addr other_addr socket.own other there names_back socket.history P are (honest addr socket here)
 
   pub prefix-arrived : (net : List (EndpointRecord C)) (addr : Addr) (socket other : Enrolled C) (peer : PeerPair) → AreLawful w net → IsHonest w net
       → StandsAt net addr socket → socket.history.opening.kind ≡ Stream → own_peer w socket.history ≡ Some peer → StandsAt net peer.addr other → other.own ≡ peer.id
       → acked w socket.history ≤ arrived w other.history
   prefix-arrived net addr socket other peer lawful honest here stream peer_is there own_is =
-      let law = lawful.each here.endpoint here.among in
-      let in_record = law.sockets socket here.enrolled in
-      let met = law.met socket here.enrolled in
-      let other_law = lawful.each met.stands.endpoint met.stands.among in
-      let other_in = other_law.sockets met.other met.stands.enrolled in
-      let are = ack-mates w here.endpoint.addr socket.own socket.way socket.history met.other_addr met.other.own met.other.way met.other.history
-      met.paired in_record.opened other_in.in_range other_in.opened other_in.legal stream in
-      let last = (after_items-keeps w socket.history.opening socket.history.items).peer in
-      let named = same_Some _ _ peer_is in
-      let addr_is : peer.addr ≡ met.other_addr = sym (ap (λ (p : PeerPair). p.addr) named) ∙ ap (λ (p : Peer). p.addr) last ∙ are.peer_addr in
-      let id_is : other.own ≡ met.other.own = own_is ∙ sym (ap (λ (p : PeerPair). p.id) named) ∙ ap (λ (p : Peer). p.id) last ∙ are.peer_id in
-      let same = same-socket w net lawful met.other_addr met.other other met.stands (subst (λ (a : Addr). StandsAt net a other) addr_is there) (sym id_is) in
-      let names_back = names w met.other.history here.endpoint.addr socket.own are.back_addr are.back_id in
-      let here_honest = subst (λ (a : Addr). AreHonest w net a socket.history.opening socket.history.items) (sym here.addr_is) (honest addr socket here) in
-      subst (λ (x : Enrolled C). acked w socket.history ≤ arrived w x.history) same
-      (history-arrived net lawful here.endpoint.addr met.other_addr socket.own met.other met.stands names_back socket.history are here_honest)
+      let pair = own-pair w net lawful addr socket other peer here peer_is there own_is in
+      let other_stream = pair-stream w addr socket.own socket.way socket.history peer.addr other.own other.way other.history pair.paired
+      pair.socket_is.opened pair.other_is.opened stream in
+      all-arrived w socket.history other.history
+      (acknowledged-meets net addr peer.addr socket other (HasPlaced w other.history) lawful honest here there pair
+      (stream-placed w other.history other_stream))
+
+  -- of a socket of any kind: what its own peer counts as acknowledged was placed at it, or dropped there
+  pub acked-arrived-or-dropped : (net : List (EndpointRecord C)) (addr : Addr) (socket other : Enrolled C) (peer : PeerPair)
+      → AreLawful w net → IsHonest w net → StandsAt net addr socket → own_peer w socket.history ≡ Some peer
+      → StandsAt net peer.addr other → other.own ≡ peer.id
+      → (offset : ℕ) → start_of other.history ≤ offset → offset < start_of other.history + acked w other.history
+      → Contains (placed_offsets w socket.history ++ dropped_offsets w socket.history) offset
+  acked-arrived-or-dropped net addr socket other peer lawful honest here peer_is there own_is offset low high =
+      let pair = own-pair w net lawful addr socket other peer here peer_is there own_is in
+      let acks = acknowledged-meets net peer.addr addr other socket (HasTaken w socket.history) lawful honest there here
+      (own-pair-back w addr socket peer.addr other pair) (all-taken w socket.history) in
+      among-contained offset (placed_offsets w socket.history ++ dropped_offsets w socket.history)
+      (acks.all offset (omega (arith, acks.same_start, low)) (omega (arith, low, high)))
 
   -- ---- where two sockets were made as a pair
 
-  module _ (addr from : Addr) (socket other : Enrolled C) (in_range : IsSocket w other) (comes : ComesFrom socket from other)
-      (are : AreAckMates w addr socket.own socket.history from other.own other.history) (high : ℕ) (few : high < start_of socket.history + 2 ^ 30) where
-    -- an acknowledgement that came from there tells of what was placed there
+  module _ (addr from : Addr) (socket other : Enrolled C) (in_range : IsSocket w other) (comes : ComesFrom socket from other) (P : ℕ → Type 0)
+      (are : AreAckMates w P addr socket.own socket.history from other.own other.history) (high : ℕ) (few : high < start_of socket.history + 2 ^ 30) where
+    -- an acknowledgement that came from there tells of what it names there
     came-named_ack : (bytes : List ℕ) (number stamp : ℕ) (body : AckBody) → Contains (arrivals socket.history) (record { addr = from; bytes = bytes })
         → read bytes ≡ Ok (Ack number stamp socket.own body)
-        → (emission : Emission) × TellsOf (HasPlaced w other.history) (start_of other.history) other.history.opening.receiving.isn emission (acked_number body)
+        → (emission : Emission) × TellsOf P (start_of other.history) other.history.opening.receiving.isn emission (acked_number body)
     came-named_ack bytes number stamp body among reads =
         let came = comes (record { addr = from; bytes = bytes }) among refl (target-of-read bytes (Ack number stamp socket.own body) reads) in
         let is = emitted-from_sent w other.history.opening other.history.items came.0 in_range.legal came.1 in
@@ -117,7 +147,7 @@ module _ {C : Type 0} (w : Ways C) where
 
     act-below : (s : State C) (act : Act) → s.own ≡ socket.own → s.peer.addr ≡ from → s.sending.isn ≡ socket.history.opening.sending.isn → s.sending.next ≤ high
         → ((datagram : Datagram) → Contains (arrived_by_act act) datagram → Contains (arrivals socket.history) datagram)
-        → AcksAct (HasAllBelow w other.history) s act
+        → AcksAct (AllBetween P (start_of other.history)) s act
     act-below s (Arrive sender bytes) own_is addr_is isn_is below among = λ number stamp body offset from_is reads at.
         let came_in = subst (λ (a : Addr). Contains (arrivals socket.history) (record { addr = a; bytes = bytes })) (from_is ∙ addr_is)
         (among _ (Contains-push [] _)) in
@@ -132,7 +162,7 @@ module _ {C : Type 0} (w : Ways C) where
     items-below : (s : State C) (items : List Item) → s.own ≡ socket.own → s.peer.addr ≡ from → s.sending.isn ≡ socket.history.opening.sending.isn
         → SendsBelow w high s items
         → ((datagram : Datagram) → Contains (arrived_by items) datagram → Contains (arrivals socket.history) datagram)
-        → AllAck w (HasAllBelow w other.history) s items
+        → AllAck w (AllBetween P (start_of other.history)) s items
     unfolding arrived_by
     items-below s [] own_is addr_is isn_is below among = tt
     items-below s (item ∷ items) own_is addr_is isn_is below among =
@@ -142,19 +172,24 @@ module _ {C : Type 0} (w : Ways C) where
               (same.sending.isn ∙ isn_is) below.1 (λ datagram h. among datagram (Contains-append_right _ _ datagram h)),
         )
 
-  -- of two sockets that were made as a pair, as long as the one has sent no block from this offset on
+  -- of two stream sockets that were made as a pair, as long as the one has sent no block from this offset on
   pub below-arrived : (addr peer_addr : Addr) (socket other : Enrolled C) (high : ℕ) → IsSocket w socket → IsSocket w other
       → ArePaired addr socket.own socket.way peer_addr other.own other.way → socket.history.opening.kind ≡ Stream
       → ComesFrom socket peer_addr other → high < start_of socket.history + 2 ^ 30 → SendsBelow w high socket.history.opening socket.history.items
       → acked w socket.history ≤ arrived w other.history
   below-arrived addr peer_addr socket other high is_socket is_other paired stream comes few below =
       let h = socket.history in
-      let are = ack-mates w addr socket.own socket.way h peer_addr other.own other.way other.history paired
-      is_socket.opened is_other.in_range is_other.opened is_other.legal stream in
-      all-arrived w h other.history are.same_start
-      (items-acked w (HasAllBelow w other.history) h.opening h.items
-      (items-below addr peer_addr socket other is_other comes are high few h.opening h.items are.own_is are.peer_addr refl below (λ datagram among. among))
-      (begins-acked h other.history are.same_start))
+      let g = other.history in
+      let P = HasPlaced w g in
+      let other_stream = pair-stream w addr socket.own socket.way h peer_addr other.own other.way g paired is_socket.opened is_other.opened stream in
+      let are = ack-mates w P addr socket.own socket.way h peer_addr other.own other.way g paired
+      is_socket.opened is_other.in_range is_other.opened is_other.legal (stream-placed w g other_stream) in
+      all-arrived w h g (record {
+        same_start = are.same_start;
+        all = items-acked w (AllBetween P (start_of g)) h.opening h.items
+            (items-below addr peer_addr socket other is_other comes P are high few h.opening h.items are.own_is are.peer_addr refl below (λ datagram among. among))
+            (begins-acked P h g are.same_start);
+      })
 
   -- it sends one block a datagram at most
   pub pair-arrived : PairArrived w

@@ -20,7 +20,7 @@ use Rattle.udt_model.specs.History.{Item, after_items}
 use Rattle.udt_model.specs.Losses.{LostRange}
 use Rattle.udt_model.specs.Rate.{Ways}
 use Rattle.udt_model.specs.SendHalf.{Sending, send_answer, message_answer, expiry_of, after_answer, after_send, after_send_message, Packing, Waits, Retransmits, Drops, Sends, Idles, packing}
-use Rattle.udt_model.specs.SendReports.{Acks, acking, acked_number, entering, after_entering, after_nak, after_timeout}
+use Rattle.udt_model.specs.SendReports.{acked_number, entering, after_entering, after_nak, after_timeout}
 use Rattle.udt_model.specs.State.{State}
 use Rattle.udt_model.specs.Step.{on_act, step}
 use Rattle.udt_model.specs.Ticks.{exp_outcome, after_exp, after_reports, tick_in}

@@ -1,14 +1,15 @@
--- What a history acknowledges: each ACK that it emits names one offset, before which all was placed.
+-- What a history acknowledges: each ACK that it emits names one offset, before which all was placed or dropped.
 use Rattle.std.proofs.Common.{◌≡◌, ℕ, ◌≤◌, List, [], ◌∷◌, ◌++◌, Ok, ap, ◌∙◌, sym, subst, arith}
 use Rattle.std.specs.List.{Contains}
+use Rattle.std.proofs.lemmas.Bool.{or_left, or_right}
+use Rattle.std.proofs.lemmas.List.Folds.{list_any-append}
 use Rattle.udt_model.specs.declared.packets.Kind.TheVariants.{Stream}
 use Rattle.udt_model.specs.declared.answers.Peer.{Peer}
 use Rattle.udt_model.specs.declared.packets.AckBody.{AckBody}
-use Rattle.udt_model.specs.declared.packets.AckBody.TheVariants.{Light, Full}
 use Rattle.udt_model.specs.declared.packets.Config.{Config}
 use Rattle.udt_model.specs.Emissions.{emitted}
 use Rattle.udt_model.specs.Events.{Act, Reply, at_moment}
-use Rattle.udt_model.specs.History.{Item, History, start_of, after_items, IsLegal, placed_by, placed_offsets, placed_from}
+use Rattle.udt_model.specs.History.{Item, History, start_of, after_items, IsLegal, placed_offsets, dropped_offsets}
 use Rattle.udt_model.specs.Numbers.{sequence_number}
 use Rattle.udt_model.specs.Opening.{opening}
 use Rattle.udt_model.specs.Rate.{Ways}
@@ -17,7 +18,6 @@ use Rattle.udt_model.specs.ReceiveHalf.{after_block}
 use Rattle.udt_model.specs.ReceiveReports.{ack_offset, full_ack, light_ack}
 use Rattle.udt_model.specs.SendReports.{acked_number}
 use Rattle.udt_model.specs.State.{State, Emission}
-use Rattle.udt_model.specs.Step.{step}
 use Rattle.udt_model.specs.Wire.{Ack, read}
 use Rattle.udt_model.proofs.EmissionLemmas.{Emitting, NewBlock, LostBlock, DropRequest, FullAck, LightAck, Reports, ReportsGap, ReportsDropGap, AnswersAck, SendsKeepAlive, TheEnd}
 use Rattle.udt_model.proofs.HalfLemmas.{after_block-keeps}
@@ -25,7 +25,7 @@ use Rattle.udt_model.proofs.TickLemmas.{ack_outcome-tells}
 use Rattle.udt_laws.proofs.sockets.Opened.{opened_start}
 use Rattle.udt_laws.proofs.acked_has_arrived.CountsWithoutGap.{IsAmong, AllBetween}
 use Rattle.udt_laws.proofs.acked_has_arrived.BelowGapWasPlaced.{Covers, ack_emitted-covered}
-use Rattle.udt_laws.proofs.acked_has_arrived.EventsPlace.{AllMeet, items-covers, carried-covers, item-meets}
+use Rattle.udt_laws.proofs.acked_has_arrived.EventsPlace.{EventMeets, ItemsMeet, items-covers, carried-covers, item-meets}
 use Rattle.udt_laws.proofs.sent_blocks.EmissionsRead.{packet_of}
 use Rattle.udt_laws.proofs.sent_blocks.ReportsFit.{ReportsFit, block-fits}
 use Rattle.udt_laws.proofs.sent_blocks.SentBlocks.{same-packet, moment-at, way-begins, emission-at, emission-reads}
@@ -41,7 +41,7 @@ pub record TellsOf (P : ℕ → Type 0) (start isn : ℕ) (emission : Emission) 
 module _ {C : Type 0} (w : Ways C) where
   -- an emission that is an ACK tells of what the half knows
   emitting-tells : (P : ℕ → Type 0) (start : ℕ) (s : State C) (act : Act) (reply : Reply) (emission : Emission) (x : Emitting w s act reply emission)
-      (number stamp dest : ℕ) (body : AckBody) → ReportsFit s.receiving → Covers P start s.receiving → AllMeet P (placed_by s act reply)
+      (number stamp dest : ℕ) (body : AckBody) → ReportsFit s.receiving → Covers P start s.receiving → EventMeets P s act reply
       → packet_of w s act reply emission x ≡ Ack number stamp dest body
       → TellsOf P start s.receiving.isn emission (acked_number body)
   emitting-tells P start s act reply emission (NewBlock block connected packs is) number stamp dest body fits covers meets same = absurd (cc)
@@ -60,8 +60,8 @@ module _ {C : Type 0} (w : Ways C) where
       }
   emitting-tells P start s act reply emission (LightAck from raw number' flags stamp' bytes connected arrives carries sender replies is) number stamp dest body fits covers meets same =
       let after = after_block s.receiving s.last number' flags bytes in
-      let there = subst (λ (a : Act). AllMeet P (placed_by s a reply)) arrives meets in
-      let covers_after = carried-covers w P start s from raw s.last number' flags stamp' s.own bytes reply carries replies there covers in
+      let there = subst (λ (a : Act). EventMeets P s a reply) arrives meets in
+      let covers_after = carried-covers w P start s from raw s.last number' flags stamp' s.own bytes reply carries replies there.placed covers in
       let covered = ack_emitted-covered P start after (block-fits s.receiving s.last number' flags bytes fits) covers_after in
       let light : light_ack after ≡ body = cc in
       record {
@@ -84,6 +84,19 @@ module _ {C : Type 0} (w : Ways C) where
   abbrev pub HasPlaced : History C → ℕ → Type 0
   HasPlaced h offset = IsAmong offset (placed_offsets w h)
 
+  -- or the offset was dropped
+  abbrev pub HasTaken : History C → ℕ → Type 0
+  HasTaken h offset = IsAmong offset (placed_offsets w h ++ dropped_offsets w h)
+
+  pub stream-placed : (h : History C) → h.opening.kind ≡ Stream → ItemsMeet w (HasPlaced h) h.opening h.items
+  stream-placed h stream = record { placed = λ n among. among; dropped = λ messages. absurd (cc) }
+
+  pub all-taken : (h : History C) → ItemsMeet w (HasTaken h) h.opening h.items
+  all-taken h = record {
+    placed = λ n among. list_any-append _ (placed_offsets w h) (dropped_offsets w h) ∙ or_left _ _ among;
+    dropped = λ messages n among. list_any-append _ (placed_offsets w h) (dropped_offsets w h) ∙ or_right _ _ among;
+  }
+
   -- a history knows of no offset when it begins
   opening-covers : (P : ℕ → Type 0) (own : ℕ) (config : Config) (peer : Peer) (now start : ℕ) → Covers P start (opening w own config peer now start).receiving
   unfolding opening
@@ -94,23 +107,23 @@ module _ {C : Type 0} (w : Ways C) where
       subst (λ (n : ℕ). Covers P n h.opening.receiving) (sym (opened_start w own config peer now start h opened))
       (subst (λ (s : State C). Covers P start s.receiving) (sym opened) (opening-covers P own config peer now start))
 
-  -- so what it emits and is read as an ACK tells of what was placed in it
-  pub history-tells : (own : ℕ) (way : Way) (h : History C) → IsWay own way → h.opening ≡ opened_by w own way → IsLegal w h
-      → h.opening.kind ≡ Stream
+  -- so what it emits and is read as an ACK tells of what all that it places and drops meets
+  pub history-tells : (P : ℕ → Type 0) (own : ℕ) (way : Way) (h : History C) → IsWay own way → h.opening ≡ opened_by w own way → IsLegal w h
+      → ItemsMeet w P h.opening h.items
       → (emission : Emission) (number stamp dest : ℕ) (body : AckBody) → Contains (emitted w h) emission
       → read emission.datagram.bytes ≡ Ok (Ack number stamp dest body)
-      → TellsOf (HasPlaced h) (start_of h) h.opening.receiving.isn emission (acked_number body)
-  history-tells own way h in_range opened legal stream emission number stamp dest body among reads =
-      let P = HasPlaced h in
+      → TellsOf P (start_of h) h.opening.receiving.isn emission (acked_number body)
+  history-tells P own way h in_range opened legal meet emission number stamp dest body among reads =
       let at = emission-at w own way h in_range opened legal emission among in
       let spelled = emission-reads w own way h in_range opened legal emission at in
       let there = after_items w h.opening at.front in
       let moment = moment-at w own way h in_range opened legal emission at in
       let here_legal = subst (λ (items : List Item). IsLegal w (record { opening = h.opening; items = items })) at.joined legal in
-      let all_meet = subst (λ (items : List Item). AllMeet P (placed_from w h.opening items)) at.joined (λ n among. among) in
-      let covers = items-covers w P (start_of h) h.opening at.front (at.item ∷ at.rest) stream here_legal all_meet (way-covers P own way h opened) in
-      let meets = item-meets w P (start_of h) h.opening at.front at.item at.rest here_legal all_meet in
+      let all_meet = subst (ItemsMeet w P h.opening) at.joined meet in
+      let covers = items-covers w P (start_of h) h.opening at.front (at.item ∷ at.rest) here_legal all_meet
+      (way-begins w own way h in_range opened).reports (way-covers P own way h opened) in
+      let meets = item-meets w P h.opening at.front at.item at.rest here_legal all_meet in
       subst (λ (isn : ℕ). TellsOf P (start_of h) isn emission (acked_number body)) moment.receiving_isn
       (emitting-tells P (start_of h) (at_moment there at.item.event.now) at.item.event.act _ emission at.emitting number stamp dest body
-      moment.can.reports covers meets
+      moment.can.reports covers (record { placed = meets.placed; dropped = meets.dropped })
       (same-packet emission.datagram.bytes _ _ spelled.reads reads))

@@ -1,18 +1,21 @@
--- What a receiving half knows: each offset below its top that isn't missing was placed, so all below the least missing one were.
-use Rattle.std.proofs.Common.{◌≡◌, ℕ, ◌+◌, ◌-◌, ◌<◌, ◌≤◌, max, Bool, true, false, List, [], ◌∷◌, Some, None, Ok, refl, sym, ap, ◌∙◌, subst, inl, inr, arith}
-use Rattle.std.specs.Prelude.{◌==◌, nat_lt, if◌then◌else◌, Option}
-use Rattle.std.proofs.lemmas.Bool.{cases_eq, cases_lt, cases_Bool, false_from_ne_true, true≢false, ltb-true, ltb-false}
+-- What a receiving half knows: each offset below its top that isn't missing was placed or dropped, so all below the least missing
+-- one were.
+use Rattle.std.proofs.Common.{◌≡◌, ℕ, zero, suc, ◌+◌, ◌-◌, ◌<◌, ◌≤◌, max, true, false, List, [], ◌∷◌, Some, None, refl, sym, ◌∙◌, ◌⊎◌, inl, inr, arith}
+use Rattle.std.specs.Prelude.{◌==◌, nat_lt, nat_le, if◌then◌else◌, Option, length}
+use Rattle.std.specs.List.{range_with_len}
+use Rattle.std.proofs.lemmas.Bool.{cases_eq, cases_lt, false_from_ne_true, true≢false, lt-ltb, ltb-true, ltb-false, or_left, or_right, eq-eqb}
 use Rattle.std.proofs.lemmas.Bool.Decides.{nat_tests}
 use Rattle.udt_model.specs.declared.answers.Placed.{Placed}
 use Rattle.udt_model.specs.declared.answers.Placed.TheVariants as placing
 use Rattle.udt_model.specs.declared.packets.Flags.{Flags}
 use Rattle.udt_model.specs.declared.sockets.SentAck.{SentAck}
-use Rattle.udt_model.specs.Losses.{is_missing, with_missing, without_missing, report, after_report}
-use Rattle.udt_model.specs.ReceiveBlocks.{ReceiveBlocks, PlacedBlock, placing_of, arrived_at, after_placing_of, after_place}
-use Rattle.udt_model.specs.ReceiveHalf.{Receiving, measured, offset_of, placing_at, missing_after, with_new, after_placing, after_block, after_receive}
-use Rattle.udt_model.specs.ReceiveReports.{least_missing, ack_offset, nak_words, AckOutcome, IsEarly, IsKnown, EmitsAck, ack_outcome, after_ack_outcome, after_ack_timer, after_nak_timer, confirmed_by, after_ack2}
+use Rattle.udt_model.specs.History.{offsets_of_range}
+use Rattle.udt_model.specs.Losses.{LostRange, offsets_between, is_missing, with_missing, without_missing, report, after_report}
+use Rattle.udt_model.specs.ReceiveBlocks.{ReceiveBlocks, PlacedBlock, WholeMessage, placing_of, arrived_at, after_placing_of, after_place, with_consumed, given_after, next_message, after_message, after_found, after_read_message}
+use Rattle.udt_model.specs.ReceiveHalf.{Receiving, measured, offset_of, placing_at, missing_after, with_new, after_placing, after_block, missing_with, with_taken, after_receive, after_receive_message}
+use Rattle.udt_model.specs.ReceiveReports.{ack_offset, nak_words, AckOutcome, IsEarly, IsKnown, EmitsAck, ack_outcome, after_ack_outcome, after_ack_timer, after_nak_timer, confirmed_by, after_ack2}
 use Rattle.udt_model.specs.Timing.{RoundTrip, period_of, last_under}
-use Rattle.udt_model.proofs.MissingOffsets.{added_keeps, added_has, arrived_keeps, reported_same, below_least, least_is}
+use Rattle.udt_model.proofs.MissingOffsets.{added_keeps, added_has, arrived_keeps, taken_keeps, reported_same, below_least, least_is}
 use Rattle.udt_model.proofs.TakenOffsets.{begins_later}
 use Rattle.udt_laws.proofs.acked_has_arrived.CountsWithoutGap.{IsAmong, AllBetween}
 use Rattle.udt_laws.proofs.sent_blocks.ReportsFit.{ReportsFit}
@@ -62,6 +65,51 @@ pub ack-within : (r : Receiving) → ReportsFit r → (r.blocks.base ≤ ack_off
 ack-within r fits = elim (least_is r.top r.missing) [
   | inl top ↦ (omega (arith, top, fits.order.base), omega (arith, top))
   | inr lost ↦ (fits.order.from (ack_offset r) lost, omega (arith, fits.order.below (ack_offset r) lost))
+]
+
+-- an offset between two others is among those
+among-range : (n from count : ℕ) → from ≤ n → n < from + count → IsAmong n (range_with_len from count)
+among-range n from zero low high = absurd (omega (arith, low, high))
+among-range n from (suc count) low high = elim (cases_eq from n) [
+  | inl same ↦ or_left (from == n) _ (eq-eqb from n same)
+  | inr apart ↦
+      let above : from + 1 ≤ n = elim (cases_lt from n) [ inl less ↦ omega (arith, less) | inr more ↦ absurd (apart (omega (arith, more, low))) ] in
+      or_right (from == n) _ (among-range n (from + 1) count above (omega (arith, high)))
+]
+
+among-between : (from to n : ℕ) → from ≤ n → n ≤ to → IsAmong n (offsets_between from to)
+among-between from to n low high = among-range n from (to + 1 - from) low (omega (arith, low, high))
+
+-- an offset isn't missing where it isn't once more are
+not_added : (r : Receiving) (now : ℕ) (range : LostRange) (n : ℕ) → n < max r.top (range.last + 1) → r.top < range.first
+    → is_missing n (with_missing r.top (range.first - 1) now r.missing) ≡ false
+    → ((n < r.top) × (is_missing n r.missing ≡ false)) ⊎ ((range.first ≤ n) × (n ≤ range.last))
+not_added r now range n less above none = elim (cases_lt n r.top) [
+  | inl below ↦ inl (below, false_from_ne_true _ (λ there. true≢false (sym (added_keeps r.top (range.first - 1) now n r.missing there) ∙ none)))
+  | inr past ↦ elim (cases_lt n range.first) [
+    | inl before ↦ absurd (true≢false (sym (added_has r.top (range.first - 1) now n r.missing past (omega (arith, before, above))) ∙ none))
+    | inr within ↦ inr (within, omega (arith, less, past))
+  ]
+]
+
+-- or, once those of the range no longer are, where it isn't one of these
+not_removed : (r : Receiving) (range : LostRange) (n : ℕ) → n < max r.top (range.last + 1) → range.first ≤ r.top
+    → is_missing n (without_missing range.first range.last r.missing) ≡ false
+    → ((n < r.top) × (is_missing n r.missing ≡ false)) ⊎ ((range.first ≤ n) × (n ≤ range.last))
+not_removed r range n less most none = elim (cases_lt n range.first) [
+  | inl before ↦ inl (
+    omega (arith, before, most),
+    false_from_ne_true _ (λ there.
+        true≢false (sym (taken_keeps range.first range.last n r.missing there (or_left (nat_lt n range.first) _ (lt-ltb n range.first before))) ∙ none)),
+  )
+  | inr from ↦ elim (cases_lt range.last n) [
+    | inl after ↦ inl (
+      omega (arith, less, after),
+      false_from_ne_true _ (λ there.
+          true≢false (sym (taken_keeps range.first range.last n r.missing there (or_right (nat_lt n range.first) _ (lt-ltb range.last n after))) ∙ none)),
+    )
+    | inr to ↦ inr (from, to)
+  ]
 ]
 
 module _ (P : ℕ → Type 0) (start : ℕ) where
@@ -178,3 +226,52 @@ module _ (P : ℕ → Type 0) (start : ℕ) where
   receive-covers r count covers =
       let later = begins_later r.blocks.placed r.blocks.base (r.blocks.given + count) in
       record { begun = omega (arith, covers.begun, later); there = covers.there }
+
+  -- ---- messages
+
+  found-begins : (b : ReceiveBlocks) (room : ℕ) (found : Option WholeMessage) → b.base ≤ (after_found b room found).base
+  found-begins b room None = omega arith
+  found-begins b room (Some m) =
+      elim (nat_le (length m.bytes) room) as (λ fits. b.base ≤ (if fits then after_message b m else b).base) [
+        | true ↦ begins_later (with_consumed m.first m.count b.placed) b.base (given_after b m.first m.count)
+        | false ↦ omega arith
+      ]
+
+  pub show-covers : (r : Receiving) (room : ℕ) → Covers P start r → Covers P start (after_receive_message r room)
+  show-covers r room covers =
+      elim (room == 0) as (λ none. Covers P start (if none then r else record r { blocks = after_read_message r.blocks room })) [
+        | true ↦ covers
+        | false ↦ record { begun = omega (arith, covers.begun, found-begins r.blocks room (next_message r.blocks)); there = covers.there }
+      ]
+
+  -- an offset that isn't missing once a range was taken wasn't missing before, or is of the range
+  not_missing_with : (r : Receiving) (now : ℕ) (range : LostRange) (n : ℕ) → n < max r.top (range.last + 1)
+      → is_missing n (missing_with r now range) ≡ false → ((n < r.top) × (is_missing n r.missing ≡ false)) ⊎ ((range.first ≤ n) × (n ≤ range.last))
+  not_missing_with r now range n less none =
+      elim (nat_lt r.top range.first) as (λ above. nat_lt r.top range.first ≡ above → is_missing n (
+      if above
+      then with_missing r.top (range.first - 1) now r.missing
+      else without_missing range.first range.last r.missing) ≡ false
+      → ((n < r.top) × (is_missing n r.missing ≡ false)) ⊎ ((range.first ≤ n) × (n ≤ range.last))) [
+        | true ↦ λ test none. not_added r now range n less (ltb-true r.top range.first test) none
+        | false ↦ λ test none. not_removed r range n less (ltb-false r.top range.first test) none
+      ] refl none
+
+  -- what a range that is taken tells of
+  pub taken-covers : (r : Receiving) (now : ℕ) (range : LostRange) → ReportsFit r
+      → ((n : ℕ) → IsAmong n (offsets_of_range r (Some range)) → P n) → Covers P start r → Covers P start (with_taken r now range)
+  taken-covers r now range fits meets covers =
+      let from = max range.first r.blocks.base in
+      let count = range.last + 1 - from in
+      let later = begins_later (with_consumed from count r.blocks.placed) r.blocks.base (given_after r.blocks from count) in
+      record {
+        begun = omega (arith, covers.begun, later);
+        there = λ n low less none. elim (not_missing_with r now range n less none) [
+          | inl was ↦ covers.there n low was.0 was.1
+          | inr within ↦ elim (cases_lt n r.blocks.base) [
+            | inl below ↦ covers.there n low (omega (arith, below, fits.order.base))
+                (false_from_ne_true _ (λ there. omega (arith, below, fits.order.from n there)))
+            | inr past ↦ meets n (among-between from range.last n (omega (arith, past, within.0)) within.1)
+          ]
+        ];
+      }

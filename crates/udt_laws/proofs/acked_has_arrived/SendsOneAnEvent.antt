@@ -1,5 +1,5 @@
 -- How many blocks a stream's history sends: before each of its events no more than it has sent datagrams, or than it has events.
-use Rattle.std.proofs.Common.{◌≡◌, ℕ, ◌+◌, ◌≤◌, List, [], ◌∷◌, ◌++◌, length, ap, ◌∙◌, arith}
+use Rattle.std.proofs.Common.{◌≡◌, ℕ, ◌+◌, ◌≤◌, List, [], ◌∷◌, length, ap, ◌∙◌, arith}
 use Rattle.std.proofs.lemmas.List.{length-append}
 use Rattle.udt_model.specs.Emissions.{sent_by, sent}
 use Rattle.udt_model.specs.History.{Item, History, start_of, AreLegal, IsLegal}

@@ -9,7 +9,7 @@ use Rattle.udt_model.specs.declared.addresses.Addr.{Addr}
 use Rattle.udt_model.specs.declared.answers.Peer.{Peer}
 use Rattle.udt_model.specs.declared.packets.Config.{Config}
 use Rattle.udt_model.specs.Emissions.{arrived_by_act, arrived_by, arrivals, IsCarried, IsMadeOf}
-use Rattle.udt_model.specs.Events.{Act, Send, Recv, Pack, Tick, Close, Measure, Arrive}
+use Rattle.udt_model.specs.Events.{Act, Send, Recv, SendMessage, RecvMessage, Pack, Tick, Close, Measure, Arrive}
 use Rattle.udt_model.specs.History.{Item, History, IsLegal, delivered, start_of}
 use Rattle.udt_model.specs.Numbers.{sequence_number}
 use Rattle.udt_model.specs.Opening.{opening}
@@ -59,6 +59,8 @@ module _ {C : Type 0} (w : Ways C) where
         → ((datagram : Datagram) → Contains (arrived_by_act act) datagram → Contains arrived datagram) → MeetsAct HasArrived s act
     act-arrived s (Send bytes) is_own is_addr is_isn among = tt
     act-arrived s (Recv room) is_own is_addr is_isn among = tt
+    act-arrived s (SendMessage ttl order bytes) is_own is_addr is_isn among = tt
+    act-arrived s (RecvMessage room) is_own is_addr is_isn among = tt
     act-arrived s Pack is_own is_addr is_isn among = tt
     act-arrived s Tick is_own is_addr is_isn among = tt
     act-arrived s Close is_own is_addr is_isn among = tt

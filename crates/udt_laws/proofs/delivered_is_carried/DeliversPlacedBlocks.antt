@@ -39,11 +39,11 @@ ack-leaves r now IsEarly = refl
 ack-leaves r now IsKnown = refl
 ack-leaves r now (EmitsAck ack) = refl
 
-ack_timer-leaves : (r : Receiving) (now : ℕ) (known : RoundTrip) → (after_ack_timer r now known).blocks ≡ r.blocks
+pub ack_timer-leaves : (r : Receiving) (now : ℕ) (known : RoundTrip) → (after_ack_timer r now known).blocks ≡ r.blocks
 unfolding after_ack_timer
 ack_timer-leaves r now known = ack-leaves r now (ack_outcome r now known)
 
-nak_timer-leaves : (r : Receiving) (now : ℕ) (known : RoundTrip) → (after_nak_timer r now known).blocks ≡ r.blocks
+pub nak_timer-leaves : (r : Receiving) (now : ℕ) (known : RoundTrip) → (after_nak_timer r now known).blocks ≡ r.blocks
 unfolding after_nak_timer
 nak_timer-leaves r now known = grind (arith, cases_Bool (nat_lt now r.nak_due))
 
@@ -51,7 +51,7 @@ confirmed-leaves : (r : Receiving) (number : ℕ) (found : Option SentAck) → (
 confirmed-leaves r number None = refl
 confirmed-leaves r number (Some ack) = refl
 
-ack2-leaves : (r : Receiving) (number : ℕ) → (after_ack2 r number).blocks ≡ r.blocks
+pub ack2-leaves : (r : Receiving) (number : ℕ) → (after_ack2 r number).blocks ≡ r.blocks
 unfolding after_ack2
 ack2-leaves r number = confirmed-leaves r number (last_under number r.history)
 

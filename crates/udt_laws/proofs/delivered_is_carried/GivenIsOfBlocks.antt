@@ -1,11 +1,10 @@
 -- What a receiving half keeps true of the bytes that it gave: they are a front of its blocks joined, and each block
 -- meets what every placed one met.
-use Rattle.std.proofs.Common.{◌≡◌, ℕ, ◌+◌, ◌≤◌, Bool, true, false, List, [], ◌++◌, length, take, drop, Some, None, Ok, Err, refl, ap, ◌∙◌, sym, subst, arith}
-use Rattle.std.specs.Prelude.{Result, Option, ◌==◌, if◌then◌else◌}
+use Rattle.std.proofs.Common.{◌≡◌, ℕ, ◌+◌, ◌≤◌, true, false, List, [], ◌++◌, length, take, drop, Some, None, Ok, Err, refl, ap, ◌∙◌, sym, subst, arith}
+use Rattle.std.specs.Prelude.{Option, ◌==◌, if◌then◌else◌}
 use Rattle.std.specs.List.{concat}
 use Rattle.std.proofs.lemmas.Bool.{eqb-true}
-use Rattle.std.proofs.lemmas.Bool.Decides.{nat_tests}
-use Rattle.std.proofs.lemmas.List.{append_assoc, append-nil, length-append, length-take, length-drop, take-append-le, take_min, take-append-drop, nil_from_length}
+use Rattle.std.proofs.lemmas.List.{append_assoc, length-append, length-take, length-drop, take-append-le, take_min, take-append-drop, nil_from_length}
 use Rattle.std.proofs.Math.Seq.{take-add}
 use Rattle.udt_model.specs.declared.answers.Placed.{Placed}
 use Rattle.udt_model.specs.declared.answers.Placed.TheVariants as placing
@@ -18,7 +17,6 @@ use Rattle.udt_model.specs.History.{given_by}
 use Rattle.udt_model.specs.Numbers.{near}
 use Rattle.udt_model.specs.ReceiveBlocks.{PlacedBlock, ReceiveBlocks, put_block, bytes_from, waiting_of, beginning, arrived_at, placing_of, after_placing_of, after_place, after_bytes}
 use Rattle.udt_model.specs.ReceiveHalf.{Receiving, offset_of, placing_at, measured, after_placing, after_block, after_receive}
-use Rattle.udt_model.specs.ReceiveReports.{AckOutcome, IsEarly, IsKnown, EmitsAck, ack_outcome, after_ack_outcome, after_ack_timer, after_nak_timer, confirmed_by, after_ack2}
 use Rattle.udt_model.proofs.ReceivingLemmas.{AreRising, AreApart, AllPlaced, AllFrom, AreRising-put_block, AllPlaced-put_block, bytes_from-put_block, offset_of-some, placing-new, AllFrom-append, concat-append, following_blocks, beginning-reads}
 
 -- the half has consumed these blocks, and given the bytes of them and of a part of those that follow

@@ -2,7 +2,6 @@
 -- as what it was.
 use Rattle.std.proofs.Common.{◌≡◌, ℕ, List, [], ◌∷◌, Some, Ok, refl, ap, ◌∙◌, sym, subst}
 use Rattle.std.specs.List.{Contains}
-use Rattle.std.proofs.lemmas.Option.{same_Some}
 use Rattle.udt_model.specs.declared.packets.Kind.TheVariants.{Stream}
 use Rattle.udt_model.specs.declared.addresses.Addr.{Addr}
 use Rattle.udt_model.specs.declared.answers.Peer.{Peer}
@@ -10,41 +9,28 @@ use Rattle.udt_model.specs.declared.packets.Flags.{Flags}
 use Rattle.udt_model.specs.Wire.{Block, read}
 use Rattle.udt_model.specs.State.{State, Datagram}
 use Rattle.udt_model.specs.Step.{step}
-use Rattle.udt_model.specs.Events.{Act, Send, Recv, Pack, Tick, Close, Measure, Arrive}
+use Rattle.udt_model.specs.Events.{Act, Arrive}
 use Rattle.udt_model.specs.History.{Item, state_of, accepted, delivered}
 use Rattle.udt_model.specs.Rate.{Ways}
 use Rattle.udt_model.specs.Records.{Enrolled, EndpointRecord, StandsAt, PeerPair, own_peer, AreLawful}
 use Rattle.udt_model.specs.Emissions.{IsPrefix, emitted}
 use Rattle.udt_model.specs.Honest.{WasEmitted, IsHonestAct, AreHonest, IsHonest}
-use Rattle.udt_model.proofs.StepLemmas.{step-keeps, after_items-keeps}
+use Rattle.udt_model.proofs.StepLemmas.{step-keeps}
 use Rattle.udt_laws.specs.Laws.{HasBlocks}
 use Rattle.udt_laws.proofs.delivered_is_carried.DeliversPlacedBlocks.{MeetsAct, AllMeet}
 use Rattle.udt_laws.proofs.sockets.Opened.{names}
-use Rattle.udt_laws.proofs.sockets.OneSocket.{same-socket, emitter-is}
-use Rattle.udt_laws.proofs.delivered_prefix.PeerBlocksAlone.{IsEmittedNear, IsBlockAt, reads-as, mates}
+use Rattle.udt_laws.proofs.sockets.OneSocket.{from-sender, own-pair}
+use Rattle.udt_laws.proofs.delivered_prefix.PeerBlocksAlone.{IsBlockAt, reads-as, mates}
 
 module _ {C : Type 0} (w : Ways C) where
   module _ (net : List (EndpointRecord C)) (lawful : AreLawful w net) where
     module _ (addr sender_addr : Addr) (own : ℕ) (sender : Enrolled C) (has : HasBlocks w sender.history) (stands : StandsAt net sender_addr sender)
         (names_back : own_peer w sender.history ≡ Some (record { addr = addr; id = own })) where
-      -- what the net gives from the sender's address for this ID was emitted by the sender
-      from-sender : (s : State C) (from : Addr) (bytes payload : List ℕ) (number stamp : ℕ) (flags : Flags) → s.own ≡ own → from ≡ sender_addr
-          → WasEmitted w net s from addr bytes → read bytes ≡ Ok (Block number flags stamp s.own payload)
-          → IsEmittedNear w sender.history s.receiving.top bytes
-      from-sender s from bytes payload number stamp flags own_is from_is was reads =
-          let same = emitter-is w net lawful addr sender_addr own sender stands names_back s from bytes (Block number flags stamp s.own payload) from_is was
-          reads refl own_is in
-          record {
-            emission = was.emission;
-            among = subst (λ (x : Enrolled C). Contains (emitted w x.history) was.emission) same was.emits;
-            same = ap (λ (d : Datagram). d.bytes) was.datagram;
-            close = λ offset among. was.close (Block number flags stamp s.own payload) offset reads among;
-          }
-
       act-meets : (s : State C) (act : Act) → s.own ≡ own → s.peer.addr ≡ sender_addr → (state_of w sender.history).sending.isn ≡ s.receiving.isn
           → IsHonestAct w net addr s act → MeetsAct (IsBlockAt w sender.history has) s act
       act-meets s (Arrive from bytes) own_is addr_is isn_is honest = λ number flags stamp payload offset from_is reads found.
-          let emitted_near = from-sender s from bytes payload number stamp flags own_is (from_is ∙ addr_is) honest reads in
+          let emitted_near = from-sender w net lawful addr sender_addr own sender stands names_back s from bytes
+          (Block number flags stamp s.own payload) (from_is ∙ addr_is) honest reads refl own_is in
           (reads-as w sender.history has s.receiving.isn s.receiving.top number offset flags stamp s.own bytes payload isn_is emitted_near reads found).is_block
       act-meets s act own_is addr_is isn_is honest = tt
 
@@ -59,32 +45,14 @@ module _ {C : Type 0} (w : Ways C) where
                 (isn_is ∙ sym same.receiving.isn) honest.1,
           )
 
-    -- the sockets that a script paired
-    paired-prefix : (addr : Addr) (receiver : Enrolled C) (peer : PeerPair) (sender : Enrolled C) → IsHonest w net → StandsAt net addr receiver
-        → receiver.history.opening.kind ≡ Stream → own_peer w receiver.history ≡ Some peer → StandsAt net peer.addr sender → sender.own ≡ peer.id
-        → IsPrefix (delivered receiver.history) (accepted sender.history)
-    paired-prefix addr receiver peer sender honest here stream peer_is there own_is =
-        let law = lawful.each here.endpoint here.among in
-        let in_record = law.sockets receiver here.enrolled in
-        let met = law.met receiver here.enrolled in
-        let other_law = lawful.each met.stands.endpoint met.stands.among in
-        let other_in = other_law.sockets met.other met.stands.enrolled in
-        let are = mates w here.endpoint.addr receiver.own receiver.way receiver.history met.other_addr met.other.own met.other.way met.other.history
-        met.paired in_record.opened in_record.legal other_in.in_range other_in.opened other_in.legal in
-        let last = (after_items-keeps w receiver.history.opening receiver.history.items).peer in
-        let named = same_Some _ _ peer_is in
-        let addr_is : peer.addr ≡ met.other_addr = sym (ap (λ (p : PeerPair). p.addr) named) ∙ ap (λ (p : Peer). p.addr) last ∙ are.peer_addr in
-        let id_is : sender.own ≡ met.other.own = own_is ∙ sym (ap (λ (p : PeerPair). p.id) named) ∙ ap (λ (p : Peer). p.id) last ∙ are.peer_id in
-        let same = same-socket w net lawful met.other_addr met.other sender met.stands (subst (λ (a : Addr). StandsAt net a sender) addr_is there) (sym id_is) in
-        let meets = items-meet here.endpoint.addr met.other_addr receiver.own met.other are.has met.stands
-        (names w met.other.history here.endpoint.addr receiver.own are.back_addr are.back_id) receiver.history.opening receiver.history.items
-        are.own_is are.peer_addr are.same_isn
-        (subst (λ (a : Addr). AreHonest w net a receiver.history.opening receiver.history.items) (sym here.addr_is) (honest addr receiver here)) in
-        subst (λ (x : Enrolled C). IsPrefix (delivered receiver.history) (accepted x.history)) same (are.front stream meets)
-
   -- so what a socket delivers is a prefix of what its own peer accepted
   pub prefix-delivered : (net : List (EndpointRecord C)) (addr : Addr) (socket other : Enrolled C) (peer : PeerPair) → AreLawful w net → IsHonest w net
       → StandsAt net addr socket → socket.history.opening.kind ≡ Stream → own_peer w socket.history ≡ Some peer → StandsAt net peer.addr other → other.own ≡ peer.id
       → IsPrefix (delivered socket.history) (accepted other.history)
   prefix-delivered net addr socket other peer lawful honest here stream peer_is there own_is =
-      paired-prefix net lawful addr socket peer other honest here stream peer_is there own_is
+      let pair = own-pair w net lawful addr socket other peer here peer_is there own_is in
+      let are = mates w addr socket.own socket.way socket.history peer.addr other.own other.way other.history
+      pair.paired pair.socket_is.opened pair.socket_is.legal pair.other_is.in_range pair.other_is.opened pair.other_is.legal in
+      are.front stream
+      (items-meet net lawful addr peer.addr socket.own other are.has there (names w other.history addr socket.own are.back_addr are.back_id)
+      socket.history.opening socket.history.items are.own_is are.peer_addr are.same_isn (honest addr socket here))

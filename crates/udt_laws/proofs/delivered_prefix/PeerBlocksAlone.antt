@@ -15,16 +15,16 @@ use Rattle.udt_model.specs.Opening.{opening}
 use Rattle.udt_model.specs.History.{History, state_of, start_of, IsLegal, accepted, delivered}
 use Rattle.udt_model.specs.declared.addresses.Addr.{Addr}
 use Rattle.udt_model.specs.Records.{Way, PairedAt, opened_by, IsWay, ArePaired}
-use Rattle.udt_model.specs.Emissions.{IsPrefix, emitted}
+use Rattle.udt_model.specs.Emissions.{IsPrefix}
 use Rattle.udt_model.specs.Rate.{Ways}
 use Rattle.udt_model.specs.State.{Emission}
-use Rattle.udt_model.specs.Honest.{IsClose}
 use Rattle.udt_model.proofs.NearLemmas.{near-is}
 use Rattle.udt_model.proofs.ReceivingLemmas.{AllFrom, concat-append}
 use Rattle.udt_laws.specs.Laws.{HasBlocks}
 use Rattle.udt_laws.proofs.delivered_is_carried.GivenIsOfBlocks.{IsPrefixOf}
 use Rattle.udt_laws.proofs.delivered_is_carried.DeliversPlacedBlocks.{AllMeet, delivers-front_of}
 use Rattle.udt_laws.proofs.sockets.Opened.{opened_own, opened_peer, opened_receiving, opened_start, opened_top, opened_base, opened_placed, last_peer, last_isn}
+use Rattle.udt_laws.proofs.sockets.OneSocket.{IsEmittedNear}
 use Rattle.udt_laws.proofs.delivered_prefix.WindowRises.{IsWithin}
 use Rattle.udt_laws.proofs.delivered_is_carried.DeliveredIsCarried.{opened_kept}
 use Rattle.udt_laws.proofs.sent_blocks.SentBlocks.{has_blocks}
@@ -38,13 +38,6 @@ drop-found (first ∷ others) (suc k) block found =
     rw same (drop-found others k block found)
 
 module _ {C : Type 0} (w : Ways C) where
-  -- the bytes were emitted in this history, and what they name lies near this offset
-  pub record IsEmittedNear (g : History C) (top : ℕ) (bytes : List ℕ) : Type 0 where
-    pub emission : Emission
-    pub among : Contains (emitted w g) emission
-    pub same : emission.datagram.bytes ≡ bytes
-    pub close : (offset : ℕ) → Contains emission.offsets offset → IsClose offset top
-
   module _ (g : History C) (has : HasBlocks w g) where
     -- the block of the sender at this offset
     abbrev pub IsBlockAt : ℕ → List ℕ → Type 0
@@ -56,7 +49,7 @@ module _ {C : Type 0} (w : Ways C) where
       pub is_block : IsBlockAt offset payload
 
     pub reads-as : (isn top number offset : ℕ) (flags : Flags) (stamp dest : ℕ) (bytes payload : List ℕ) → (state_of w g).sending.isn ≡ isn
-        → (is : IsEmittedNear g top bytes) → read bytes ≡ Ok (Block number flags stamp dest payload) → near isn top number ≡ Some offset
+        → (is : IsEmittedNear w g top bytes) → read bytes ≡ Ok (Block number flags stamp dest payload) → near isn top number ≡ Some offset
         → IsReadAs is.emission offset payload
     reads-as isn top number offset flags stamp dest bytes payload same_isn is reads found =
         let carries = has.emits is.emission number flags stamp dest payload is.among (ap read is.same ∙ reads) in

@@ -2,7 +2,6 @@
 -- arrived, and that stays at most where all that it places lies below.
 use Rattle.std.proofs.Common.{◌≡◌, ℕ, ◌+◌, ◌<◌, ◌≤◌, List, Some, None, Ok, refl, subst, arith}
 use Rattle.std.specs.Prelude.{Option, nat_lt, if◌then◌else◌}
-use Rattle.std.proofs.lemmas.Bool.{cases_Bool}
 use Rattle.std.proofs.Common.{true, false}
 use Rattle.udt_model.specs.declared.addresses.Addr.{Addr}
 use Rattle.udt_model.specs.declared.answers.Placed.{Placed}
@@ -14,7 +13,7 @@ use Rattle.udt_model.specs.Events.{Act, Arrive, Event}
 use Rattle.udt_model.specs.Losses.{report, after_report}
 use Rattle.udt_model.specs.Numbers.{near}
 use Rattle.udt_model.specs.Rate.{Ways}
-use Rattle.udt_model.specs.ReceiveBlocks.{ReceiveBlocks, PlacedBlock, placing_of, arrived_at, put_block, after_placing_of, after_place}
+use Rattle.udt_model.specs.ReceiveBlocks.{ReceiveBlocks, PlacedBlock, placing_of, arrived_at, after_placing_of, after_place}
 use Rattle.udt_model.specs.ReceiveHalf.{Receiving, measured, offset_of, placing_at, with_new, after_placing, after_block, after_receive}
 use Rattle.udt_model.specs.ReceiveReports.{nak_words, AckOutcome, IsEarly, IsKnown, EmitsAck, ack_outcome, after_ack_outcome, after_ack_timer, after_nak_timer, confirmed_by, after_ack2}
 use Rattle.udt_model.specs.State.{State}

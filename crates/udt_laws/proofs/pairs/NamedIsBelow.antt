@@ -7,7 +7,7 @@ use Rattle.udt_model.specs.declared.packets.Flags.{Flags}
 use Rattle.udt_model.specs.Wire.{Block, read}
 use Rattle.udt_model.specs.Events.{outs_of}
 use Rattle.udt_model.specs.Rate.{Ways}
-use Rattle.udt_model.specs.State.{State, Datagram, Emission}
+use Rattle.udt_model.specs.State.{State, Emission}
 use Rattle.udt_model.specs.Step.{step}
 use Rattle.udt_model.specs.History.{Item, History, AreLegal, IsLegal, after_items, start_of}
 use Rattle.udt_model.specs.Records.{Way, opened_by, IsWay}

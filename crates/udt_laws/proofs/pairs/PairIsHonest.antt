@@ -1,8 +1,7 @@
 -- Two sockets that were made as a pair and got from each other alone have honest records: fewer than 2^30 datagrams of
 -- each name no offset too far from where the other reads it.
 use Rattle.std.proofs.Common.{◌≡◌, ℕ, ◌+◌, ◌^◌, ◌<◌, ◌≤◌, List, [], ◌∷◌, ◌++◌, length, Some, Ok, inl, inr, ap, ◌∙◌, sym, subst, arith}
-use Rattle.std.specs.List.{Contains, concat}
-use Rattle.std.specs.Prelude.{map}
+use Rattle.std.specs.List.{Contains}
 use Rattle.std.proofs.lemmas.List.Elements.{Contains-append_left, Contains-append_right, Contains-push, Contains-push_cases}
 use Rattle.udt_model.specs.declared.packets.Kind.TheVariants.{Stream}
 use Rattle.udt_model.specs.declared.addresses.Addr.{Addr}
@@ -10,7 +9,7 @@ use Rattle.udt_model.specs.declared.answers.Peer.{Peer}
 use Rattle.udt_model.specs.declared.packets.Flags.{Flags}
 use Rattle.udt_model.specs.declared.sockets.SentAck.{SentAck}
 use Rattle.udt_model.specs.Emissions.{emitted, sent, arrived_by_act, arrived_by, arrivals}
-use Rattle.udt_model.specs.Events.{Act, Send, Recv, Pack, Tick, Close, Measure, Arrive, Reply, at_moment}
+use Rattle.udt_model.specs.Events.{Act, Arrive, Reply, at_moment}
 use Rattle.udt_model.specs.History.{Item, after_items, state_of, start_of}
 use Rattle.udt_model.specs.Honest.{IsClose, read_by, IsHonestAct, AreHonest}
 use Rattle.udt_model.specs.Numbers.{near}
@@ -36,7 +35,8 @@ use Rattle.udt_laws.proofs.delivered_is_carried.DeliversPlacedBlocks.{MeetsAct, 
 use Rattle.udt_laws.proofs.delivered_prefix.PeerBlocksAlone.{AreMates, mates}
 use Rattle.udt_laws.proofs.delivered_prefix.WindowRises.{IsWithin, block-within, carries-below}
 use Rattle.udt_laws.proofs.pairs.NamedIsBelow as bounds
-use Rattle.udt_laws.proofs.pairs.PairIsLawful.{paired-back, stands_first, stands_second, both-honest, pair-lawful}
+use Rattle.udt_laws.proofs.sockets.OneSocket.{paired-back}
+use Rattle.udt_laws.proofs.pairs.PairIsLawful.{stands_first, stands_second, both-honest, pair-lawful}
 use Rattle.udt_laws.proofs.pairs.PairPrefix.{meets-map, IsBlockBelow, near-receiver, act-below, stays-within, within-after, begins-within}
 use Rattle.udt_laws.proofs.sent_blocks.AcceptedIsCut.{blocks_of, step-cut}
 use Rattle.udt_laws.proofs.sent_blocks.EmissionsRead.{packet_of}

@@ -1,21 +1,16 @@
 -- Two sockets that were made as a pair have lawful records.
-use Rattle.std.proofs.Common.{◌≡◌, ℕ, List, [], ◌∷◌, Some, refl, ap, ◌∙◌, sym, subst, ◌⊎◌, inl, inr, arith}
+use Rattle.std.proofs.Common.{◌≡◌, List, [], ◌∷◌, Some, refl, ap, ◌∙◌, sym, subst, ◌⊎◌, inl, inr, arith}
 use Rattle.std.specs.List.{Contains}
 use Rattle.std.proofs.lemmas.List.Elements.{Contains-append_left, Contains-append_right, Contains-append_cases, Contains-push, Contains-push_cases}
 use Rattle.udt_model.specs.declared.addresses.Addr.{Addr}
 use Rattle.udt_model.specs.Wire.{destination}
 use Rattle.udt_model.specs.Rate.{Ways}
-use Rattle.udt_model.specs.Records.{Way, PairedAt, Enrolled, IsSocket, EndpointRecord, StandsAt, ArePaired, IsPaired, IsLawful, AreLawful, own_peer}
+use Rattle.udt_model.specs.Records.{Enrolled, IsSocket, EndpointRecord, StandsAt, ArePaired, IsPaired, IsLawful, AreLawful, own_peer}
 use Rattle.udt_model.specs.Emissions.{emitted}
 use Rattle.udt_model.specs.Honest.{AreHonest, IsHonest}
 use Rattle.udt_laws.specs.Laws.{both_records}
 use Rattle.udt_laws.proofs.sent_blocks.GoesToPeer.{goes-to_peer}
-
--- being a pair goes both ways
-pub paired-back : (addr : Addr) (own : ℕ) (way : Way) (other_addr : Addr) (other_own : ℕ) (other_way : Way)
-    → ArePaired addr own way other_addr other_own other_way → ArePaired other_addr other_own other_way addr own way
-paired-back addr own (PairedAt config peer now start) other_addr other_own (PairedAt other_config other_peer other_now other_start) paired =
-    (paired.2, paired.3, paired.0, paired.1, sym paired.4, sym paired.5, sym paired.6)
+use Rattle.udt_laws.proofs.sockets.OneSocket.{paired-back}
 
 module _ {C : Type 0} (w : Ways C) where
   only-socket : (first other : Enrolled C) → Contains (first ∷ []) other → first ≡ other

@@ -12,7 +12,7 @@ use Rattle.udt_model.specs.Rate.{Ways}
 use Rattle.udt_model.specs.ReceiveHalf.{Receiving}
 use Rattle.udt_model.specs.State.{State, Datagram, Emission}
 use Rattle.udt_model.specs.Step.{step}
-use Rattle.udt_model.specs.Events.{Act, Send, Recv, Pack, Tick, Close, Measure, Arrive, Event}
+use Rattle.udt_model.specs.Events.{Act, Arrive, Event}
 use Rattle.udt_model.specs.History.{Item, after_items, state_of, start_of, accepted, delivered}
 use Rattle.udt_model.specs.Records.{Enrolled, IsSocket, ArePaired}
 use Rattle.udt_model.specs.Emissions.{IsPrefix, emitted, arrived_by_act, arrived_by, arrivals, sent}
@@ -21,8 +21,9 @@ use Rattle.udt_model.proofs.WireLemmas.{target-read}
 use Rattle.udt_model.proofs.RecordLemmas.{emitted-from_sent}
 use Rattle.udt_model.proofs.StepLemmas.{step-keeps}
 use Rattle.udt_laws.specs.Laws.{IsStream, HasBlocks, ComesFrom, PairPrefix}
-use Rattle.udt_laws.proofs.delivered_prefix.PeerBlocksAlone.{IsEmittedNear, IsBlockAt, reads-as, mates}
+use Rattle.udt_laws.proofs.delivered_prefix.PeerBlocksAlone.{IsBlockAt, reads-as, mates}
 use Rattle.udt_laws.proofs.delivered_is_carried.DeliversPlacedBlocks.{MeetsAct, AllMeet}
+use Rattle.udt_laws.proofs.sockets.OneSocket.{IsEmittedNear}
 use Rattle.udt_laws.proofs.sockets.Opened.{pair-stream}
 use Rattle.udt_laws.proofs.pairs.NamedIsBelow.{BlocksBelow, below-sent, below-events}
 use Rattle.udt_laws.proofs.delivered_prefix.WindowRises.{IsWithin, step-within}
@@ -111,7 +112,7 @@ module _ {C : Type 0} (w : Ways C) where
         let same = step-keeps w s item.event in
         let meets = act-below s item.event.act own_is addr_is isn_is within (λ datagram h. among datagram (Contains-append_left _ _ datagram h)) in
         within-after (step w s item.event).after items (same.kind ∙ stream) (same.own ∙ own_is) (ap (λ (p : Peer). p.addr) same.peer ∙ addr_is) (isn_is ∙ sym same.receiving.isn)
-        (stays-within s item.event meets within) (λ datagram h. among datagram (Contains-append_right _ _ datagram h))
+        (stays-within s item.event stream meets within) (λ datagram h. among datagram (Contains-append_right _ _ datagram h))
 
     all-below : (s : State C) (items : List Item) → s.kind ≡ Stream → s.own ≡ receiver.own → s.peer.addr ≡ from → (state_of w sender.history).sending.isn ≡ s.receiving.isn
         → IsWithin (start_of sender.history) limit s.receiving
@@ -124,7 +125,7 @@ module _ {C : Type 0} (w : Ways C) where
         let meets = act-below s item.event.act own_is addr_is isn_is within (λ datagram h. among datagram (Contains-append_left _ _ datagram h)) in (
           meets-map IsBlockBelow (IsBlockAt w sender.history has) s item.event.act (λ offset payload both. both.0) meets,
           all-below (step w s item.event).after items (same.kind ∙ stream) (same.own ∙ own_is) (ap (λ (p : Peer). p.addr) same.peer ∙ addr_is)
-              (isn_is ∙ sym same.receiving.isn) (stays-within s item.event meets within)
+              (isn_is ∙ sym same.receiving.isn) (stays-within s item.event stream meets within)
               (λ datagram h. among datagram (Contains-append_right _ _ datagram h)),
         )
 

@@ -17,7 +17,6 @@ use Rattle.udt_model.specs.Script.{from_host, event_at}
 use Rattle.udt_model.specs.Network.{ScriptSocket, ScriptDatagram, Network}
 use Rattle.udt_model.proofs.HistoryLemmas.{IsLegal-happened}
 use Rattle.udt_model.proofs.RecordLemmas.{sent_by-append, arrived_by-append}
-use Rattle.udt_laws.specs.Laws.{IsStream}
 use Rattle.udt_laws.proofs.scripts.ReplacedOne.{set-other, set-same, found-once, map-among}
 
 -- where a socket stands and how it was opened, which never changes

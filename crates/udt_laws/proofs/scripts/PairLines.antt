@@ -1,6 +1,6 @@
 -- Which lines make a pair, and that its values are in their ranges.
-use Rattle.std.proofs.Common.{◌≡◌, ℕ, ◌-◌, ◌^◌, ◌<◌, ◌≤◌, Bool, true, false, List, [], ◌∷◌, Some, None, refl, inl, inr, ◌⊎◌, arith}
-use Rattle.std.specs.Prelude.{Option, if◌then◌else◌, ◌&&◌, codes}
+use Rattle.std.proofs.Common.{◌≡◌, ℕ, ◌-◌, ◌^◌, ◌<◌, ◌≤◌, Bool, true, false, List, [], ◌∷◌, Some, None, refl, ap, inl, inr, ◌⊎◌, arith}
+use Rattle.std.specs.Prelude.{Option, if◌then◌else◌, codes}
 use Rattle.std.proofs.lemmas.Bool.Decides.{nat_tests}
 use Rattle.udt_model.specs.declared.limits.TheConstants.{MOST_PAYLOAD, FEWEST_BLOCKS, MOST_BLOCKS, LAST_START}
 use Rattle.udt_model.specs.Addresses.{addr_of}
@@ -33,6 +33,9 @@ number-within least most word n is =
     let found = bind-some (number_of word) (if_within least most) n is in
     lies-within least most found.0 n found.2
 
+same-pairing : (p q : Pairing) → Some (PairLine p) ≡ Some (PairLine q) → p ≡ q
+same-pairing p q is = cc
+
 made-pairing : (kind a b payload isn blocks : List ℕ) (start : ℕ) (p : Pairing) → start ≤ LAST_START
     → pairing_of kind a b payload isn blocks start ≡ Some (PairLine p) → IsPairing p
 made-pairing kind a b payload isn blocks start p fits is =
@@ -45,10 +48,11 @@ made-pairing kind a b payload isn blocks start p fits is =
     let payload_in = number-within 1 MOST_PAYLOAD payload three.0 three.1 in
     let isn_in = number-within 0 (2 ^ 31 - 1) isn four.0 four.1 in
     let blocks_in = number-within FEWEST_BLOCKS MOST_BLOCKS blocks five.0 five.1 in
-    let payload_is : three.0 ≡ p.payload = cc in
-    let isn_is : four.0 ≡ p.isn = cc in
-    let blocks_is : five.0 ≡ p.blocks = cc in
-    let start_is : start ≡ p.start = cc in
+    let same = same-pairing _ p five.2 in
+    let payload_is = ap (λ (x : Pairing). x.payload) same in
+    let isn_is = ap (λ (x : Pairing). x.isn) same in
+    let blocks_is = ap (λ (x : Pairing). x.blocks) same in
+    let start_is = ap (λ (x : Pairing). x.start) same in
     record {
       payload = omega (arith, payload_in.0, payload_is);
       most_payload = omega (arith, payload_in.1, payload_is);

@@ -11,7 +11,7 @@ use Rattle.udt_model.specs.declared.addresses.Addr.{Addr}
 use Rattle.udt_model.specs.declared.answers.Peer.{Peer}
 use Rattle.udt_model.specs.Wire.{target}
 use Rattle.udt_model.specs.State.{Datagram}
-use Rattle.udt_model.specs.Events.{Act, Send, Recv, Pack, Tick, Close, Measure, Arrive, Event, event}
+use Rattle.udt_model.specs.Events.{Act, Arrive, Event, event}
 use Rattle.udt_model.specs.Rate.{Ways}
 use Rattle.udt_model.specs.History.{History, state_of}
 use Rattle.udt_model.specs.Records.{Way, PairedAt, opened_by, IsSocket, ArePaired, PeerPair}

@@ -1,16 +1,11 @@
 -- What a socket emits reads as the packet that it is, which goes to the peer.
-use Rattle.std.proofs.Common.{◌≡◌, ℕ, ◌+◌, ◌*◌, ◌/◌, ◌%◌, ◌^◌, ◌<◌, ◌≤◌, Bool, true, false, List, [], ◌∷◌, ◌++◌, Some, Ok, refl, ap, ◌∙◌, sym, subst, arith}
-use Rattle.std.specs.Prelude.{map, length, filter, sum, ◌||◌, ◌==◌, nat_lt, nat_le, if◌then◌else◌}
+use Rattle.std.proofs.Common.{◌≡◌, ℕ, ◌*◌, ◌/◌, ◌%◌, ◌^◌, ◌<◌, ◌≤◌, Bool, true, false, List, [], ◌∷◌, ◌++◌, Ok, refl, ap, ◌∙◌, sym, subst, arith}
+use Rattle.std.specs.Prelude.{map, length, filter, sum, ◌||◌, ◌==◌, nat_le, if◌then◌else◌}
 use Rattle.std.specs.List.{AllByRecursion}
 use Rattle.std.proofs.lemmas.List.Elements.{All-from_recursion}
 use Rattle.std.proofs.Math.Nat.{div-le_self}
-use Rattle.udt_model.specs.declared.answers.Peer.{Peer}
-use Rattle.udt_model.specs.declared.answers.Phase.TheVariants as phase
-use Rattle.udt_model.specs.declared.packets.Flags.{Flags}
 use Rattle.udt_model.specs.Calls.{stamp_of, emission as emits}
 use Rattle.udt_model.specs.Events.{Act, Reply}
-use Rattle.udt_model.specs.Losses.{LostRange}
-use Rattle.udt_model.specs.Numbers.{sequence_number}
 use Rattle.udt_model.specs.Rate.{Ways}
 use Rattle.udt_model.specs.ReceiveHalf.{after_block}
 use Rattle.udt_model.specs.ReceiveReports.{full_ack, light_ack}
@@ -19,7 +14,7 @@ use Rattle.udt_model.specs.SendHalf.{block_packet, drop_packet}
 use Rattle.udt_model.specs.State.{State, Emission}
 use Rattle.udt_model.specs.Ticks.{numbers_of}
 use Rattle.udt_model.specs.Timing.{in_a_second, near_median, is_near, median, is_short, speed_of, capacity_of}
-use Rattle.udt_model.specs.Wire.{Packet, Block, KeepAlive, Ack, Nak, Shutdown, Ack2, DropAsk, IsRange, destination, IsInRange, read, spelling, type_word, word}
+use Rattle.udt_model.specs.Wire.{Packet, KeepAlive, Ack, Nak, Shutdown, Ack2, IsRange, destination, IsInRange, read, spelling, type_word, word}
 use Rattle.udt_model.proofs.EmissionLemmas.{Emitting, NewBlock, LostBlock, DropRequest, FullAck, LightAck, Reports, ReportsGap, ReportsDropGap, AnswersAck, SendsKeepAlive, TheEnd}
 use Rattle.udt_model.proofs.SendingLemmas.{MessagesFit, MessagesFit-at, MessagesFit-number, kept_at-is, packing-sends, packing-again, packing-drops}
 use Rattle.udt_model.proofs.TickLemmas.{ack_outcome-tells}

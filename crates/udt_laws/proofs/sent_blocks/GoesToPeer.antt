@@ -4,7 +4,7 @@ use Rattle.std.specs.List.{Contains}
 use Rattle.udt_model.specs.declared.answers.Peer.{Peer}
 use Rattle.udt_model.specs.Emissions.{emitted, sent}
 use Rattle.udt_model.specs.Events.{at_moment}
-use Rattle.udt_model.specs.History.{History, IsLegal, after_items, state_of, start_of}
+use Rattle.udt_model.specs.History.{History, IsLegal, after_items, state_of}
 use Rattle.udt_model.specs.Rate.{Ways}
 use Rattle.udt_model.specs.Records.{Enrolled, IsSocket, Way, opened_by, IsWay, own_peer}
 use Rattle.udt_model.specs.State.{Datagram, Emission}

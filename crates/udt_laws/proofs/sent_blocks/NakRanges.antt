@@ -1,13 +1,12 @@
 -- The ranges of a NAK are ranges of packets that are missing.
-use Rattle.std.proofs.Common.{◌≡◌, ℕ, ◌+◌, ◌-◌, ◌%◌, ◌^◌, ◌<◌, ◌≤◌, Bool, true, false, List, [], ◌∷◌, Some, None, refl, sym, ap, ◌∙◌, subst, inl, inr, arith}
-use Rattle.std.specs.Prelude.{Option, map, length, nat_lt, nat_le, ◌==◌, if◌then◌else◌}
+use Rattle.std.proofs.Common.{◌≡◌, ℕ, ◌+◌, ◌-◌, ◌^◌, ◌<◌, ◌≤◌, true, false, List, [], ◌∷◌, Some, None, refl, sym, ap, subst, inl, inr, arith}
+use Rattle.std.specs.Prelude.{Option, map, nat_lt, nat_le, ◌==◌, if◌then◌else◌}
 use Rattle.std.specs.List.{filter}
 use Rattle.std.proofs.lemmas.Bool.{eqb-true, eq-eqb, or_left, or_right, ltb-true}
 use Rattle.std.proofs.lemmas.List.Elements.{Contains-append_cases, Contains-push_cases}
 use Rattle.std.specs.List.{AllByRecursion, Contains, concat}
 use Rattle.udt_model.specs.declared.answers.Placed.{Placed}
 use Rattle.udt_model.specs.declared.answers.Placed.TheVariants as placing
-use Rattle.udt_model.specs.declared.limits.TheConstants.{MOST_BLOCKS}
 use Rattle.udt_model.specs.Losses.{LostRange, Missing, is_missing, is_due, before_ranges, ranges_of, due_ranges, words_of_range, fitting_ranges, report}
 use Rattle.udt_model.specs.Numbers.{sequence_number}
 use Rattle.udt_model.specs.ReceiveHalf.{Receiving, gap_before, offset_of, placing_at, arrived_as, block_answer, drop_range}
@@ -15,7 +14,7 @@ use Rattle.udt_model.specs.ReceiveReports.{nak_report, nak_words}
 use Rattle.udt_model.specs.State.{State}
 use Rattle.udt_model.specs.Ticks.{numbers_of, ends_of}
 use Rattle.udt_model.specs.Timing.{RoundTrip}
-use Rattle.udt_model.specs.Wire.{WireRange, IsRange}
+use Rattle.udt_model.specs.Wire.{IsRange}
 use Rattle.udt_model.proofs.DropLemmas.{drop_range-is}
 use Rattle.udt_model.proofs.ReceivingLemmas.{placing-new}
 use Rattle.udt_laws.proofs.sent_blocks.ReportsFit.{ReportsFit}

@@ -1,7 +1,7 @@
 -- The numbers that ACKs and NAKs carry fit their places, whatever happens to a socket.
-use Rattle.std.proofs.Common.{◌≡◌, ℕ, ◌+◌, ◌-◌, ◌*◌, ◌/◌, ◌^◌, ◌<◌, ◌≤◌, Bool, true, false, max, List, [], ◌∷◌, ◌++◌, length, Some, None, Ok, refl, ap, ◌∙◌, sym, subst, arith}
+use Rattle.std.proofs.Common.{◌≡◌, ℕ, ◌+◌, ◌-◌, ◌^◌, ◌<◌, ◌≤◌, Bool, true, false, max, List, [], ◌∷◌, ◌++◌, length, Some, None, refl, sym, subst, arith}
 use Rattle.std.specs.Prelude.{Option, ◌==◌, nat_lt, if◌then◌else◌}
-use Rattle.std.proofs.lemmas.Bool.{cases_Bool, ltb-true}
+use Rattle.std.proofs.lemmas.Bool.{cases_Bool}
 use Rattle.std.proofs.lemmas.Bool.Decides.{nat_tests}
 use Rattle.std.proofs.lemmas.List.{length-drop}
 use Rattle.udt_model.specs.declared.addresses.Addr.{Addr}
@@ -19,16 +19,16 @@ use Rattle.udt_model.specs.declared.sockets.ExpOutcome.{ExpOutcome}
 use Rattle.udt_model.specs.declared.sockets.ExpOutcome.TheVariants as exp
 use Rattle.udt_model.specs.declared.sockets.SentAck.{SentAck}
 use Rattle.udt_model.specs.Arrivals.{on_read}
-use Rattle.udt_model.specs.Calls.{received_by, send_in, send_as, recv_in, recv_as, send_message_in, send_message_as, recv_message_in, recv_message_as, pack_in}
+use Rattle.udt_model.specs.Calls.{send_in, send_as, recv_in, recv_as, send_message_in, send_message_as, recv_message_in, recv_message_as, pack_in}
 use Rattle.udt_model.specs.Events.{Act, Send, Recv, SendMessage, RecvMessage, Pack, Tick, Close, Measure, Arrive, Event, at_moment}
 use Rattle.udt_model.specs.History.{Item, after_items}
 use Rattle.udt_model.specs.Losses.{LostRange, report, after_report, with_missing, without_missing}
 use Rattle.udt_model.specs.Rate.{Ways}
 use Rattle.udt_model.specs.ReceiveBlocks.{placing_of, after_place}
-use Rattle.udt_model.specs.ReceiveHalf.{Receiving, measured, since_last, offset_of, placing_at, missing_after, with_new, after_placing, after_block, drop_range, with_taken, after_receive, after_receive_message}
+use Rattle.udt_model.specs.ReceiveHalf.{Receiving, measured, since_last, offset_of, placing_at, missing_after, after_placing, after_block, drop_range, with_taken, after_receive, after_receive_message}
 use Rattle.udt_model.specs.ReceiveOrder.{IsInOrder}
-use Rattle.udt_model.specs.ReceiveReports.{number_after, nak_words, AckOutcome, IsEarly, IsKnown, EmitsAck, ack_outcome, after_ack_outcome, after_ack_timer, after_nak_timer, confirmed_by, after_ack2, round_trip_to}
-use Rattle.udt_model.specs.SendReports.{Acking, Acks, IsStale, sampled, round_trip_after}
+use Rattle.udt_model.specs.ReceiveReports.{number_after, nak_words, AckOutcome, IsEarly, IsKnown, EmitsAck, ack_outcome, after_ack_outcome, after_ack_timer, after_nak_timer, confirmed_by, after_ack2}
+use Rattle.udt_model.specs.SendReports.{sampled}
 use Rattle.udt_model.specs.State.{State}
 use Rattle.udt_model.specs.Step.{on_act, step}
 use Rattle.udt_model.specs.Ticks.{exp_outcome, after_exp, after_reports, tick_in}
@@ -36,7 +36,7 @@ use Rattle.udt_model.specs.Timing.{RoundTrip, after_sample, last_under, period_o
 use Rattle.udt_model.specs.Wire.{read}
 use Rattle.udt_model.proofs.ArrivalLemmas.{arrival-shows}
 use Rattle.udt_model.proofs.DropLemmas.{taken_in_order, shown_in_order}
-use Rattle.udt_model.proofs.HalfLemmas.{after_receive-keeps, after_receive_message-keeps, after_block-keeps, after_ack_timer-keeps, after_nak_timer-keeps, after_ack2-keeps}
+use Rattle.udt_model.proofs.HalfLemmas.{after_receive_message-keeps, after_block-keeps}
 use Rattle.udt_model.proofs.InOrder.{placed_in_order, read_in_order, reported_in_order}
 use Rattle.udt_model.proofs.MissingOffsets.{AreRisingMissing, added-rising, arrived-rising, reported-rising}
 use Rattle.udt_model.proofs.ReceivingSteps.{receiving-shows}

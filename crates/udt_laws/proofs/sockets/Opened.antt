@@ -58,6 +58,10 @@ module _ {C : Type 0} (w : Ways C) (own : ℕ) (config : Config) (peer : Peer) (
   unfolding opening
   opened_placed = ap (λ (s : State C). s.receiving.blocks.placed) opened
 
+  pub opened_given : h.opening.receiving.blocks.given ≡ 0
+  unfolding opening
+  opened_given = ap (λ (s : State C). s.receiving.blocks.given) opened
+
   pub opened_missing : h.opening.receiving.missing ≡ []
   unfolding opening
   opened_missing = ap (λ (s : State C). s.receiving.missing) opened
@@ -87,10 +91,17 @@ module _ {C : Type 0} (w : Ways C) where
   names h addr id addr_is id_is =
       ap (λ (p : PeerPair). Some p) (pair_from-same (state_of w h).peer.addr addr (state_of w h).peer.id id addr_is id_is)
 
+  -- both of a pair carry the same
+  pub pair-kind : (addr : Addr) (own : ℕ) (way : Way) (h : History C) (other_addr : Addr) (other_own : ℕ) (other_way : Way) (g : History C)
+      → ArePaired addr own way other_addr other_own other_way → h.opening ≡ opened_by w own way → g.opening ≡ opened_by w other_own other_way
+      → g.opening.kind ≡ h.opening.kind
+  pair-kind addr own (PairedAt config peer now start) h other_addr other_own (PairedAt other_config other_peer other_now other_start) g paired opened other_opened =
+      opened_kind w other_own other_config other_peer other_now other_start g other_opened ∙ paired.4
+      ∙ sym (opened_kind w own config peer now start h opened)
+
   -- where one of a pair is a stream, the other is
   pub pair-stream : (addr : Addr) (own : ℕ) (way : Way) (h : History C) (other_addr : Addr) (other_own : ℕ) (other_way : Way) (g : History C)
       → ArePaired addr own way other_addr other_own other_way → h.opening ≡ opened_by w own way → g.opening ≡ opened_by w other_own other_way
       → h.opening.kind ≡ Stream → g.opening.kind ≡ Stream
-  pair-stream addr own (PairedAt config peer now start) h other_addr other_own (PairedAt other_config other_peer other_now other_start) g paired opened other_opened stream =
-      opened_kind w other_own other_config other_peer other_now other_start g other_opened ∙ paired.4
-      ∙ sym (opened_kind w own config peer now start h opened) ∙ stream
+  pair-stream addr own way h other_addr other_own other_way g paired opened other_opened stream =
+      pair-kind addr own way h other_addr other_own other_way g paired opened other_opened ∙ stream

@@ -1,0 +1,19 @@
+-- A message socket shows what its own peer was asked to send, whole and once.
+pub mod Members
+pub mod Layout
+pub mod LayoutLemmas
+pub mod LayoutEnds
+pub mod KeptMessages
+pub mod LaidFrom
+pub mod EventsKeepLaid
+pub mod SentMessages
+pub mod PlacedBlocks
+pub mod ConsumedOffsets
+pub mod ReceivedLayout
+pub mod WholeMessages
+pub mod ReadMessages
+pub mod KeepsLayout
+pub mod ShownMessages
+pub mod AskedMessages
+pub mod ShowsAsked
+pub mod PeerMessagesAlone

@@ -1,0 +1,6 @@
+-- The law is proved beside the lemmas on which it stands.
+use Rattle.udt_laws.proofs.laid_messages.PeerMessagesAlone.{messages}
+use Rattle.udt_laws.proofs.messages.Goals as goal
+
+pub returns : goal.returns
+returns g c = messages g.C.Control.ways
