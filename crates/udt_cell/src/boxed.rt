@@ -62,8 +62,8 @@ impl<C: Control> BoxedSocket<C> {
     ghost use Rattle.std.specs.Prelude.{◌≡◌, ◌≢◌, ◌<◌, ◌≤◌, [], length, drop, Err};
     ghost use Rattle.std.specs.Prelude.{IfOk, OnOk, OnErr, MatchBool};
     ghost use Rattle.udt_core.specs.Received.{received_in};
-    ghost use Rattle.udt_model.specs.Events.{Send, Recv, Pack, Tick, Close, Measure, Arrive, event};
-    ghost use Rattle.udt_model.specs.Events.{Sent, Received, DidPack, DidTick, DidClose, DidMeasure, DidHear};
+    ghost use Rattle.udt_model.specs.Events.{Send, Recv, SendMessage, RecvMessage, Pack, Tick, Close, Measure, Arrive, event};
+    ghost use Rattle.udt_model.specs.Events.{Sent, Received, SentMessage, ReceivedMessage, DidPack, DidTick, DidClose, DidMeasure, DidHear};
     ghost use Rattle.udt_model.specs.Moments as moments;
     ghost use Rattle.udt_cell.specs.Entries.{entry, Follows, last_count};
 
@@ -107,6 +107,27 @@ impl<C: Control> BoxedSocket<C> {
         Ok(self.socket.send(now, bytes))
     }
 
+    // A send of a message, where it may have a further event.
+    #[tactic(auto, using(crate::proofs::QuietLemmas::send_message_quiet, crate::proofs::QuietLemmas::send_message_unspent))]
+    pub(crate) fn send_message(
+        &mut self,
+        now: u64,
+        ttl: Option<u64>,
+        order: bool,
+        bytes: &[u8],
+    ) -> Result<Result<usize, Refusal>, EventsSpent>
+        ensures ok { IfOk result (λ answer. Follows C.ways
+            (entry (event now (SendMessage ttl order bytes.now)) (SentMessage answer) []) self.old self.new) }
+        ensures reason { IfOk result (λ answer. answer ≢ Err Refusal.EventsSpent) }
+        ensures spent { OnErr result (last_count ≤ self.old.count) }
+        ensures err { OnErr result (self.new ≡ self.old) }
+    {
+        if self.is_spent() {
+            return Err(EventsSpent);
+        }
+        Ok(self.socket.send_message(now, ttl, order, bytes))
+    }
+
     // A receive, where it may have a further event.
     #[tactic(auto, using(crate::proofs::QuietLemmas::recv_quiet, crate::proofs::QuietLemmas::recv_unspent))]
     pub(crate) fn recv(
@@ -131,6 +152,32 @@ impl<C: Control> BoxedSocket<C> {
             return Err(EventsSpent);
         }
         Ok(self.socket.recv(now, into))
+    }
+
+    // A receive of a message, where it may have a further event.
+    #[tactic(auto, using(crate::proofs::QuietLemmas::recv_message_quiet, crate::proofs::QuietLemmas::recv_message_unspent))]
+    pub(crate) fn recv_message(
+        &mut self,
+        now: u64,
+        into: &mut [u8],
+    ) -> Result<Result<usize, Refusal>, EventsSpent>
+        ensures ok { IfOk result (λ answer. Follows C.ways
+            (entry (event now (RecvMessage (length into.old))) (ReceivedMessage (received_in answer into.new)) [])
+            self.old self.new) }
+        ensures reason { IfOk result (λ answer. answer ≢ Err Refusal.EventsSpent) }
+        ensures within { IfOk result (λ answer. IfOk answer (λ count. count ≤ length into.old)) }
+        ensures rest { IfOk result
+            (λ answer. IfOk answer (λ count. drop count into.new ≡ drop count into.old)) }
+        ensures refused { IfOk result (λ answer. OnErr answer (into.new ≡ into.old)) }
+        ensures len { length into.new ≡ length into.old }
+        ensures spent { OnErr result (last_count ≤ self.old.count) }
+        ensures err { OnErr result (self.new ≡ self.old) }
+        ensures untouched { OnErr result (into.new ≡ into.old) }
+    {
+        if self.is_spent() {
+            return Err(EventsSpent);
+        }
+        Ok(self.socket.recv_message(now, into))
     }
 
     // A close, where it may have a further event.

@@ -5,7 +5,7 @@ ghost use Rattle.udt_turn.specs.Kinds.{IsSound};
 ghost use Rattle.udt_turn.specs.Words.{view_of};
 ghost use Rattle.udt_cell.specs.Entries.{tale_of_sockets};
 ghost use Rattle.udt_cell.specs.Histories.{seen_by};
-ghost use Rattle.udt_cell.specs.Headline.{SeenInStep};
+ghost use Rattle.udt_cell.specs.Headline.{SeenInStep, SeenMessages};
 ghost use Rattle.udt_cell.specs.Sharing.{state_of};
 
 use crate::shared::SocketPass;
@@ -28,6 +28,18 @@ pub fn seen_is_legal<C: Control>(pass: &SocketPass<C>)
 pub fn prefix<C: Control>(own: &SocketPass<C>, other: &SocketPass<C>)
     ensures { SeenInStep C.ways (seen_by own.now) (seen_by other.now) }
 {
-    let _ = (own, other);
+    let _ = own;
+    let _ = other;
     udt_laws::prefix::<C>();
+}
+
+/// Where no datagram is forged and none outlives 2^30 packets, each message that a shared message socket
+/// has shown, as one pass has seen it, is one that its own peer was asked to send, as a pass of that one
+/// has seen it: whole, at most once, and in order where it must be.
+pub fn messages<C: Control>(own: &SocketPass<C>, other: &SocketPass<C>)
+    ensures { SeenMessages C.ways (seen_by own.now) (seen_by other.now) }
+{
+    let _ = own;
+    let _ = other;
+    udt_laws::messages::<C>();
 }

@@ -6,7 +6,7 @@ mod laws;
 mod shared;
 
 pub use boxed::{BoxedSocket, EventEntry, EventsSpent};
-pub use laws::{prefix, seen_is_legal};
+pub use laws::{messages, prefix, seen_is_legal};
 pub use shared::{OutOfMemory, SharedSocket, SocketPass};
 
 #[cfg(test)]

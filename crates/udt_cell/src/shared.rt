@@ -141,3 +141,14 @@ impl<C: Control> SharedSocket<C> {
         pass.last()
     }
 }
+
+#[cfg(test)]
+impl<C: Control + Drop> SharedSocket<C> {
+    // Every other pass was joined into this one.
+    pub(crate) fn is_whole(self, pass: SocketPass<C>) -> bool
+        requires { IsPassOf self.turn pass }
+    {
+        let SharedSocket { turn } = self;
+        turn.close(pass).is_ok()
+    }
+}

@@ -2,7 +2,8 @@
 ghost use Rattle.std.specs.Prelude.{◌≡◌, ◌≢◌, ◌≤◌, [], length, drop, Some, Err};
 ghost use Rattle.std.specs.Prelude.{IfOk, OnOk, OnErr};
 ghost use Rattle.udt_core.specs.Received.{received_in};
-ghost use Rattle.udt_model.specs.Events.{Send, Recv, Close, Measure, Sent, Received, DidClose, DidMeasure, event};
+ghost use Rattle.udt_model.specs.Events.{Send, Recv, SendMessage, RecvMessage, Close, Measure, event};
+ghost use Rattle.udt_model.specs.Events.{Sent, Received, SentMessage, ReceivedMessage, DidClose, DidMeasure};
 ghost use Rattle.udt_turn.specs.History.{value_of};
 ghost use Rattle.udt_turn.specs.Words.{IsPassOf, IsHeld, KeepsNames, found_by, view_of};
 ghost use Rattle.udt_cell.specs.Entries.{entry, Follows, tale_of_sockets};
@@ -47,6 +48,38 @@ impl<C: Control> SharedSocket<C> {
         }
     }
 
+    /// Takes the bytes whole, as one message. Once more than `ttl` microseconds have passed, where there is
+    /// such a time, no block of it is retransmitted any more. `order` says that it must be delivered in
+    /// order. Beside what the socket answers, EventsSpent comes where its count stands at 2^55 - 1.
+    pub fn send_message<R: Wait>(
+        &self,
+        rt: &R,
+        pass: &mut SocketPass<C>,
+        now: u64,
+        ttl: Option<u64>,
+        order: bool,
+        bytes: &[u8],
+    ) -> Result<usize, Refusal>
+        requires { IsPassOf self.now.turn pass.old }
+        ensures own { IsPassOf self.now.turn pass.new }
+        ensures names { KeepsNames (view_of pass.old) (view_of pass.new) }
+        ensures event { result ≢ Err Refusal.EventsSpent → AddsEvent C.ways now
+            (SendMessage ttl order bytes.now) (SentMessage result) [] pass.old pass.new }
+        ensures spent { result ≡ Err Refusal.EventsSpent → FindsSpent C.ways pass.old pass.new }
+    {
+        let mut held = self.turn.enter(rt, pass);
+        match held.value().send_message(now, ttl, order, bytes) {
+            Ok(answer) => {
+                tell_sent_message::<C, Brand>(held, now, ttl, order, bytes, &answer);
+                answer
+            }
+            Err(EventsSpent) => {
+                pass_by(held);
+                Err(Refusal::EventsSpent)
+            }
+        }
+    }
+
     /// Gives the first bytes that wait, as far as there is room. Beside what the socket answers,
     /// EventsSpent comes where its count stands at 2^55 - 1.
     pub fn recv<R: Wait>(
@@ -70,6 +103,38 @@ impl<C: Control> SharedSocket<C> {
         match held.value().recv(now, into) {
             Ok(answer) => {
                 tell_received::<C, Brand>(held, now, &answer, into);
+                answer
+            }
+            Err(EventsSpent) => {
+                pass_by(held);
+                Err(Refusal::EventsSpent)
+            }
+        }
+    }
+
+    /// Gives the next message that can be read, whole. Beside what the socket answers, EventsSpent comes
+    /// where its count stands at 2^55 - 1.
+    pub fn recv_message<R: Wait>(
+        &self,
+        rt: &R,
+        pass: &mut SocketPass<C>,
+        now: u64,
+        into: &mut [u8],
+    ) -> Result<usize, Refusal>
+        requires { IsPassOf self.now.turn pass.old }
+        ensures own { IsPassOf self.now.turn pass.new }
+        ensures names { KeepsNames (view_of pass.old) (view_of pass.new) }
+        ensures event { result ≢ Err Refusal.EventsSpent → AddsEvent C.ways now
+            (RecvMessage (length into.old)) (ReceivedMessage (received_in result into.new)) [] pass.old pass.new }
+        ensures within { IfOk result (λ count. count ≤ length into.old) }
+        ensures rest { IfOk result (λ count. drop count into.new ≡ drop count into.old) }
+        ensures err { OnErr result (into.new ≡ into.old) }
+        ensures spent { result ≡ Err Refusal.EventsSpent → FindsSpent C.ways pass.old pass.new }
+    {
+        let mut held = self.turn.enter(rt, pass);
+        match held.value().recv_message(now, into) {
+            Ok(answer) => {
+                tell_received_message::<C, Brand>(held, now, &answer, into);
                 answer
             }
             Err(EventsSpent) => {
@@ -153,6 +218,30 @@ fn tell_sent<C: Control, N: Naming<EventEntry>>(
     held.publish::<N>();
 }
 
+// Publishes a send of a message.
+#[tactic(auto, using(crate::proofs::ItemLemmas::follows_goes))]
+fn tell_sent_message<C: Control, N: Naming<EventEntry>>(
+    held: Held<'_, BoxedSocket<C>>,
+    now: u64,
+    ttl: Option<u64>,
+    order: bool,
+    bytes: &[u8],
+    answer: &Result<usize, Refusal>,
+)
+    requires held { IsHeld (tale_of_sockets C.ways) held }
+    requires item { N.item ≡ Some
+        (entry (event now (SendMessage ttl order bytes.now)) (SentMessage answer.now) []) }
+    requires follows { Follows C.ways
+        (entry (event now (SendMessage ttl order bytes.now)) (SentMessage answer.now) [])
+        (value_of (tale_of_sockets C.ways) (found_by held)) held.value }
+    ensures own { IsPassOf held.entry.turn.now held.exit.1.0.now }
+    ensures names { KeepsNames (view_of held.entry.pass.now) (view_of held.exit.1.0.now) }
+    ensures adds { AddsEvent C.ways now (SendMessage ttl order bytes.now) (SentMessage answer.now) []
+        held.entry.pass.now held.exit.1.0.now }
+{
+    held.publish::<N>();
+}
+
 // Publishes a receive.
 #[tactic(auto, using(crate::proofs::ItemLemmas::follows_goes))]
 fn tell_received<C: Control, N: Naming<EventEntry>>(
@@ -171,6 +260,29 @@ fn tell_received<C: Control, N: Naming<EventEntry>>(
     ensures names { KeepsNames (view_of held.entry.pass.now) (view_of held.exit.1.0.now) }
     ensures adds { AddsEvent C.ways now
         (Recv (length into.now)) (Received (received_in answer.now into.now)) []
+        held.entry.pass.now held.exit.1.0.now }
+{
+    held.publish::<N>();
+}
+
+// Publishes a receive of a message.
+#[tactic(auto, using(crate::proofs::ItemLemmas::follows_goes))]
+fn tell_received_message<C: Control, N: Naming<EventEntry>>(
+    held: Held<'_, BoxedSocket<C>>,
+    now: u64,
+    answer: &Result<usize, Refusal>,
+    into: &[u8],
+)
+    requires held { IsHeld (tale_of_sockets C.ways) held }
+    requires item { N.item ≡ Some
+        (entry (event now (RecvMessage (length into.now))) (ReceivedMessage (received_in answer.now into.now)) []) }
+    requires follows { Follows C.ways
+        (entry (event now (RecvMessage (length into.now))) (ReceivedMessage (received_in answer.now into.now)) [])
+        (value_of (tale_of_sockets C.ways) (found_by held)) held.value }
+    ensures own { IsPassOf held.entry.turn.now held.exit.1.0.now }
+    ensures names { KeepsNames (view_of held.entry.pass.now) (view_of held.exit.1.0.now) }
+    ensures adds { AddsEvent C.ways now
+        (RecvMessage (length into.now)) (ReceivedMessage (received_in answer.now into.now)) []
         held.entry.pass.now held.exit.1.0.now }
 {
     held.publish::<N>();

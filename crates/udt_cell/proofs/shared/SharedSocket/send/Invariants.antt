@@ -1,7 +1,7 @@
 use Rattle.std.specs.Prelude.{[], Some}
 use Rattle.udt_model.specs.Events.{Send, Sent, event}
 use Rattle.udt_cell.specs.Entries.{entry}
-use Rattle.udt_cell.proofs.shared.calls.SharedSocket.send.Given as goal
+use Rattle.udt_cell.proofs.shared.SharedSocket.send.Given as goal
 
 -- the item is the send with its answer
 abbrev pub ghosts-tell_sent : goal.ghosts-tell_sent
