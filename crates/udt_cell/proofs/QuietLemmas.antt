@@ -58,14 +58,9 @@ if_fitted_unspent : (no_room : Bool) (room : ℕ) (m : WholeMessage)
 if_fitted_unspent true room m e = cc
 if_fitted_unspent false room m e = fitted_unspent (nat_le (length m.bytes) room) m.bytes e
 
-if_none_unspent : (no_room : Bool) (why : Refusal) → why ≢ refusal.EventsSpent
-    → (if no_room then Ok [] else Err why) ≢ Err refusal.EventsSpent
-if_none_unspent true why not e = cc
-if_none_unspent false why not e = not (cc)
-
 message_unspent : (why : Refusal) (room : ℕ) (next : Option WholeMessage) → why ≢ refusal.EventsSpent
     → answer_message why room next ≢ Err refusal.EventsSpent
-message_unspent why room None not = if_none_unspent (room == 0) why not
+message_unspent why room None not = if_unspent (room == 0) true why [] not
 message_unspent why room (Some m) not = if_fitted_unspent (room == 0) room m
 
 received_message_is : (a b : Result (List ℕ) Refusal) → ReceivedMessage a ≡ ReceivedMessage b → a ≡ b

@@ -1,17 +1,6 @@
--- The law of all histories, at those that the passes have seen.
-use Rattle.std.proofs.Common.{◌≡◌, sym, subst}
-use Rattle.std.specs.Prelude.{Some}
-use Rattle.udt_laws.specs.Laws.{IsStream, AreInStep}
-use Rattle.udt_model.specs.History.{History}
-use Rattle.udt_model.specs.Records.{own_peer}
-use Rattle.udt_cell.specs.Histories.{seen_by}
+use Rattle.udt_cell.proofs.HeadlineLemmas.{seen_in_step}
 use Rattle.udt_cell.proofs.laws.prefix.Goals as goal
 
+-- the law of all histories, at those that the passes have seen
 pub returns : goal.returns
-returns g c = λ net addr socket other peer lawful honest here is_seen stream peer_is there own_is is_peers.
-    let w = g.C.Control.ways in
-    let both =
-        c.prefix.ensures net addr socket other peer lawful honest here
-        (subst (λ h. IsStream h) (sym is_seen) stream) (subst (λ h. own_peer w h ≡ Some peer) (sym is_seen) peer_is)
-        there own_is in
-    subst (λ h. AreInStep w h _) is_seen (subst (λ h. AreInStep w socket.history h) is_peers both)
+returns g c = seen_in_step g.C.Control.ways _ _ c.prefix.ensures
