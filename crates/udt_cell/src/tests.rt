@@ -117,7 +117,9 @@ fn one_event_more_and_the_events_are_spent(rt: HostRuntime) -> Result<(), Fail> 
     assert_eq!(rt; socket.look(&mut pass).count, LAST);
     assert!(rt; socket.send(&rt, &mut pass, 2, b"abc") == Err(Refusal::EventsSpent));
     assert!(rt; socket.recv(&rt, &mut pass, 2, &mut room) == Err(Refusal::EventsSpent));
-    assert!(rt; socket.send_message(&rt, &mut pass, 2, None, true, b"abc") == Err(Refusal::EventsSpent));
+    assert!(rt;
+        socket.send_message(&rt, &mut pass, 2, None, true, b"abc") == Err(Refusal::EventsSpent)
+    );
     assert!(rt; socket.recv_message(&rt, &mut pass, 2, &mut room) == Err(Refusal::EventsSpent));
     assert!(rt; socket.perf(&rt, &mut pass, 2).is_err());
     assert!(rt; socket.close(&rt, &mut pass, 2).is_err());
@@ -254,8 +256,18 @@ fn messages_go_through_shared_sockets(rt: HostRuntime) -> Result<(), Fail> {
     assert!(rt; a.send(&rt, &mut first, 0, b"abc") == Err(Refusal::MessageOnly));
     assert!(rt; a.send_message(&rt, &mut first, 0, None, true, b"abcdef") == Ok(6));
     for now in 1..=2u64 {
-        assert!(rt; a.pack(&rt, &mut first, 100 * now, &mut outs, &FreeGate) != Ok(Packed::Nothing));
-        deliver(&rt, &b, &mut second, 100 * now, addr_of(1), &outs, &mut answers);
+        assert!(rt;
+            a.pack(&rt, &mut first, 100 * now, &mut outs, &FreeGate) != Ok(Packed::Nothing)
+        );
+        deliver(
+            &rt,
+            &b,
+            &mut second,
+            100 * now,
+            addr_of(1),
+            &outs,
+            &mut answers,
+        );
     }
     assert!(rt; b.recv_message(&rt, &mut second, 300, &mut room) == Ok(6));
     assert!(rt; room == *b"abcdef\0\0");
@@ -571,7 +583,16 @@ fn four_threads_make_one_whole_history(rt: HostRuntime) -> Result<(), Fail> {
         calls: 0,
         other_calls: 0,
     };
-    let done = run_four(&rt, &a, &b, (sender, other), receiver, carried, outs, answers);
+    let done = run_four(
+        &rt,
+        &a,
+        &b,
+        (sender, other),
+        receiver,
+        carried,
+        outs,
+        answers,
+    );
     let Done {
         carried,
         marks,
