@@ -140,23 +140,50 @@ fn one_event_more_and_the_events_are_spent(rt: HostRuntime) -> Result<(), Fail> 
     Ok(())
 }
 
+// Splits a pass off this many times, and says how often it went.
+fn split_off(socket: &SharedSocket<Native>, pass: &mut SocketPass<Native>, times: u32) -> u32
+    requires { IsPassOf socket.now.turn pass.old }
+    ensures { IsPassOf socket.now.turn pass.new }
+{
+    let mut went = 0u32;
+    for _ in 0..times {
+        if socket.split(pass).is_ok() {
+            went = went.wrapping_add(1);
+        }
+    }
+    went
+}
+
 #[test]
-fn a_look_shows_what_another_pass_did(rt: HostRuntime) -> Result<(), Fail> {
+fn a_look_shows_what_another_pass_did_until_passes_run_out(rt: HostRuntime) -> Result<(), Fail> {
     let Some((socket, mut first)) = opened(rt.alloc(), 1, 0) else {
         panic!(rt; "no memory")
     };
     let Ok(mut second) = socket.split(&mut first) else {
         panic!(rt; "no number")
     };
+    assert_eq!(rt; split_off(&socket, &mut first, 65_533), 65_533);
+    assert_eq!(rt; split_off(&socket, &mut first, 3), 0);
     let look = socket.look(&mut first);
     assert!(rt; look.count == 0 && look.bits == 18);
     assert!(rt; socket.send(&rt, &mut second, 5, b"abcdefgh") == Ok(8));
+    assert_eq!(rt; socket.look(&mut first).count, 1);
     assert!(rt; socket.close(&rt, &mut second, 6).is_ok());
     let look = socket.look(&mut first);
     assert!(rt; look.count == 2 && look.bits == 0);
     assert!(rt; socket.at(&first) == 0 && socket.at(&second) == 2);
     socket.join(second, &mut first);
     assert_eq!(rt; socket.at(&first), 2);
+    Ok(())
+}
+
+#[test]
+fn a_socket_that_begins_at_the_last_count_is_spent(rt: HostRuntime) -> Result<(), Fail> {
+    let Some((socket, mut pass)) = opened(rt.alloc(), 1, LAST) else {
+        panic!(rt; "no memory")
+    };
+    assert!(rt; socket.send(&rt, &mut pass, 1, b"abc") == Err(Refusal::EventsSpent));
+    assert!(rt; socket.look(&mut pass).count == LAST && socket.at(&pass) == 0);
     Ok(())
 }
 
@@ -255,23 +282,32 @@ fn messages_go_through_shared_sockets(rt: HostRuntime) -> Result<(), Fail> {
     let mut room = [0u8; 8];
     assert!(rt; a.send(&rt, &mut first, 0, b"abc") == Err(Refusal::MessageOnly));
     assert!(rt; a.send_message(&rt, &mut first, 0, None, true, b"abcdef") == Ok(6));
-    for now in 1..=2u64 {
-        assert!(rt;
-            a.pack(&rt, &mut first, 100 * now, &mut outs, &FreeGate) != Ok(Packed::Nothing)
-        );
-        deliver(
-            &rt,
-            &b,
-            &mut second,
-            100 * now,
-            addr_of(1),
-            &outs,
-            &mut answers,
-        );
-    }
+    let there = carry(
+        &rt,
+        &a,
+        &mut first,
+        &b,
+        &mut second,
+        100,
+        1,
+        &mut outs,
+        &mut answers,
+    );
+    let then = carry(
+        &rt,
+        &a,
+        &mut first,
+        &b,
+        &mut second,
+        200,
+        1,
+        &mut outs,
+        &mut answers,
+    );
+    assert!(rt; there == (2, 1) && then == (2, 1));
     assert!(rt; b.recv_message(&rt, &mut second, 300, &mut room) == Ok(6));
     assert!(rt; room == *b"abcdef\0\0");
-    assert!(rt; a.look(&mut first).count == 4 && b.look(&mut second).count == 3);
+    assert!(rt; a.look(&mut first).count == 6 && b.look(&mut second).count == 3);
     Ok(())
 }
 
