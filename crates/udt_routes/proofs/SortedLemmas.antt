@@ -2,12 +2,12 @@
 use Rattle.std.proofs.Common.{◌≡◌, ℕ, zero, suc, ◌<◌, ◌≤◌, Bool, true, false, cond, List, [], ◌∷◌, length, get_or, Option, Some, None, Result, Ok, Err, IfOk, IfErr, is_some, true≢false, refl, sym, ap, ◌∙◌, subst, arith}
 use Rattle.std.specs.declared.cmp.Ordering.{Ordering}
 use Rattle.std.specs.declared.cmp.Ordering.TheVariants.{Less, Equal, Greater}
-use Rattle.std.specs.Ordering.{is_eq, eq_by_cmp, ordering_index, ordering_reverse}
+use Rattle.std.specs.Ordering.{is_eq, eq_by_cmp, match_ordering, ordering_index, ordering_reverse}
 use Rattle.std.specs.Cmp.{IsTotalOrder, eq_by_cmp_equiv}
 use Rattle.std.specs.List.{insert, remove, AllByRecursion}
 use Rattle.std.specs.List.Sorted.{IsStrictlySortedBy, IsNonDecreasingBy, IsSearchInRange, IsBinarySearchResult}
 use Rattle.std.specs.Map.{lookup, keys_of, remove_entry}
-use Rattle.std.specs.BTreeMap.{is_at}
+use Rattle.std.specs.BTreeMap.{is_at, insert_entry}
 use Rattle.std.proofs.lemmas.Map.{NonePasses, lookup-none, none_passes_from_lookup, lookup-insert, lookup-remove_entry}
 use Rattle.std.proofs.lemmas.Map.Entries.{none_below_head}
 use Rattle.std.proofs.lemmas.Map.Keys.{sorted_head, sorted_tail, IsDistinct-from_sorted}
@@ -144,6 +144,16 @@ module _ {K : Type 0} {R : K → K → Ordering} (o : IsTotalOrder R) where
         looks : (q : K) → value_at R (insert l at (k, v)) q ≡ cond (is_eq (R k q)) (Some v) (value_at R l q)
         looks q = lookup-insert {eq = eq_by_cmp R} (eq_by_cmp_equiv o) k v q l at none
 
+    -- it goes where the order has it
+    pub inserted_is : (l : List (K × V)) (k : K) (v : V) (at : ℕ) → IsGapFor R l k at → insert l at (k, v) ≡ insert_entry R l k v
+    inserted_is [] k v zero gap = refl
+    inserted_is [] k v (suc at) gap = absurd (omega (arith, gap.in_range))
+    inserted_is (e ∷ es) k v zero gap =
+        sym (ap (λ c. match_ordering c ((k, v) ∷ e ∷ es) ((e.0, v) ∷ es) (e ∷ insert_entry R es k v)) (flip_greater e.0 k (gap.greater 0 e (omega arith) (omega arith))))
+    inserted_is (e ∷ es) k v (suc at) gap =
+        ap (λ r. e ∷ r) (inserted_is es k v at (gap_tail e es k at gap))
+        ∙ sym (ap (λ c. match_ordering c ((k, v) ∷ e ∷ es) ((e.0, v) ∷ es) (e ∷ insert_entry R es k v)) (flip_less e.0 k (gap.smaller 0 e (omega arith) (omega arith))))
+
     -- from a place on where all keys are greater, the key is below each
     all_above : (es : List (K × V)) (k : K) → ((j : ℕ) (d : K × V) → j < length es → R (get_or es j d).0 k ≡ Greater) → AllByRecursion (λ y. R k y ≡ Less) (keys_of es)
     all_above [] k greater = tt
@@ -159,7 +169,7 @@ module _ {K : Type 0} {R : K → K → Ordering} (o : IsTotalOrder R) where
         (all_insert (λ y. R e.0 y ≡ Less) es i x s.0 (gap.smaller 0 e (omega arith) (omega arith)), rising_insert es i x s.1 (gap_tail e es x.0 i gap))
 
     -- the pair that a search found is the first with the key
-    removed_is : (l : List (K × V)) → IsRising R l → (k : K) (at : ℕ) → IsAt R l k at → remove l at ≡ remove_entry (is_at (R k)) l
+    pub removed_is : (l : List (K × V)) → IsRising R l → (k : K) (at : ℕ) → IsAt R l k at → remove l at ≡ remove_entry (is_at (R k)) l
     removed_is [] s k at is = absurd (omega (arith, is.in_range))
     removed_is (e ∷ es) s k zero is =
         sym (ap (λ c. cond (is_eq c) es (e ∷ remove_entry (is_at (R k)) es)) (flip_equal e.0 k (is.has_key e)))
@@ -189,6 +199,14 @@ module _ {K : Type 0} {R : K → K → Ordering} (o : IsTotalOrder R) where
         none_alike : (es : List (K × V)) (q : K) → is_eq (R k q) ≡ true → NonePasses (is_at (R k)) es → NonePasses (is_at (R q)) es
         none_alike [] q same h = tt
         none_alike (e ∷ es) q same h = (sym ((eq_by_cmp_equiv o).congr k q e.0 same) ∙ h.0, none_alike es q same h.1)
+
+    -- and the list stays as it is
+    pub removed_none : (l : List (K × V)) (k : K) → value_at R l k ≡ None → l ≡ remove_entry (is_at (R k)) l
+    removed_none l k none = stays l (none_passes_from_lookup (is_at (R k)) l none)
+      where
+        stays : (es : List (K × V)) → NonePasses (is_at (R k)) es → es ≡ remove_entry (is_at (R k)) es
+        stays [] h = refl
+        stays (e ∷ es) h = ap (λ r. e ∷ r) (stays es h.1) ∙ sym (ap (λ b. cond b es (e ∷ remove_entry (is_at (R k)) es)) h.0)
 
     -- and keeps the order
     pub rising_remove : (es : List (K × V)) (i : ℕ) → IsRising R es → IsRising R (remove es i)

@@ -9,3 +9,4 @@ pub mod MeetingMaps
 pub mod Tables
 pub mod Inside
 pub mod Routing
+pub mod Lookups

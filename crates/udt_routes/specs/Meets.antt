@@ -1,5 +1,5 @@
 -- Which address each socket meets, and which socket meets an address.
-use Rattle.std.specs.Prelude.{◌≡◌, ℕ, ◌+◌, Bool, not, ◌&&◌, is_some, nat_lt, List, [], ◌∷◌, length, Option, Some, None, if◌then◌else◌}
+use Rattle.std.specs.Prelude.{◌≡◌, ℕ, ◌+◌, ◌==◌, Bool, false, not, ◌&&◌, is_some, nat_lt, List, [], ◌∷◌, length, Option, Some, None, if◌then◌else◌}
 use Rattle.std.specs.Ordering.{nat_cmp}
 use Rattle.udt_model.specs.declared.addresses.Addr.{Addr}
 use Rattle.udt_model.specs.Addresses.{same_addr}
@@ -18,6 +18,11 @@ met_by met id = value_at nat_cmp met id
 abbrev pub meeter_of : List (ℕ × Addr) → Addr → Option ℕ
 meeter_of [] addr = None
 meeter_of (m ∷ met) addr = if same_addr addr m.1 then Some m.0 else meeter_of met addr
+
+-- an address's meeter is this ID
+abbrev pub is_meeter : Option ℕ → ℕ → Bool
+is_meeter None id = false
+is_meeter (Some meeter) id = meeter == id
 
 -- an ID meets an address exactly where that ID is the address's meeter, so no two meet one address
 pub record IsMetOnce (met : List (ℕ × Addr)) : Type 0 where

@@ -1,10 +1,12 @@
 -- What is known of the sockets of one endpoint.
 use Rattle.std.specs.Prelude.{◌≡◌, ◌+◌, ℕ, Bool, not, ◌&&◌, nat_lt, nat_eq, is_some, List, [], length, Option, Some, None, if◌then◌else◌, refl}
 use Rattle.std.specs.Coded.{Coded, code_by, coded×, coded_ℕ, coded_list, coded_option}
+use Rattle.std.specs.Map.{remove_entry}
+use Rattle.std.specs.BTreeMap.{is_at, insert_entry}
 use Rattle.std.specs.Ordering.{nat_cmp}
 use Rattle.udt_model.specs.declared.addresses.Addr.{Addr}
 use Rattle.udt_model.specs.contracts.addresses.Addr as addr
-use Rattle.udt_routes.specs.Meets.{Meets}
+use Rattle.udt_routes.specs.Meets.{meeter_of, is_meeter, Meets}
 use Rattle.udt_routes.specs.Sorted.{value_at, Becomes, one_of}
 
 -- how many pairs may be adopted and how many sockets enrolled; what is enrolled under each ID; the pair
@@ -47,6 +49,29 @@ module _ {R : Type 0} where
   -- an ID can be enrolled where it isn't, and fewer are than may be
   abbrev pub can_enrol : Table R → ℕ → Bool
   can_enrol t id = not (is_some (what_of t id)) && nat_lt (length t.enrolled) t.live
+
+  -- the table once an ID was enrolled, at its place in the order of the IDs
+  abbrev pub with_enrolled : Table R → ℕ → R → Table R
+  with_enrolled t id what = record t { enrolled = insert_entry nat_cmp t.enrolled id what }
+
+  -- once an ID has left
+  abbrev pub without : Table R → ℕ → Table R
+  without t id = record t {
+    enrolled = remove_entry (is_at (nat_cmp id)) t.enrolled;
+    listener = listener_without t.listener id;
+    meetings = remove_entry (is_at (nat_cmp id)) t.meetings;
+  }
+
+  -- once a socket meets an address, at the place of its ID in the order
+  abbrev pub with_meeting : Table R → Addr → ℕ → Table R
+  with_meeting t to id = record t { meetings = insert_entry nat_cmp t.meetings id to }
+
+  -- once a socket meets an address no more, where it met that one
+  abbrev pub without_meeting : Table R → Addr → ℕ → Table R
+  without_meeting t to id =
+      if is_meeter (meeter_of t.meetings to) id
+      then record t { meetings = remove_entry (is_at (nat_cmp id)) t.meetings }
+      else t
 
   -- an ID is enrolled, and nothing else changes
   pub record Enrols (old new : Table R) (id : ℕ) (what : R) : Type 0 where

@@ -8,6 +8,7 @@ mod keys;
 mod meetings;
 mod room;
 mod routes;
+mod routing;
 mod sorted;
 #[cfg(test)]
 mod tests;
@@ -16,3 +17,4 @@ pub use adoptions::Adoptions;
 pub use drawer::{Drawer, draws_once};
 pub use errors::{ListenTwice, MeetTaken, OutOfMemory, Taken};
 pub use routes::Routes;
+pub use routing::{Lookup, Routed, Want};

@@ -1,6 +1,9 @@
 // Which socket meets which address.
 
 ghost use Rattle.std.specs.Prelude.{◌≡◌, [], IfOk, Some, None, true};
+ghost use Rattle.std.specs.Map.{remove_entry};
+ghost use Rattle.std.specs.BTreeMap.{is_at, insert_entry};
+ghost use Rattle.std.specs.Ordering.{nat_cmp};
 ghost use Rattle.udt_routes.specs.Meets.{meeter_of, can_meet, Meets, IsMetOnce};
 
 use crate::errors::OutOfMemory;
@@ -66,6 +69,7 @@ impl Meetings {
     pub(crate) fn meet(&mut self, to: Addr, id: u32)
         requires { can_meet self.old.live self.old.met to id ≡ true }
         ensures next { Meets self.old.met self.new.met id (Some to) }
+        ensures entries { self.new.met ≡ insert_entry nat_cmp self.old.met id to }
         ensures live { self.new.live ≡ self.old.live }
     {
         put(&mut self.by_id, id, to);
@@ -75,6 +79,7 @@ impl Meetings {
     // Frees the address that a socket meets, where it meets one.
     pub(crate) fn free(&mut self, id: u32)
         ensures next { Meets self.old.met self.new.met id None }
+        ensures entries { self.new.met ≡ remove_entry (is_at (nat_cmp id)) self.old.met }
         ensures live { self.new.live ≡ self.old.live }
     {
         let Some(to) = take_out(&mut self.by_id, &id) else {

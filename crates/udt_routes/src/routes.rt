@@ -3,6 +3,7 @@
 use crate::adoptions::Adoptions;
 use crate::errors::{ListenTwice, MeetTaken, OutOfMemory, Taken};
 use crate::meetings::Meetings;
+use crate::routing::{Routed, Want};
 use crate::sorted::{find, put, take_out};
 use std::alloc::Global;
 use std::marker::Model;
@@ -38,7 +39,9 @@ impl<R: Drop> Routes<R> {
     ghost use Rattle.std.specs.Option.{option_copied};
     ghost use Rattle.udt_routes.specs.Pairs.{pair_of, adopter_of, IsAdoptedOnce};
     ghost use Rattle.udt_routes.specs.Meets.{met_by, meeter_of, can_meet, IsMetOnce};
+    ghost use Rattle.udt_routes.specs.Routing.{found_in, route};
     ghost use Rattle.udt_routes.specs.Tables.{empty_table, what_of, can_enrol, listener_without, Enrols, Leaves, MeetsOnly};
+    ghost use Rattle.udt_routes.specs.Tables.{with_enrolled, without, with_meeting, without_meeting};
 
     /// A table of no sockets, for at most so many adoptions and so many enrolled sockets. All memory is
     /// taken here.
@@ -61,6 +64,7 @@ impl<R: Drop> Routes<R> {
     pub fn enrol(&mut self, id: u32, what: R) -> Result<(), R>
         ensures exact { is_ok result ≡ can_enrol self.old id }
         ensures ok { OnOk result (Enrols self.old self.new id what) }
+        ensures table { OnOk result (self.new ≡ with_enrolled self.old id what) }
         ensures given_back { IfErr result (λ back. back ≡ what) }
         ensures err { OnErr result (self.new ≡ self.old) }
     {
@@ -76,6 +80,7 @@ impl<R: Drop> Routes<R> {
     pub fn leave(&mut self, id: u32) -> Option<R>
         ensures value { result ≡ what_of self.old id }
         ensures next { Leaves self.old self.new id }
+        ensures table { self.new ≡ without self.old id }
     {
         self.clear_listener(id);
         self.meetings.free(id);
@@ -87,6 +92,28 @@ impl<R: Drop> Routes<R> {
         ensures { option_copied result ≡ what_of self.now id }
     {
         find(&self.enrolled, &id)
+    }
+
+    /// What is found of a want: the ID that it names, where that is enrolled, or the ID in the place that it names.
+    pub fn found(&self, want: Want) -> Option<u32>
+        ensures { result ≡ found_in self.now want }
+    {
+        match want {
+            Want::Id(id) if self.route(id).is_some() => Some(id),
+            Want::Id(_) => None,
+            Want::Listener => self.listener(),
+            Want::Meeting(from) => self.meeting(from),
+        }
+    }
+
+    /// Where a datagram goes that came from this address, with these bytes.
+    pub fn destination_of(&self, from: Addr, bytes: &[u8]) -> Routed
+        ensures { result ≡ route self.now from bytes.now }
+    {
+        match self.adoptions.lookup(from, bytes) {
+            Ok(lookup) => lookup.routed(self.found(lookup.want)),
+            Err(routed) => routed,
+        }
     }
 
     /// Adopts the pair of a peer's address and socket ID, for good. Taken where it is adopted.
@@ -149,6 +176,7 @@ impl<R: Drop> Routes<R> {
     pub fn set_meeting(&mut self, to: Addr, id: u32) -> Result<(), MeetTaken>
         ensures exact { is_ok result ≡ can_meet self.old.live self.old.meetings to id }
         ensures ok { OnOk result (MeetsOnly self.old self.new id (Some to)) }
+        ensures table { OnOk result (self.new ≡ with_meeting self.old to id) }
         ensures err { OnErr result (self.new ≡ self.old) }
     {
         if !self.meetings.can_meet(to, id) {
@@ -169,6 +197,7 @@ impl<R: Drop> Routes<R> {
     /// Frees an address, where this ID meets it.
     pub fn clear_meeting(&mut self, to: Addr, id: u32)
         ensures held { met_by self.old.meetings id ≡ Some to → MeetsOnly self.old self.new id None }
+        ensures table { self.new ≡ without_meeting self.old to id }
         ensures kept { met_by self.old.meetings id ≢ Some to → self.new ≡ self.old }
     {
         if self.meetings.meeter(to) == Some(id) {

@@ -2,6 +2,8 @@
 
 ghost use Rattle.std.specs.Prelude.{◌≡◌, ◌+◌, ◌<◌, ◌≤◌, vec_len, vec_capacity, is_some, if◌then◌else◌, IfOk, IfErr, IfNone, None};
 ghost use Rattle.std.specs.Option.{option_copied};
+ghost use Rattle.std.specs.Map.{remove_entry};
+ghost use Rattle.std.specs.BTreeMap.{is_at, insert_entry};
 ghost use Rattle.udt_routes.specs.Sorted.{value_at, IsRising, IsAt, IsGapFor, Puts, TakesOut};
 
 // Where the key is, or where it would go.
@@ -42,6 +44,7 @@ pub(crate) fn put<K: Ord + Copy + Drop, V>(pairs: &mut Vec<(K, V)>, key: K, valu
     requires absent { value_at K.cmp pairs.old.items key ≡ None }
     requires room { vec_len pairs.old < vec_capacity pairs.old }
     ensures next { Puts K.cmp pairs.old.items pairs.new.items key value }
+    ensures entries { pairs.new.items ≡ insert_entry K.cmp pairs.old.items key value }
     ensures order { IsRising K.cmp pairs.new.items }
     ensures len { vec_len pairs.new ≡ vec_len pairs.old + 1 }
     ensures capacity { vec_capacity pairs.old ≤ vec_capacity pairs.new }
@@ -56,6 +59,7 @@ pub(crate) fn take_out<K: Ord + Copy + Drop, V>(pairs: &mut Vec<(K, V)>, key: &K
     ensures value { result ≡ value_at K.cmp pairs.old.items key.now }
     ensures kept { IfNone result (pairs.new ≡ pairs.old) }
     ensures next { TakesOut K.cmp pairs.old.items pairs.new.items key.now }
+    ensures entries { pairs.new.items ≡ remove_entry (is_at (K.cmp key.now)) pairs.old.items }
     ensures order { IsRising K.cmp pairs.new.items }
     ensures len { vec_len pairs.new + (if is_some result then 1 else 0) ≡ vec_len pairs.old }
     ensures capacity { vec_capacity pairs.new ≡ vec_capacity pairs.old }

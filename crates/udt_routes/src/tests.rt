@@ -1,6 +1,8 @@
 // Tables and drawers worked by hand.
 
-use crate::{Drawer, ListenTwice, MeetTaken, Routes, Taken};
+ghost use Rattle.std.specs.Prelude.{◌≡◌, ◌+◌, ◌<◌, ◌≤◌, length};
+
+use crate::{Drawer, ListenTwice, MeetTaken, Routed, Routes, Taken};
 use std::test::Fail;
 use udt_model::{Addr, Ip};
 
@@ -79,18 +81,36 @@ fn enrols_each_id_once_and_only_so_many(rt: HostRuntime) -> Result<(), Fail> {
     Ok(())
 }
 
+// Lets a socket adopt a pair, where it has adopted none.
+fn adopt_first(
+    routes: &mut Routes<u8>,
+    own: u32,
+    addr: Addr,
+    peer: u32,
+) -> Option<Result<(), Taken>>
+    requires room { length routes.old.adoptions < routes.old.ids }
+    ensures len { length routes.new.adoptions ≤ length routes.old.adoptions + 1 }
+    ensures ids { routes.new.ids ≡ routes.old.ids }
+{
+    match routes.peer_of(own) {
+        Some(_) => None,
+        None => Some(routes.adopt(own, addr, peer)),
+    }
+}
+
 #[test]
 fn adopts_a_pair_once_and_keeps_it_when_the_socket_leaves(rt: HostRuntime) -> Result<(), Fail> {
-    let mut routes = Routes::new(rt.alloc(), 4, 4)?;
+    let mut routes = Routes::new(rt.alloc(), 8, 4)?;
     // the own ID, the pair, and whether it can be adopted
     for (own, addr, peer, adopted) in [
-        (1, v4(10, 9000), 5, Ok(())),
-        (2, v4(10, 9000), 5, Err(Taken)),
-        (2, v4(10, 9000), 6, Ok(())),
-        (3, v4(10, 9001), 5, Ok(())),
-        (4, v6(10, 9000), 5, Ok(())),
+        (1, v4(10, 9000), 5, Some(Ok(()))),
+        (2, v4(10, 9000), 5, Some(Err(Taken))),
+        (2, v4(10, 9000), 6, Some(Ok(()))),
+        (2, v4(10, 9000), 7, None),
+        (3, v4(10, 9001), 5, Some(Ok(()))),
+        (4, v6(10, 9000), 5, Some(Ok(()))),
     ] {
-        assert_eq!(rt; routes.adopt(own, addr, peer), adopted);
+        assert_eq!(rt; adopt_first(&mut routes, own, addr, peer), adopted);
     }
     assert_eq!(rt; routes.enrol(1, 0), Ok(()));
     assert_eq!(rt; routes.leave(1), Some(0));
@@ -158,5 +178,66 @@ fn each_address_is_met_by_one_socket(rt: HostRuntime) -> Result<(), Fail> {
     assert_eq!(rt; routes.meeting(v6(10, 1)), Some(2));
     assert_eq!(rt; routes.set_meeting(v4(10, 1), 4), Ok(()));
     assert_eq!(rt; routes.meeting(v4(10, 1)), Some(4));
+    Ok(())
+}
+
+// The first 64 bytes of a handshake of version 4, or of another packet, with these words: the first one, the ID
+// of the destination, the connection type, and the sender's ID.
+fn datagram(first: u32, dest: u32, ask: i32, id: u32) -> [u8; 64] {
+    let mut bytes = [0; 64];
+    bytes[..4].copy_from_slice(&first.to_be_bytes());
+    bytes[12..16].copy_from_slice(&dest.to_be_bytes());
+    bytes[19] = 4;
+    bytes[36..40].copy_from_slice(&ask.to_be_bytes());
+    bytes[40..44].copy_from_slice(&id.to_be_bytes());
+    bytes
+}
+
+#[test]
+fn a_datagram_goes_by_its_destination_or_by_its_handshake(rt: HostRuntime) -> Result<(), Fail> {
+    let mut routes = Routes::new(rt.alloc(), 8, 8)?;
+    let peer = v4(20, 9000);
+    let stranger = v4(20, 9001);
+    for (own, id) in [(3, 5), (4, 6)] {
+        assert_eq!(rt; adopt_first(&mut routes, own, peer, id), Some(Ok(())));
+    }
+    for id in [3, 7, 9, 11] {
+        assert_eq!(rt; routes.enrol(id, 0), Ok(()));
+    }
+    let shake = 0x8000_0000;
+    let alive = 0x8001_0000;
+    // the sender, the first word, the destination, the connection type, the sender's ID, and how many bytes are sent
+    for (from, first, dest, ask, id, len, routed) in [
+        (peer, shake, 7, 1, 8, 15, Routed::DroppedShort),
+        (peer, 0, 7, 0, 0, 16, Routed::ToSocket(7)),
+        (peer, 0, 8, 0, 0, 16, Routed::DroppedId),
+        (peer, 0, 0, 0, 0, 16, Routed::DroppedShake),
+        (peer, alive, 0, 0, 0, 64, Routed::DroppedShake),
+        (peer, shake, 3, -1, 5, 64, Routed::ToSocket(3)),
+        (peer, shake, 7, -1, 5, 64, Routed::DroppedStale),
+        (peer, shake, 7, -1, 5, 63, Routed::ToSocket(7)),
+        (stranger, shake, 7, -1, 5, 64, Routed::ToSocket(7)),
+        (peer, shake, 4, -1, 6, 64, Routed::DroppedId),
+        (peer, shake, 0, 1, 5, 64, Routed::ToSocket(3)),
+        (peer, shake, 0, 1, 6, 64, Routed::DroppedStale),
+        (peer, shake, 0, 1, 8, 63, Routed::DroppedShake),
+        (peer, shake, 0, 1, 8, 64, Routed::DroppedShake),
+        (peer, shake, 0, 0, 8, 64, Routed::DroppedShake),
+    ] {
+        let bytes = datagram(first, dest, ask, id);
+        assert_eq!(rt; routes.destination_of(from, &bytes[..len.min(64)]), routed);
+    }
+    assert_eq!(rt; routes.set_listener(9), Ok(()));
+    assert_eq!(rt; routes.set_meeting(peer, 11), Ok(()));
+    for (from, ask, routed) in [
+        (peer, 1, Routed::ToSocket(9)),
+        (peer, 0, Routed::ToSocket(11)),
+        (stranger, 0, Routed::DroppedShake),
+        (peer, -1, Routed::DroppedShake),
+        (peer, 1002, Routed::DroppedShake),
+    ] {
+        let bytes = datagram(shake, 0, ask, 8);
+        assert_eq!(rt; routes.destination_of(from, &bytes), routed);
+    }
     Ok(())
 }

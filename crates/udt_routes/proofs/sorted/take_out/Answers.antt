@@ -1,6 +1,6 @@
 use Rattle.std.proofs.Common.{◌≡◌, ◌∙◌, ap, sym, Some, get_or, None}
 use Rattle.udt_routes.specs.Sorted.{value_at}
-use Rattle.udt_routes.proofs.SortedLemmas.{value_found, value_absent, takes_remove, takes_nothing, rising_remove}
+use Rattle.udt_routes.proofs.SortedLemmas.{value_found, value_absent, takes_remove, takes_nothing, removed_is, removed_none, rising_remove}
 use Rattle.udt_routes.proofs.sorted.take_out.Goals as goal
 
 -- the pair there has the key, so its value is the key's
@@ -13,6 +13,11 @@ returns-in-Ok-clause-value g c =
 pub returns-in-Ok-clause-next : goal.returns-in-Ok-clause-next
 returns-in-Ok-clause-next g c =
     rw c.remove.ensures.items (takes_remove g.met.K.Ord.total c.args.pairs.now.items c.requires c.args.key.now c.in-Ok.at c.in-Ok.ensures.found)
+
+-- no other pair goes
+pub returns-in-Ok-clause-entries : goal.returns-in-Ok-clause-entries
+returns-in-Ok-clause-entries g c =
+    rw c.remove.ensures.items (removed_is g.met.K.Ord.total c.args.pairs.now.items c.requires c.args.key.now c.in-Ok.at c.in-Ok.ensures.found)
 
 -- and the order stays
 pub returns-in-Ok-clause-order : goal.returns-in-Ok-clause-order
@@ -28,3 +33,8 @@ returns-in-Err-clause-value g c =
 pub returns-in-Err-clause-next : goal.returns-in-Err-clause-next
 returns-in-Err-clause-next g c =
     takes_nothing g.met.K.Ord.total c.args.pairs.now.items c.args.key.now (value_absent g.met.K.Ord.total c.args.pairs.now.items c.requires c.args.key.now _ c.in-Err.ensures.absent)
+
+-- and the list is what it was
+pub returns-in-Err-clause-entries : goal.returns-in-Err-clause-entries
+returns-in-Err-clause-entries g c =
+    removed_none g.met.K.Ord.total c.args.pairs.now.items c.args.key.now (value_absent g.met.K.Ord.total c.args.pairs.now.items c.requires c.args.key.now _ c.in-Err.ensures.absent)
