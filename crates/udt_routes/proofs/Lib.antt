@@ -4,3 +4,5 @@ mod PairLemmas
 mod MeetLemmas
 pub mod DrawerLemmas
 mod EachOnce
+mod KeepingChanges
+mod Noting

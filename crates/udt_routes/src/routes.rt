@@ -60,6 +60,13 @@ impl<R: Drop> Routes<R> {
         })
     }
 
+    // Whether an ID can be enrolled.
+    pub(crate) fn can_enrol(&self, id: u32) -> bool
+        ensures { result ≡ can_enrol self.now id }
+    {
+        self.enrolled.len() < self.live as usize && find(&self.enrolled, &id).is_none()
+    }
+
     /// Enrols a socket. Err gives it back where its ID is enrolled, or as many are as may be.
     pub fn enrol(&mut self, id: u32, what: R) -> Result<(), R>
         ensures exact { is_ok result ≡ can_enrol self.old id }
@@ -68,7 +75,7 @@ impl<R: Drop> Routes<R> {
         ensures given_back { IfErr result (λ back. back ≡ what) }
         ensures err { OnErr result (self.new ≡ self.old) }
     {
-        if self.enrolled.len() >= self.live as usize || find(&self.enrolled, &id).is_some() {
+        if !self.can_enrol(id) {
             return Err(what);
         }
         put(&mut self.enrolled, id, what);
@@ -171,6 +178,13 @@ impl<R: Drop> Routes<R> {
         }
     }
 
+    // Whether a socket can meet an address.
+    pub(crate) fn can_meet(&self, to: Addr, id: u32) -> bool
+        ensures { result ≡ can_meet self.now.live self.now.meetings to id }
+    {
+        self.meetings.can_meet(to, id)
+    }
+
     /// Lets a socket meet an address, where no socket meets it, this one meets none, and fewer are met
     /// than may be.
     pub fn set_meeting(&mut self, to: Addr, id: u32) -> Result<(), MeetTaken>
@@ -179,7 +193,7 @@ impl<R: Drop> Routes<R> {
         ensures table { OnOk result (self.new ≡ with_meeting self.old to id) }
         ensures err { OnErr result (self.new ≡ self.old) }
     {
-        if !self.meetings.can_meet(to, id) {
+        if !self.can_meet(to, id) {
             return Err(MeetTaken);
         }
         self.meetings.meet(to, id);
