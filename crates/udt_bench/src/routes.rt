@@ -113,7 +113,9 @@ fn report<R: Print>(rt: &R, readers: u32, seen: (u32, u32), took: Duration) -> i
     } else {
         "some not found"
     };
-    println!(rt; "routes, {readers} readers: {rate} look-ups a second, {found}, beside {changes} changes a second")?;
+    println!(rt;
+        "routes, {readers} readers: {rate} look-ups a second, {found}, beside {changes} changes a second"
+    )?;
     Ok(())
 }
 

@@ -1,5 +1,5 @@
 -- Readings and publishes keep the rule of the changes that are published.
-use Rattle.std.proofs.Common.{◌≡◌, ◌≢◌, ◌⊎◌, ℕ, Bool, true, false, cond, List, [], ◌∷◌, ◌++◌, Option, Some, None, IfSome, fold, set, refl, sym, ap, ◌∙◌, subst, inl, inr, ⊎_elim, append_assoc, true≢false}
+use Rattle.std.proofs.Common.{◌≡◌, ◌≢◌, ℕ, Bool, true, false, cond, List, [], ◌∷◌, ◌++◌, Some, IfSome, fold, set, refl, sym, ap, ◌∙◌, subst, ⊎_elim, append_assoc, true≢false}
 use Rattle.std.proofs.lemmas.List.{append-nil}
 use Rattle.std.proofs.lemmas.List.Sums.{fold-append}
 use mathlib.Core.Option.{some}
@@ -14,7 +14,7 @@ use Rattle.udt_routes.specs.declared.published.View.{View}
 use Rattle.udt_routes.specs.Changes.{IdTable, after, table_after}
 use Rattle.udt_routes.specs.Copies.{CopyState, applied, changes_in}
 use Rattle.udt_routes.specs.Meets.{meeter_of, is_meeter, can_meet}
-use Rattle.udt_routes.specs.Publishing.{StartsWith, newcomer, Knows, Keeps, Reads, Publishes, IsPublishing, CanPublish, told, informed}
+use Rattle.udt_routes.specs.Publishing.{newcomer, Knows, Keeps, Reads, Publishes, IsPublishing, CanPublish, told, informed}
 use Rattle.udt_routes.specs.Tables.{empty_table, can_enrol, with_enrolled, with_meeting}
 use Rattle.std.specs.Option.{is_some}
 use Rattle.std.specs.Map.{remove_entry}

@@ -6,3 +6,4 @@ pub mod DrawerLemmas
 mod EachOnce
 mod KeepingChanges
 mod Noting
+mod Origins

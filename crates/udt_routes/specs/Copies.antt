@@ -1,5 +1,5 @@
 -- What two copies of a table have in common.
-use Rattle.std.specs.Prelude.{◌≡◌, Bool, true, List, [], ◌∷◌, fold}
+use Rattle.std.specs.Prelude.{Bool, true, List, [], ◌∷◌}
 use Rattle.udt_routes.specs.declared.changes.Change.{Change}
 use Rattle.udt_routes.specs.declared.table_copy.Operation.{Operation}
 use Rattle.udt_routes.specs.declared.table_copy.Operation.TheVariants.{Open, Make}

@@ -1,5 +1,5 @@
 -- The one look-up in a table on which it depends where a datagram goes.
-use Rattle.std.specs.Prelude.{◌≡◌, ℕ, ◌==◌, false, List, Option, Some, None, Result, Ok, Err, if◌then◌else◌}
+use Rattle.std.specs.Prelude.{◌≡◌, ℕ, false, List, Option, Some, None, Result, Ok, Err, if◌then◌else◌}
 use Rattle.udt_model.specs.declared.addresses.Addr.{Addr}
 use Rattle.udt_model.specs.declared.handshakes.Asked.{Asked}
 use Rattle.udt_model.specs.declared.handshakes.Asked.TheVariants as asks
@@ -8,7 +8,8 @@ use Rattle.udt_model.specs.Handshakes.{asked}
 use Rattle.udt_routes.specs.declared.routing.Want.{Want}
 use Rattle.udt_routes.specs.declared.routing.Want.TheVariants.{Id, Listener, Meeting}
 use Rattle.udt_routes.specs.declared.routing.Routed.{Routed}
-use Rattle.udt_routes.specs.declared.routing.Routed.TheVariants.{ToSocket, DroppedShort, DroppedId, DroppedShake, DroppedStale}
+use Rattle.udt_routes.specs.declared.routing.Routed.TheVariants.{ToSocket, DroppedId}
+use Rattle.udt_routes.specs.declared.routing.Routed.TheVariants.{DroppedShake, DroppedStale}
 use Rattle.udt_routes.specs.declared.routing.Lookup.{Lookup}
 use Rattle.udt_routes.specs.Pairs.{Pair}
 use Rattle.udt_routes.specs.Routing.{adopter_in, is_other, route_by}
@@ -43,7 +44,11 @@ type_lookup from asks.Other = Err DroppedShake
 module _ (adopter : Pair → Option ℕ) (from : Addr) where
   -- for a datagram that names a socket
   abbrev pub named_lookup : ℕ → Option Shake → Lookup
-  named_lookup dest shake = record { want = Id dest; stale = is_other dest (adopter_in adopter from shake); absent = DroppedId }
+  named_lookup dest shake = record {
+    want = Id dest;
+    stale = is_other dest (adopter_in adopter from shake);
+    absent = DroppedId;
+  }
 
   -- for a handshake, by which ID has adopted its sender
   abbrev pub adopter_lookup : Option ℕ → Shake → Result Lookup Routed
@@ -57,4 +62,5 @@ module _ (adopter : Pair → Option ℕ) (from : Addr) where
 
   -- the look-up decides where the datagram goes, whatever is found
   abbrev pub Decides : List ℕ → Result Lookup Routed → Type 0
-  Decides bytes lookup = (found : Want → Option ℕ) → FindsItself found → decided lookup found ≡ route_by found adopter from bytes
+  Decides bytes lookup =
+      (found : Want → Option ℕ) → FindsItself found → decided lookup found ≡ route_by found adopter from bytes

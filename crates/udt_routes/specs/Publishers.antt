@@ -1,5 +1,5 @@
 -- How two copies stand for what is published.
-use Rattle.std.specs.Prelude.{◌≡◌, true, drop}
+use Rattle.std.specs.Prelude.{drop}
 use Rattle.left_right.specs.Sides.{view}
 use Rattle.udt_routes.specs.Copies.{changes_in}
 use Rattle.udt_routes.specs.Publications.{Publication}

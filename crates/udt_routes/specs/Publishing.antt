@@ -1,5 +1,6 @@
 -- What readers and the writer know of the changes that are published.
-use Rattle.std.specs.Prelude.{◌≡◌, ◌⊎◌, ℕ, Bool, true, false, List, [], ◌∷◌, ◌++◌, Option, Some, None, IfSome, unwrap_or}
+use Rattle.std.specs.Prelude.{◌≡◌, ◌⊎◌, ℕ, Bool, true, false, List, []}
+use Rattle.std.specs.Prelude.{◌++◌, Option, Some, None, IfSome, unwrap_or}
 use mathlib.Core.Option.{some}
 use lib.ListN.{get_elem?}
 use Rattle.udt_routes.specs.declared.changes.Change.{Change}
@@ -18,8 +19,8 @@ StartsWith changes seen = (rest : List Change) × (changes ≡ seen ++ rest)
 abbrev pub newcomer : View
 newcomer = record { live = None; seen = []; writes = false }
 
--- what one view knows is so, where a copy has this many places, these are all changes that were published, and the writer
--- has this seat
+-- what one view knows is so, where a copy has this many places, these are all changes that were published, and the
+-- writer has this seat
 pub record Knows (opened : Bool) (places : ℕ) (changes : List Change) (writer seat : ℕ) (v : View) : Type 0 where
   pub seen : StartsWith changes v.seen
   pub live : IfSome v.live (λ n. n ≡ places)
@@ -33,7 +34,9 @@ pub record Keeps (copy : CopyState) (views : List View) : Type 0 where
   pub writer : ℕ
   pub table : copy.table ≡ table_after copy.table.live changes
   pub closed : copy.opened ≡ false → changes ≡ []
-  pub each : (seat : ℕ) (v : View) → get_elem? views seat ≡ some v → Knows copy.opened copy.table.live changes writer seat v
+  pub each :
+      (seat : ℕ) (v : View) → get_elem? views seat ≡ some v
+      → Knows copy.opened copy.table.live changes writer seat v
 
 -- a reading: the changes that are seen afterwards begin with those that were seen before, and have made the copy
 pub record Reads (v : View) (before copy : CopyState) (w : View) : Type 0 where
@@ -61,7 +64,8 @@ CanPublish copy v = ((copy.opened ≡ false) × (v ≡ newcomer)) ⊎ (v.writes 
 abbrev pub seen_by : View → Seen
 seen_by v = record { live = unwrap_or v.live 0; seen = v.seen }
 
--- one look-up by a reader: what it then has seen begins with what it had seen, and makes the table that has what was found
+-- one look-up by a reader: what it then has seen begins with what it had seen, and makes the table that has what was
+-- found
 pub record ReadsFound (v : View) (want : Want) (found : Option ℕ) (w : View) : Type 0 where
   pub later : StartsWith w.seen v.seen
   pub same : w.live ≡ v.live

@@ -1,5 +1,6 @@
 -- Where a datagram goes: to a socket, or nowhere, for one of four reasons.
-use Rattle.std.specs.Prelude.{ℕ, ◌==◌, Bool, false, not, is_some, List, Option, Some, None, Result, Ok, Err, if◌then◌else◌}
+use Rattle.std.specs.Prelude.{ℕ, ◌==◌, Bool, false, not, is_some, List}
+use Rattle.std.specs.Prelude.{Option, Some, None, Result, Ok, Err, if◌then◌else◌}
 use Rattle.udt_model.specs.declared.addresses.Addr.{Addr}
 use Rattle.udt_model.specs.declared.handshakes.Asked.{Asked}
 use Rattle.udt_model.specs.declared.handshakes.Asked.TheVariants as asks
@@ -10,7 +11,8 @@ use Rattle.udt_model.specs.Wire.{Packet, Block, Handshake, KeepAlive, Ack, Nak, 
 use Rattle.udt_routes.specs.declared.routing.Want.{Want}
 use Rattle.udt_routes.specs.declared.routing.Want.TheVariants.{Id, Listener, Meeting}
 use Rattle.udt_routes.specs.declared.routing.Routed.{Routed}
-use Rattle.udt_routes.specs.declared.routing.Routed.TheVariants.{ToSocket, DroppedShort, DroppedId, DroppedShake, DroppedStale}
+use Rattle.udt_routes.specs.declared.routing.Routed.TheVariants.{ToSocket, DroppedShort, DroppedId}
+use Rattle.udt_routes.specs.declared.routing.Routed.TheVariants.{DroppedShake, DroppedStale}
 use Rattle.udt_routes.specs.Meets.{meeter_of}
 use Rattle.udt_routes.specs.Pairs.{Pair, adopter_of}
 use Rattle.udt_routes.specs.Tables.{Table, what_of}

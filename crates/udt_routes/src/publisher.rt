@@ -37,10 +37,13 @@ impl Model for Publisher {
 fn show<N: Naming, R: Wait>(copies: Copies, rt: &R) -> Copies
     requires named { N.changes ≡ changes_in (drop copies.behind copies.log.items) }
     requires ready { CanPublish copies.desk.shown.value (view copies.desk.place) }
-    requires opens { (fold applied copies.desk.shown.value (drop copies.behind copies.log.items)).opened ≡ true }
-    ensures copy { result.desk.shown.value ≡ fold applied copies.desk.shown.value (drop copies.behind copies.log.items) }
+    requires opens { (fold applied copies.desk.shown.value (drop copies.behind copies.log.items)).opened
+        ≡ true }
+    ensures copy { result.desk.shown.value
+        ≡ fold applied copies.desk.shown.value (drop copies.behind copies.log.items) }
     ensures pending { drop result.behind result.log.items ≡ [] }
-    ensures view { Publishes N.changes (view copies.desk.place) copies.desk.shown.value result.desk.shown.value (view result.desk.place) }
+    ensures view { Publishes N.changes (view copies.desk.place)
+        copies.desk.shown.value result.desk.shown.value (view result.desk.place) }
 {
     match copies.publish_as::<Publish<N>, R>(rt) {
         (copies, Ok(())) => copies,
@@ -48,10 +51,11 @@ fn show<N: Naming, R: Wait>(copies: Copies, rt: &R) -> Copies
     }
 }
 
-// The same, where all that is pending is for those readers that have begun already.
+// The same, once the copies are opened.
 fn show_pending<R: Wait>(copies: Copies, rt: &R) -> (Copies, ())
     requires { IsPublishing copies.desk.shown.value (view copies.desk.place) }
-    ensures copy { result.0.desk.shown.value ≡ fold applied copies.desk.shown.value (drop copies.behind copies.log.items) }
+    ensures copy { result.0.desk.shown.value
+        ≡ fold applied copies.desk.shown.value (drop copies.behind copies.log.items) }
     ensures pending { drop result.0.behind result.0.log.items ≡ [] }
     ensures view { Publishes (changes_in (drop copies.behind copies.log.items)) (view copies.desk.place)
         copies.desk.shown.value result.0.desk.shown.value (view result.0.desk.place) }
@@ -107,7 +111,8 @@ impl Publisher {
     // Publishes all changes that are pending, at once. It waits for readers that still read what was published before
     // the last publish.
     pub(crate) fn publish<R: Wait>(&mut self, rt: &R)
-        ensures { self.new ≡ record self.old { published = self.old.published ++ self.old.pending; pending = [] } }
+        ensures { self.new
+            ≡ record self.old { published = self.old.published ++ self.old.pending; pending = [] } }
     {
         replace_with(&mut self.copies, rt, show_pending);
     }

@@ -1,6 +1,6 @@
 // The end that reads.
 
-ghost use Rattle.std.specs.Prelude.{◌≡◌, is_some, true, IfOk, IfErr};
+ghost use Rattle.std.specs.Prelude.{◌≡◌, is_some, true, IfOk, IfErr, IfSome};
 ghost use Rattle.left_right.specs.Sides.{view};
 ghost use Rattle.udt_routes.specs.Publishing.{ReadsFound, seen_by};
 
@@ -29,7 +29,8 @@ impl Model for RouteReader {
 }
 
 impl RouteReader {
-    ghost use Rattle.udt_routes.specs.Changes.{table_after};
+    ghost use Rattle.std.specs.List.{Contains};
+    ghost use Rattle.udt_routes.specs.Changes.{table_after, change_for};
     ghost use Rattle.udt_routes.specs.Publishing.{StartsWith};
     ghost use Rattle.udt_routes.specs.Routing.{found_in};
 
@@ -47,6 +48,7 @@ impl RouteReader {
         ensures later { StartsWith self.new.seen self.old.seen }
         ensures live { self.new.live ≡ self.old.live }
         ensures value { result ≡ found_in (table_after self.new.live self.new.seen) want }
+        ensures some { IfSome result (λ id. Contains self.new.seen (change_for want id)) }
     {
         replace_with(&mut self.reader, (rt, want), read)
     }

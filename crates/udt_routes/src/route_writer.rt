@@ -1,6 +1,7 @@
 // The end that changes the routes.
 
-ghost use Rattle.std.specs.Prelude.{◌≡◌, ◌≢◌, ◌+◌, ◌<◌, ◌≤◌, ◌++◌, ◌↔◌, [], ◌∷◌, length, is_some, true, false, Some, OnOk, OnErr};
+ghost use Rattle.std.specs.Prelude.{◌≡◌, ◌≢◌, ◌+◌, ◌<◌, ◌≤◌, ◌++◌, ◌↔◌, [], ◌∷◌, length};
+ghost use Rattle.std.specs.Prelude.{is_some, true, false, Some, OnOk, OnErr};
 ghost use Rattle.std.specs.Bool.{OnTrue, OnFalse};
 ghost use Rattle.std.specs.Result.{IsErrOf};
 ghost use Rattle.std.specs.VecDeque.{deque_len, deque_capacity};
@@ -36,7 +37,8 @@ impl Model for RouteWriter {
 }
 
 impl RouteWriter {
-    ghost use Rattle.udt_routes.specs.declared.changes.Change.TheVariants.{Enrol, Leave, SetListener, ClearListener, SetMeeting, ClearMeeting};
+    ghost use Rattle.udt_routes.specs.declared.changes.Change.TheVariants.{Enrol, Leave, SetListener, ClearListener};
+    ghost use Rattle.udt_routes.specs.declared.changes.Change.TheVariants.{SetMeeting, ClearMeeting};
     ghost use Rattle.udt_routes.specs.Meets.{meeter_of, can_meet};
     ghost use Rattle.udt_routes.specs.Tables.{empty_table, can_enrol, what_of};
     ghost use Rattle.udt_routes.specs.Publications.{publishing, noting};
@@ -90,7 +92,8 @@ impl RouteWriter {
     /// Lets a socket meet an address, and publishes it after all removals that wait. MeetTaken where the address is
     /// met, the socket meets one, or as many are met as may be.
     pub fn set_meeting<R: Wait>(&mut self, rt: &R, to: Addr, id: u32) -> Result<(), MeetNo>
-        ensures taken { IsErrOf result MeetNo.MeetTaken ↔ (can_meet self.old.table.live self.old.table.meetings to id ≡ false) }
+        ensures taken { IsErrOf result MeetNo.MeetTaken
+            ↔ (can_meet self.old.table.live self.old.table.meetings to id ≡ false) }
         ensures ok { OnOk result (self.new ≡ publishing self.old (SetMeeting to id)) }
         ensures err { OnErr result (self.new ≡ self.old) }
     {
@@ -131,7 +134,8 @@ impl RouteWriter {
     /// Frees an address, where this ID meets it. Readers see it with the next change that is published.
     pub fn clear_meeting(&mut self, to: Addr, id: u32)
         requires room { length self.old.waiting < 2 }
-        ensures held { meeter_of self.old.table.meetings to ≡ Some id → self.new ≡ noting self.old (ClearMeeting to id) }
+        ensures held { meeter_of self.old.table.meetings to ≡ Some id
+            → self.new ≡ noting self.old (ClearMeeting to id) }
         ensures kept { meeter_of self.old.table.meetings to ≢ Some id → self.new ≡ self.old }
     {
         if self.own.meeting(to) == Some(id) {

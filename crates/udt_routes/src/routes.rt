@@ -35,12 +35,14 @@ impl<R> Model for Routes<R> {
 }
 
 impl<R: Drop> Routes<R> {
-    ghost use Rattle.std.specs.Prelude.{◌≡◌, ◌≢◌, ◌<◌, ◌++◌, [], ◌∷◌, length, is_some, is_ok, not, IfOk, IfErr, OnOk, OnErr, Some, None};
+    ghost use Rattle.std.specs.Prelude.{◌≡◌, ◌≢◌, ◌<◌, ◌++◌, [], ◌∷◌, length, is_some, is_ok, not, Some, None};
+    ghost use Rattle.std.specs.Prelude.{IfOk, IfErr, OnOk, OnErr};
     ghost use Rattle.std.specs.Option.{option_copied};
     ghost use Rattle.udt_routes.specs.Pairs.{pair_of, adopter_of, IsAdoptedOnce};
     ghost use Rattle.udt_routes.specs.Meets.{met_by, meeter_of, can_meet, IsMetOnce};
     ghost use Rattle.udt_routes.specs.Routing.{found_in, route};
-    ghost use Rattle.udt_routes.specs.Tables.{empty_table, what_of, can_enrol, listener_without, Enrols, Leaves, MeetsOnly};
+    ghost use Rattle.udt_routes.specs.Tables.{empty_table, what_of, can_enrol, listener_without};
+    ghost use Rattle.udt_routes.specs.Tables.{Enrols, Leaves, MeetsOnly};
     ghost use Rattle.udt_routes.specs.Tables.{with_enrolled, without, with_meeting, without_meeting};
 
     /// A table of no sockets, for at most so many adoptions and so many enrolled sockets. All memory is
@@ -128,7 +130,8 @@ impl<R: Drop> Routes<R> {
         requires first { pair_of self.old.adoptions own ≡ None }
         requires room { length self.old.adoptions < self.old.ids }
         ensures exact { is_ok result ≡ not (is_some (adopter_of self.old.adoptions (addr, peer))) }
-        ensures ok { OnOk result (self.new ≡ record self.old { adoptions = self.old.adoptions ++ (own, (addr, peer)) ∷ [] }) }
+        ensures ok { OnOk result
+            (self.new ≡ record self.old { adoptions = self.old.adoptions ++ (own, (addr, peer)) ∷ [] }) }
         ensures err { OnErr result (self.new ≡ self.old) }
         ensures once { IsAdoptedOnce self.new.adoptions }
     {

@@ -1,5 +1,4 @@
-use Rattle.std.proofs.Common.{◌≡◌, ◌+◌, ◌≤◌, ◌++◌, replicate, vec_len, vec_capacity}
-use Rattle.udt_routes.specs.Publications.{Seen}
+use Rattle.std.proofs.Common.{◌≡◌, ◌+◌, ◌++◌, replicate, vec_len, vec_capacity}
 use Rattle.udt_routes.proofs.sharing.add_readers.Given as goal
 
 -- each reader so far has seen what is published

@@ -1,5 +1,4 @@
-use Rattle.std.proofs.Common.{refl}
-use Rattle.udt_routes.proofs.KeepingChanges.{keeps_first, opens_first}
+use Rattle.udt_routes.proofs.KeepingChanges.{keeps_first}
 use Rattle.udt_routes.proofs.publisher.Publisher.new.Goals as goal
 
 -- nothing is published yet

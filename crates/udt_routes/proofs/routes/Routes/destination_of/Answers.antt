@@ -1,4 +1,4 @@
-use Rattle.std.proofs.Common.{◌≡◌, ℕ, Bool, true, false, cond, is_some, Some, None, ap, ◌∙◌}
+use Rattle.std.proofs.Common.{◌≡◌, Bool, true, false, cond, is_some, Some, None, ap, ◌∙◌}
 use Rattle.udt_routes.specs.Lookups.{routed_by, FindsItself}
 use Rattle.udt_routes.specs.Pairs.{adopter_of}
 use Rattle.udt_routes.specs.Routing.{found_in, route_by, route}
