@@ -1,6 +1,6 @@
 // The calls of the application, and what the owner of the port asks.
 
-ghost use Rattle.std.specs.Prelude.{◌≡◌, ◌+◌, ◌<◌, ◌≤◌, [], length, drop, Ok, IfOk, OnErr};
+ghost use Rattle.std.specs.Prelude.{◌≡◌, ◌+◌, ◌-◌, ◌^◌, ◌<◌, ◌≤◌, [], length, drop, Ok, IfOk, OnErr};
 ghost use Rattle.udt_model.specs.Step.{step};
 ghost use Rattle.udt_model.specs.Events.{Send, Recv, SendMessage, RecvMessage, Pack, Close, Measure, Sent, Received, SentMessage, ReceivedMessage, DidPack, DidMeasure, at_moment, event, outs_of};
 ghost use Rattle.udt_model.specs.Calls.{packed_so, gives, gives_message, perf_of, refusal_of as why_of, closed_from as after_closing};
@@ -266,6 +266,23 @@ impl<C: Control> Socket<C> {
             ≡ moments.not_before_any self.now.last (pack_moment C.ways self.now.sending) }
     {
         not_before(self.last, self.sending.pack_moment()?)
+    }
+
+    /// Its own socket ID.
+    pub fn own(&self) -> u32
+        ensures { result ≡ self.now.own }
+    {
+        self.own
+    }
+
+    /// The socket with this many events counted, in place of those that it had. Tests of the last
+    /// count begin with it.
+    pub fn counted(mut self, count: u64) -> Socket<C>
+        requires { count ≤ 2 ^ 55 - 1 }
+        ensures { result ≡ record self { count = count } }
+    {
+        self.count = count;
+        self
     }
 
     /// How many events there were.

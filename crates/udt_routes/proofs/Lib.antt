@@ -1,0 +1,9 @@
+mod SortedLemmas
+mod KeyLemmas
+mod PairLemmas
+mod MeetLemmas
+pub mod DrawerLemmas
+mod EachOnce
+mod KeepingChanges
+mod Noting
+mod Origins
