@@ -22,7 +22,7 @@ after t (ClearListener id) = record t { listener = listener_without t.listener i
 after t (SetMeeting to id) = if can_meet t.live t.meetings to id then with_meeting t to id else t
 after t (ClearMeeting to id) = without_meeting t to id
 
--- what changes make of the table of no sockets in which so many may be enrolled
+-- what changes make of the table of no sockets in which this number may be enrolled
 abbrev pub table_after : ℕ → List Change → IdTable
 table_after live changes = fold after (empty_table 0 live) changes
 

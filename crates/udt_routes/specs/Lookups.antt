@@ -14,19 +14,21 @@ use Rattle.udt_routes.specs.declared.routing.Lookup.{Lookup}
 use Rattle.udt_routes.specs.Pairs.{Pair}
 use Rattle.udt_routes.specs.Routing.{adopter_in, is_other, route_by}
 
+-- the socket that was wanted by its ID, or the one that was found in a place
+abbrev pub socket_of : Want → ℕ → ℕ
+socket_of (Id id) found = id
+socket_of Listener found = found
+socket_of (Meeting from) found = found
+
 -- where the datagram goes, once this ID was found, or none
 abbrev pub routed_by : Lookup → Option ℕ → Routed
 routed_by lookup None = lookup.absent
-routed_by lookup (Some id) = if lookup.stale then DroppedStale else ToSocket id
+routed_by lookup (Some found) = if lookup.stale then DroppedStale else ToSocket (socket_of lookup.want found)
 
 -- where it goes by what is found of each want
 abbrev pub decided : Result Lookup Routed → (Want → Option ℕ) → Routed
 decided (Ok lookup) found = routed_by lookup (found lookup.want)
 decided (Err routed) found = routed
-
--- what is found under an ID is that ID
-abbrev pub FindsItself : (Want → Option ℕ) → Type 0
-FindsItself found = (id other : ℕ) → found (Id id) ≡ Some other → other ≡ id
 
 -- which look-up a listener or a meeting socket needs
 abbrev pub place_lookup : Want → Lookup
@@ -62,5 +64,4 @@ module _ (adopter : Pair → Option ℕ) (from : Addr) where
 
   -- the look-up decides where the datagram goes, whatever is found
   abbrev pub Decides : List ℕ → Result Lookup Routed → Type 0
-  Decides bytes lookup =
-      (found : Want → Option ℕ) → FindsItself found → decided lookup found ≡ route_by found adopter from bytes
+  Decides bytes lookup = (found : Want → Option ℕ) → decided lookup found ≡ route_by found adopter from bytes

@@ -33,7 +33,7 @@ impl Model for Adoptions {
 }
 
 impl Adoptions {
-    /// No adoptions, with room for so many.
+    /// No adoptions, with room for this number.
     pub fn new(alloc: Global, ids: u32) -> Result<Adoptions, OutOfMemory>
         ensures { IfOk result (λ a. a ≡ record { ids = ids; adopted = [] }) }
     {

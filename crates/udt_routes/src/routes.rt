@@ -45,7 +45,7 @@ impl<R: Drop> Routes<R> {
     ghost use Rattle.udt_routes.specs.Tables.{Enrols, Leaves, MeetsOnly};
     ghost use Rattle.udt_routes.specs.Tables.{with_enrolled, without, with_meeting, without_meeting};
 
-    /// A table of no sockets, for at most so many adoptions and so many enrolled sockets. All memory is
+    /// A table of no sockets, for at most this number of adoptions and of enrolled sockets. All memory is
     /// taken here.
     pub fn new(alloc: Global, ids: u32, live: u32) -> Result<Routes<R>, OutOfMemory>
         ensures { IfOk result (λ t. t ≡ empty_table ids live) }

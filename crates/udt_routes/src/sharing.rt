@@ -12,8 +12,8 @@ use std::alloc::Global;
 use std::collections::VecDeque;
 use std::sync::Wait;
 
-/// The writer and the readers of routes on which nothing is enrolled. All memory of the tables is taken here: for so
-/// many sockets, as many meetings, and the removals that wait.
+/// The writer and the readers of routes on which nothing is enrolled. All memory of the tables is taken here: for
+/// `live` sockets, as many meetings, and the removals that wait.
 pub fn share<R: Wait>(
     rt: &R,
     alloc: Global,
@@ -21,7 +21,8 @@ pub fn share<R: Wait>(
     readers: u32,
 ) -> Result<(RouteWriter, Vec<RouteReader>), OutOfMemory>
     requires readers { (1 ≤ readers) × (readers ≤ 16) }
-    ensures writer { IfOk result (λ r. r.0 ≡ record { table = empty_table 0 live; published = []; waiting = [] }) }
+    ensures writer { IfOk result
+        (λ r. r.0 ≡ record { table = empty_table 0 live; published = []; waiting = [] }) }
     ensures readers { IfOk result (λ r. r.1.items ≡ replicate readers (record { live = live; seen = [] })) }
 {
     let own = Routes::new(alloc, 0, live)?;
@@ -37,7 +38,7 @@ pub fn share<R: Wait>(
     }
 }
 
-// Adds so many readers to a list that has room for them.
+// Adds this number of readers to a list that has room for them.
 fn add_readers(
     publisher: &mut Publisher,
     list: &mut Vec<RouteReader>,

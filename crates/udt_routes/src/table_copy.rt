@@ -60,7 +60,7 @@ impl Absorb<Operation> for TableCopy {
 }
 
 impl TableCopy {
-    // A copy of a table of no sockets, with room for so many, that isn't opened.
+    // A copy of a table of no sockets, with room for this number, that isn't opened.
     pub(crate) fn new(alloc: Global, live: u32) -> Result<TableCopy, OutOfMemory>
         ensures { IfOk result (λ c. c ≡ record { opened = false; table = empty_table 0 live }) }
     {

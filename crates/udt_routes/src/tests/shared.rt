@@ -76,7 +76,7 @@ fn change<R: Wait>(rt: &R, writer: &mut RouteWriter) -> bool {
     fine
 }
 
-// Reads until the last ID listens, and counts the readings that no published table has, or that go back behind the
+// Reads until the last ID listens, and counts the readings that no published table has, or that go back before the
 // last one. Each table in which an ID listens has that ID, and none before it; the next one is enrolled with the next
 // change, and listens with the one after it.
 fn watch<R: Wait>(rt: &R, mut reader: RouteReader) -> u32 {
