@@ -7,13 +7,14 @@ use Rattle.udt_model.specs.declared.answers.Dropped.TheVariants as dropped
 use Rattle.udt_model.specs.declared.answers.Heard.TheVariants as heard
 use Rattle.udt_model.specs.declared.packets.Kind.{Kind}
 use Rattle.udt_model.specs.declared.packets.Kind.TheVariants as kind
-use Rattle.udt_model.specs.declared.answers.Phase.{Phase}
-use Rattle.udt_model.specs.declared.answers.Phase.TheVariants as phase
+use Rattle.udt_model.specs.Phases.{Phase}
+use Rattle.udt_model.specs.Phases as phase
 use Rattle.udt_model.specs.declared.answers.Placed.{Placed}
 use Rattle.udt_model.specs.declared.answers.Placed.TheVariants as placing
 use Rattle.udt_model.specs.declared.packets.AckBody.{AckBody}
 use Rattle.udt_model.specs.declared.sockets.SentAck.{SentAck}
-use Rattle.udt_model.specs.Arrivals.{heard_of, has_bad_length, count_stale, count_foreign, arrived_so, dropped_so, drop_as, confirmed_so, is_own, heard_now, acked_so, reported_so, on_own, packet_in}
+use Rattle.udt_model.specs.Arrivals.{heard_of, has_bad_length, arrived_so, dropped_so, drop_as, confirmed_so, is_own, heard_now, acked_so, reported_so, on_own, packet_in}
+use Rattle.udt_model.specs.Counted.{count_stale, count_foreign}
 use Rattle.udt_model.specs.Events.{DidHear, answered}
 use Rattle.udt_model.specs.Losses.{LostRange}
 use Rattle.udt_model.specs.Rate.{Ways}

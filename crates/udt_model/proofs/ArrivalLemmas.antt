@@ -8,8 +8,8 @@ use Rattle.udt_model.specs.declared.answers.Arrived.{Arrived}
 use Rattle.udt_model.specs.declared.answers.Cause.TheVariants as cause
 use Rattle.udt_model.specs.declared.answers.Heard.{Heard}
 use Rattle.udt_model.specs.declared.answers.Heard.TheVariants as heard
-use Rattle.udt_model.specs.declared.answers.Phase.{Phase}
-use Rattle.udt_model.specs.declared.answers.Phase.TheVariants as phase
+use Rattle.udt_model.specs.Phases.{Phase}
+use Rattle.udt_model.specs.Phases as phase
 use Rattle.udt_model.specs.declared.packets.AckBody.{AckBody}
 use Rattle.udt_model.specs.declared.packets.Flags.{Flags}
 use Rattle.udt_model.specs.declared.packets.Kind.{Kind}
@@ -18,7 +18,8 @@ use Rattle.udt_model.specs.declared.packets.Malformed.{Malformed}
 use Rattle.udt_model.specs.declared.sockets.Counters.{Counters}
 use Rattle.udt_model.specs.declared.sockets.SentAck.{SentAck}
 use Rattle.udt_model.specs.Addresses.{same_addr}
-use Rattle.udt_model.specs.Arrivals.{count_stale, count_control, count_foreign, has_bad_length, heard_now, emitted_by_gap, emitted_by_ack2, acked_so, reported_so, confirmed_so, arrived_so, dropped_so, drop_as, on_control, on_block, on_own, on_connected, is_own, packet_in, on_read}
+use Rattle.udt_model.specs.Arrivals.{has_bad_length, heard_now, emitted_by_gap, emitted_by_ack2, acked_so, reported_so, confirmed_so, arrived_so, dropped_so, drop_as, on_block, on_own, on_connected, is_own, packet_in, on_read}
+use Rattle.udt_model.specs.Counted.{count_stale, count_control, count_foreign, on_control}
 use Rattle.udt_model.specs.Events.{Outcome, answered, DidHear}
 use Rattle.udt_model.specs.Losses.{LostRange}
 use Rattle.udt_model.specs.Rate.{Ways}

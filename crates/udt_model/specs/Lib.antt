@@ -13,10 +13,15 @@ pub mod SendReports
 pub mod ReceiveHalf
 pub mod ReceiveReports
 pub mod ReceiveOrder
+pub mod Handshakes
+pub mod Phases
 pub mod State
 pub mod Events
 pub mod Calls
+pub mod Connections
+pub mod Counted
 pub mod Ticks
+pub mod Shaking
 pub mod Arrivals
 pub mod Readiness
 pub mod Opening
@@ -31,6 +36,5 @@ pub mod Script
 pub mod Emissions
 pub mod Records
 pub mod Honest
-pub mod Handshakes
 pub mod Draws
 pub mod Generated

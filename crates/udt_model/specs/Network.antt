@@ -4,7 +4,7 @@ use Rattle.udt_model.specs.declared.addresses.Addr.{Addr}
 use Rattle.udt_model.specs.declared.addresses.Ip.TheVariants.{V4}
 use Rattle.udt_model.specs.Addresses.{same_addr}
 use Rattle.udt_model.specs.Wire.{target}
-use Rattle.udt_model.specs.Readiness.{is_closed}
+use Rattle.udt_model.specs.Phases.{is_closed}
 use Rattle.udt_model.specs.History.{History, state_of}
 use Rattle.udt_model.specs.Rate.{Ways}
 use Rattle.udt_model.specs.Words.{is_word}

@@ -5,14 +5,16 @@ use Rattle.udt_model.specs.declared.answers.Heard.{Heard}
 use Rattle.udt_model.specs.declared.answers.Packed.{Packed}
 use Rattle.udt_model.specs.declared.answers.Perf.{Perf}
 use Rattle.udt_model.specs.declared.answers.Refusal.{Refusal}
+use Rattle.udt_model.specs.declared.answers.Shaken.{Shaken}
 use Rattle.udt_model.specs.declared.packets.Malformed.{Malformed}
 use Rattle.udt_model.specs.declared.answers.Cause.TheVariants as cause
 use Rattle.udt_model.specs.declared.answers.Heard.TheVariants as heard
 use Rattle.udt_model.specs.declared.answers.Packed.TheVariants as packed
 use Rattle.udt_model.specs.declared.answers.Refusal.TheVariants as refusal
+use Rattle.udt_model.specs.declared.answers.Shaken.TheVariants as shaken
 use Rattle.udt_model.specs.declared.packets.Malformed.TheVariants as malformed
 use Rattle.udt_model.specs.Addresses.{address_text}
-use Rattle.udt_model.specs.Events.{Reply, Sent, Received, SentMessage, ReceivedMessage, DidPack, DidTick, DidClose, DidMeasure, DidHear}
+use Rattle.udt_model.specs.Events.{Reply, DidListen, DidConnect, DidMeet, Accepted, DidShake, DidOffer, DidWithdraw, Sent, Received, SentMessage, ReceivedMessage, DidPack, DidTick, DidClose, DidPortDown, DidMeasure, DidHear}
 use Rattle.udt_model.specs.Words.{hex_word}
 use Rattle.udt_model.specs.Lines.{Pairing}
 use Rattle.udt_model.specs.Network.{ScriptDatagram}
@@ -125,8 +127,29 @@ others_text p =
 unfoldable pub perf_text : Perf → List ℕ
 perf_text p = codes "perf" ++ path_text p ++ blocks_text p ++ others_text p
 
+-- a call that was done, or refused
+abbrev pub done_text : Result (Unit {0}) Refusal → List ℕ
+done_text (Ok done) = []
+done_text (Err why) = 32 ∷ no_text why
+
+-- what became of a connection
+abbrev pub shaken_text : Shaken → List ℕ
+shaken_text shaken.Idle = codes "idle"
+shaken_text shaken.Waiting = codes "waiting"
+shaken_text shaken.Done = codes "connected"
+shaken_text shaken.TimedOut = codes "refused 1001"
+shaken_text shaken.Rejected = codes "refused 1002"
+shaken_text (shaken.Lost why) = codes "refused 2001 " ++ cause_text why
+
 -- what an event is called, and what it answered
 abbrev pub reply_text : Reply → List ℕ
+reply_text (DidListen answer) = codes "listen" ++ done_text answer
+reply_text (DidConnect answer) = codes "connect" ++ done_text answer
+reply_text (DidMeet answer) = codes "meet" ++ done_text answer
+reply_text (Accepted answer) = codes "accept " ++ sent_text answer
+reply_text (DidShake answer) = codes "shake " ++ shaken_text answer
+reply_text (DidOffer answer) = codes "offer"
+reply_text DidWithdraw = codes "withdraw"
 reply_text (Sent answer) = codes "send " ++ sent_text answer
 reply_text (Received answer) = codes "recv " ++ received_text answer
 reply_text (SentMessage answer) = codes "sendmsg " ++ sent_text answer
@@ -134,6 +157,7 @@ reply_text (ReceivedMessage answer) = codes "recvmsg " ++ received_text answer
 reply_text (DidPack answer) = codes "pack " ++ packed_text answer
 reply_text DidTick = codes "tick"
 reply_text DidClose = codes "close"
+reply_text DidPortDown = codes "port"
 reply_text (DidMeasure answer) = perf_text answer
 reply_text (DidHear answer) = codes "arrive " ++ heard_text answer
 

@@ -11,7 +11,8 @@ mod sockets;
 
 pub use addresses::{Addr, Family, Ip};
 pub use answers::{
-    Arrived, Cause, Dropped, Heard, Packed, Peer, Perf, Phase, Placed, Refusal, SendNo,
+    Arrived, Cause, Dropped, Failure, Heard, NOBODY, Origin, Packed, Peer, Perf, Placed, Refusal, SendNo,
+    Shaken,
 };
 pub use handshakes::{
     Asked, COOKIE_LIFE, Caller, ClientSaw, MeetSaw, SIZE_OVER_PAYLOAD, VERSION, Verdict,

@@ -7,8 +7,8 @@ use Rattle.udt_model.specs.declared.addresses.Addr.{Addr}
 use Rattle.udt_model.specs.declared.packets.Kind.{Kind}
 use Rattle.udt_model.specs.declared.packets.Kind.TheVariants as kind
 use Rattle.udt_model.specs.State.{State, Datagram}
-use Rattle.udt_model.specs.declared.answers.Phase.{Phase}
-use Rattle.udt_model.specs.declared.answers.Phase.TheVariants as phase
+use Rattle.udt_model.specs.Phases.{Phase}
+use Rattle.udt_model.specs.Phases as phase
 use Rattle.udt_model.specs.Step.{step}
 use Rattle.udt_model.specs.Events.{Send, Recv, SendMessage, RecvMessage, Tick, Close, Measure, DidTick, DidClose, Event, Reply, event, at_moment, outs_of}
 use Rattle.udt_model.specs.Calls.{send_in, send_as, recv_in, recv_as, send_message_in, send_message_as, recv_message_in, recv_message_as}

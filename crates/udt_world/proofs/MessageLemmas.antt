@@ -1,8 +1,8 @@
 -- A socket that carries messages gives no bytes of a stream.
 use Rattle.std.proofs.Common.{◌≡◌, ℕ, Bool, List, [], refl, ap, ◌∙◌}
 use Rattle.std.specs.Prelude.{Option}
-use Rattle.udt_model.specs.declared.answers.Phase.{Phase}
-use Rattle.udt_model.specs.declared.answers.Phase.TheVariants as phase
+use Rattle.udt_model.specs.Phases.{Phase}
+use Rattle.udt_model.specs.Phases as phase
 use Rattle.udt_model.specs.declared.packets.Kind.{Kind}
 use Rattle.udt_model.specs.declared.packets.Kind.TheVariants as kind
 use Rattle.udt_model.specs.Calls.{send_in, send_as, recv_as, send_message_in, send_message_as, recv_message_in, recv_message_as, pack_in}

@@ -3,8 +3,8 @@ use Rattle.std.proofs.Common.{◌≡◌, ℕ, ◌+◌, ◌-◌, ◌*◌, ◌<◌
 use Rattle.std.specs.Prelude.{slice_get, codes, ◌&&◌, ◌||◌, nat_lt}
 use Rattle.std.proofs.lemmas.Bool.{ne_eqb}
 use Rattle.std.proofs.lemmas.Option.{slice_get-map, slice_get_past, slice_get_within}
-use Rattle.udt_model.specs.declared.answers.Phase.{Phase}
-use Rattle.udt_model.specs.declared.answers.Phase.TheVariants as phase
+use Rattle.udt_model.specs.Phases.{Phase}
+use Rattle.udt_model.specs.Phases as phase
 use Rattle.udt_model.specs.Addresses.{same_addr}
 use Rattle.udt_model.specs.Rate.{Ways}
 use Rattle.udt_model.specs.State.{State}

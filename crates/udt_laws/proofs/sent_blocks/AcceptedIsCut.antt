@@ -6,8 +6,8 @@ use Rattle.std.proofs.Math.Nat.{mul-le-mul_right}
 use Rattle.std.proofs.lemmas.Bool.{cases_lt}
 use Rattle.std.proofs.lemmas.List.{append_assoc, append-nil, length-append, length-map}
 use Rattle.udt_model.specs.declared.addresses.Addr.{Addr}
-use Rattle.udt_model.specs.declared.answers.Phase.{Phase}
-use Rattle.udt_model.specs.declared.answers.Phase.TheVariants as phase
+use Rattle.udt_model.specs.Phases.{Phase}
+use Rattle.udt_model.specs.Phases as phase
 use Rattle.udt_model.specs.declared.answers.SendNo.{SendNo}
 use Rattle.udt_model.specs.declared.packets.Kind.{Kind}
 use Rattle.udt_model.specs.declared.packets.Kind.TheVariants as kind

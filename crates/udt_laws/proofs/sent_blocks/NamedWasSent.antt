@@ -7,8 +7,8 @@ use Rattle.std.proofs.lemmas.Bool.{cases_Bool}
 use Rattle.std.proofs.lemmas.List.{length-append, length-map}
 use Rattle.std.proofs.lemmas.List.Elements.{Contains-push_cases}
 use Rattle.udt_model.specs.declared.addresses.Addr.{Addr}
-use Rattle.udt_model.specs.declared.answers.Phase.{Phase}
-use Rattle.udt_model.specs.declared.answers.Phase.TheVariants as phase
+use Rattle.udt_model.specs.Phases.{Phase}
+use Rattle.udt_model.specs.Phases as phase
 use Rattle.udt_model.specs.declared.answers.SendNo.{SendNo}
 use Rattle.udt_model.specs.declared.packets.Flags.{Flags}
 use Rattle.udt_model.specs.declared.packets.Kind.{Kind}

@@ -1,5 +1,5 @@
 use Rattle.std.proofs.Common.{◌≡◌, ◌≤◌, inl, inr}
-use Rattle.udt_model.specs.declared.answers.Phase.TheVariants as phase
+use Rattle.udt_model.specs.Phases as phase
 use Rattle.udt_core.specs.Sockets.{state_of}
 use Rattle.udt_core.proofs.MomentLemmas.{phase-is}
 use Rattle.udt_core.proofs.socket.Socket.next_moment.Goals as goal

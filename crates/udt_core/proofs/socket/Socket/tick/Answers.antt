@@ -1,6 +1,6 @@
 use Rattle.std.proofs.Common.{◌≡◌, List, ◌++◌, ◌∙◌, sym, ap, refl}
 use Rattle.std.proofs.lemmas.List.{map-append}
-use Rattle.udt_model.specs.declared.answers.Phase.TheVariants as phase
+use Rattle.udt_model.specs.Phases as phase
 use Rattle.udt_model.specs.Events.{at_moment}
 use Rattle.udt_model.specs.ReceiveReports.{ack_outcome, nak_report}
 use Rattle.udt_model.specs.State.{State, Emission}
