@@ -30,6 +30,7 @@ pub mod Moments
 pub mod History
 pub mod Words
 pub mod Lines
+pub mod Routes
 pub mod Network
 pub mod Texts
 pub mod Script

@@ -14,9 +14,9 @@ use Rattle.udt_model.specs.declared.answers.Refusal.TheVariants as refusal
 use Rattle.udt_model.specs.declared.answers.Shaken.TheVariants as shaken
 use Rattle.udt_model.specs.declared.packets.Malformed.TheVariants as malformed
 use Rattle.udt_model.specs.Addresses.{address_text}
-use Rattle.udt_model.specs.Events.{Reply, DidListen, DidConnect, DidMeet, Accepted, DidShake, DidOffer, DidWithdraw, Sent, Received, SentMessage, ReceivedMessage, DidPack, DidTick, DidClose, DidPortDown, DidMeasure, DidHear}
+use Rattle.udt_model.specs.Events.{Act, Offer, Reply, DidListen, DidConnect, DidMeet, Accepted, DidShake, DidOffer, DidWithdraw, Sent, Received, SentMessage, ReceivedMessage, DidPack, DidTick, DidClose, DidPortDown, DidMeasure, DidHear}
 use Rattle.udt_model.specs.Words.{hex_word}
-use Rattle.udt_model.specs.Lines.{Pairing}
+use Rattle.udt_model.specs.Lines.{Pairing, OpeningLine}
 use Rattle.udt_model.specs.Network.{ScriptDatagram}
 
 -- ---- what is printed
@@ -161,6 +161,11 @@ reply_text DidPortDown = codes "port"
 reply_text (DidMeasure answer) = perf_text answer
 reply_text (DidHear answer) = codes "arrive " ++ heard_text answer
 
+-- an offer tells of which socket
+abbrev pub told : Act → Reply → List ℕ
+told (Offer id) reply = codes "offer " ++ decimal id
+told act reply = reply_text reply
+
 -- a datagram and its number
 unfoldable pub datagram_text : ℕ → ScriptDatagram → List ℕ
 datagram_text number datagram =
@@ -173,8 +178,25 @@ datagrams_text number [] = []
 datagrams_text number (datagram ∷ datagrams) = datagram_text number datagram ++ datagrams_text (number + 1) datagrams
 
 -- a call's or an arrival's line
-unfoldable pub event_text : List ℕ → Reply → List ℕ
-event_text name reply = spaced name ++ ended (reply_text reply)
+unfoldable pub event_text : List ℕ → Act → Reply → List ℕ
+event_text name act reply = spaced name ++ ended (told act reply)
+
+-- the line of an accept that gives a connection, with its new name and its ID
+abbrev pub accept_text : List ℕ → List ℕ → ℕ → List ℕ
+accept_text name accepted id = spaced name ++ codes "accept " ++ spaced accepted ++ ended (decimal id)
+
+-- a place at the host is taken: that of the listener, or of an address that is met
+abbrev pub listen_twice_text : List ℕ → List ℕ
+listen_twice_text name = spaced name ++ ended (codes "listen refused 5011")
+
+abbrev pub meet_taken_text : List ℕ → List ℕ
+meet_taken_text name = spaced name ++ ended (codes "meet refused 5007")
+
+abbrev pub host_text : List ℕ → List ℕ
+host_text name = codes "host " ++ ended name
+
+abbrev pub open_text : OpeningLine → ℕ → List ℕ
+open_text o count = codes "open " ++ spaced o.name ++ ended (decimal (count + 1))
 
 abbrev pub pair_text : Pairing → ℕ → List ℕ
 pair_text p count =

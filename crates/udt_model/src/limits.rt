@@ -107,3 +107,6 @@ pub const LONGEST_LINE: u64 = 65_536;
 
 /// How many sockets a script may make.
 pub const MOST_SOCKETS: u64 = 1024;
+
+/// How many lines of a script may make hosts.
+pub const MOST_HOSTS: u64 = 64;
