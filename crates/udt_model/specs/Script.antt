@@ -227,18 +227,20 @@ module _ {C : Type 0} (w : Ways C) where
       (λ m. event_there m (length n.sockets) (event now (Arrive datagram.from datagram.bytes)))
       else event_there n place (event now Withdraw)
 
-  -- what follows what a socket has heard
-  abbrev pub followed_by : Network C → ℕ → ℕ → ScriptSocket C → ScriptDatagram → Option Shake → Reply → Printed C
-  followed_by n now place listener datagram (Some shake) (DidHear heard.Request) = offered n now place listener datagram shake
-  followed_by n now place listener datagram shake reply = record { network = n; text = [] }
+  -- what an arrival that was answered so leads to
+  abbrev pub followed_by : Printed C → ℕ → ℕ → ScriptSocket C → ScriptDatagram → Option Shake → Reply → Printed C
+  followed_by printed now place listener datagram (Some shake) (DidHear heard.Request) =
+      and_then printed (λ m. offered m now place listener datagram shake)
+  followed_by printed now place listener datagram shake reply = printed
 
   abbrev pub arrived : Network C → ℕ → ScriptDatagram → Route C → Printed C
   arrived n now datagram (ToSocket place socket) =
       let arrival : Event = event now (Arrive datagram.from datagram.bytes) in
-      and_then
+      followed_by
       (event_at n place socket arrival)
-      (λ m. followed_by m now place socket datagram (handshake_in (read datagram.bytes))
-      (step w (state_of w socket.history) arrival).reply)
+      now place socket datagram
+      (handshake_in (read datagram.bytes))
+      (step w (state_of w socket.history) arrival).reply
   arrived n now datagram (Nowhere word) = record { network = n; text = codes "dropped " ++ ended word }
 
   -- the arrival of a datagram, where there is one
