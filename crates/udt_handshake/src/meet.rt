@@ -1,6 +1,7 @@
 // A meeting socket's part in handshakes.
 
 ghost use Rattle.std.specs.Prelude.{◌≡◌, ◌^◌, ◌<◌, ◌≤◌, ◌==◌, Option, Some, None, if◌then◌else◌};
+ghost use Rattle.udt_model.specs.declared.handshakes.TheConstants.{SIZE_OVER_PAYLOAD};
 ghost use Rattle.udt_model.specs.declared.limits.TheConstants.{MOST_PAYLOAD};
 ghost use Rattle.udt_model.specs.declared.handshakes.MeetSaw.TheVariants as meet;
 ghost use Rattle.udt_model.specs.Handshakes.{meet_saw, meet_keeps, meet_request, meets_first, meets_answer, meets_agreement};
@@ -75,6 +76,7 @@ impl MeetShake {
 
     // A first handshake.
     fn on_first(&mut self, from: Addr, shake: &Shake) -> MeetSaw
+        requires size { SIZE_OVER_PAYLOAD < shake.now.packet }
         ensures value { result ≡ meets_first self.old from shake.now self.old.adopted }
         ensures next { self.new ≡ meet_keeps self.old result }
     {
@@ -91,6 +93,7 @@ impl MeetShake {
 
     // An answer.
     fn on_answer(&mut self, from: Addr, shake: &Shake) -> MeetSaw
+        requires size { SIZE_OVER_PAYLOAD < shake.now.packet }
         ensures value { result ≡ meets_answer self.old from shake.now self.old.adopted }
         ensures next { self.new ≡ meet_keeps self.old result }
     {

@@ -3,7 +3,7 @@
 ghost use Rattle.std.specs.Prelude.{◌≡◌, ◌+◌, ◌<◌, ◌≤◌, [], length, drop, Ok, IfOk, OnErr};
 ghost use Rattle.udt_model.specs.Step.{step};
 ghost use Rattle.udt_model.specs.Events.{Send, Recv, SendMessage, RecvMessage, Pack, Close, Measure, Sent, Received, SentMessage, ReceivedMessage, DidPack, DidMeasure, at_moment, event, outs_of};
-ghost use Rattle.udt_model.specs.Calls.{packed_so, gives, gives_message, perf_of, refusal_of as why_of, closed_from as after_closing};
+ghost use Rattle.udt_model.specs.Calls.{packed_so, gives, gives_message, perf_of, refusal_of as why_of};
 ghost use Rattle.udt_model.specs.Moments as moments;
 ghost use Rattle.udt_model.specs.Readiness.{ready_bits, has_readable};
 ghost use Rattle.udt_model.specs.SendHalf.{packing, pack_moment};
@@ -13,8 +13,9 @@ ghost use Rattle.udt_core.specs.Received.{received_in};
 use super::Socket;
 use crate::counts::risen;
 use crate::outs::Outs;
+use crate::phase::Phase;
 use std::marker::Model;
-use udt_model::{Kind, LAST_MOMENT, Packed, Perf, Phase, Refusal, SendNo};
+use udt_model::{Kind, LAST_MOMENT, Packed, Perf, Refusal, SHAKE_LIMIT, SendNo};
 use udt_rate::Control;
 use udt_receiver::Got;
 
@@ -39,7 +40,7 @@ impl<C: Control> Socket<C> {
                 Err(why) => Err(refusal_of(why)),
             },
             Phase::Broken(why) => Err(Refusal::ConnLost(why)),
-            Phase::Closing | Phase::Closed => Err(Refusal::NotConnected),
+            _ => Err(Refusal::NotConnected),
         }
     }
 
@@ -72,7 +73,7 @@ impl<C: Control> Socket<C> {
                 Err(why) => Err(refusal_of(why)),
             },
             Phase::Broken(why) => Err(Refusal::ConnLost(why)),
-            Phase::Closing | Phase::Closed => Err(Refusal::NotConnected),
+            _ => Err(Refusal::NotConnected),
         }
     }
 
@@ -97,7 +98,7 @@ impl<C: Control> Socket<C> {
         match self.phase {
             Phase::Connected => self.give(into, Refusal::AgainRecv),
             Phase::Broken(why) => self.give(into, Refusal::ConnLost(why)),
-            Phase::Closing | Phase::Closed => Err(Refusal::NotConnected),
+            _ => Err(Refusal::NotConnected),
         }
     }
 
@@ -124,7 +125,7 @@ impl<C: Control> Socket<C> {
         match self.phase {
             Phase::Connected => self.give_message(into, Refusal::AgainRecv),
             Phase::Broken(why) => self.give_message(into, Refusal::ConnLost(why)),
-            Phase::Closing | Phase::Closed => Err(Refusal::NotConnected),
+            _ => Err(Refusal::NotConnected),
         }
     }
 
@@ -171,7 +172,10 @@ impl<C: Control> Socket<C> {
         ensures { self.new ≡ (step C.ways self.old (event now Close)).after }
     {
         self.at(now);
-        self.phase = closed_from(self.phase);
+        self.phase = match self.phase {
+            Phase::Connected | Phase::Closing => Phase::Closing,
+            _ => Phase::Closed,
+        };
     }
 
     /// Emits the least lost block or else the next one, where the time has come and the socket is
@@ -187,7 +191,7 @@ impl<C: Control> Socket<C> {
         self.at(now);
         match self.phase {
             Phase::Connected => self.pack_next(outs),
-            Phase::Broken(_) | Phase::Closing | Phase::Closed => Packed::Nothing,
+            _ => Packed::Nothing,
         }
     }
 
@@ -248,16 +252,31 @@ impl<C: Control> Socket<C> {
         ensures value { result ≡ moments.next_moment C.ways self.now }
         ensures is { moments.IsNextMoment C.ways self.now result }
     {
-        match self.phase {
+        match &self.phase {
             Phase::Connected => {
                 let ack = not_before(self.last, self.receiving.ack_due());
                 let nak = not_before(self.last, self.receiving.nak_due());
                 let exp = not_before(self.last, self.exp_from + self.exp_interval());
                 sooner(sooner(ack, nak), sooner(exp, self.leaving_moment()))
             }
+            Phase::Connecting { client, again } => {
+                self.shaking_moment(client.caller().began, *again)
+            }
+            Phase::Meeting { meeting, again } => {
+                self.shaking_moment(meeting.caller().began, *again)
+            }
             Phase::Closing => Some(self.last),
-            Phase::Broken(_) | Phase::Closed => None,
+            _ => None,
         }
+    }
+
+    // The first moment, not before the last one, at which a socket that asks or meets emits its
+    // handshake again, or gives up.
+    fn shaking_moment(&self, began: u64, again: u64) -> Option<u64>
+        requires { began + SHAKE_LIMIT < 2 ^ 64 }
+        ensures { result ≡ moments.shaking_moment self.now began again }
+    {
+        not_before(self.last, again.min(began + SHAKE_LIMIT))
     }
 
     // The first moment, not before the last one, at which packing sends a block.
@@ -276,16 +295,19 @@ impl<C: Control> Socket<C> {
     }
 
     /// What the socket is ready for, as bits: 1 that bytes or a message can be read, 2 that some can be written, 4
-    /// that it is cut off or closed, 16 that it is connected, 32 that it is closed.
+    /// that it is cut off, failed or closed, 8 that a connection can be accepted, 16 that it is connected, 32 that it
+    /// is closed.
     #[tactic(auto, unfolding(udt_model::specs::Readiness::ready_bits))]
     pub fn bits(&self) -> u8
         ensures { result ≡ ready_bits self.now }
     {
-        match self.phase {
+        match &self.phase {
             Phase::Connected => { 16 + bit(self.readable()) + 2 * bit(self.sending.free() > 0) }
             Phase::Broken(_) => 4 + bit(self.readable()),
-            Phase::Closing => 0,
+            Phase::Listening(backlog) => 8 * bit(backlog.has_offered()),
+            Phase::Failed(_) => 4,
             Phase::Closed => 36,
+            _ => 0,
         }
     }
 
@@ -330,16 +352,6 @@ fn refusal_of(why: SendNo) -> Refusal
         SendNo::Again => Refusal::AgainSend,
         SendNo::Spent => Refusal::Spent,
         SendNo::TooLarge => Refusal::TooLarge,
-    }
-}
-
-// What closing makes of a phase.
-fn closed_from(phase: Phase) -> Phase
-    ensures { result ≡ after_closing phase }
-{
-    match phase {
-        Phase::Connected | Phase::Closing => Phase::Closing,
-        Phase::Broken(_) | Phase::Closed => Phase::Closed,
     }
 }
 
