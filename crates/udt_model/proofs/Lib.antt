@@ -10,6 +10,7 @@ pub mod FrontLemmas
 pub mod HalfLemmas
 pub mod TickLemmas
 pub mod HistoryLemmas
+pub mod PhaseLemmas
 pub mod ArrivalLemmas
 pub mod StepLemmas
 pub mod ReceivingSteps
