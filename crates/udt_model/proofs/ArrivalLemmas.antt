@@ -289,7 +289,7 @@ module _ {C : Type 0} (w : Ways C) where
     listener-shows : (b : Backlog) (stamp dest : ℕ) (shake : Shake) (a : Asked) → s.phase ≡ phase.Listening b
         → result ≡ Ok (Handshake stamp dest shake) → asked shake.ask ≡ a → P (listener_hears s b from dest shake a)
     listener-shows b stamp dest shake asks.Requests is reads asks = request-shows b stamp dest shake is reads asks
-    listener-shows b stamp dest shake other is reads asks = stale-shows
+    listener-shows b stamp dest shake _ is reads asks = stale-shows
 
     -- ---- a client
 
@@ -319,26 +319,26 @@ module _ {C : Type 0} (w : Ways C) where
 
     listening-shows : (b : Backlog) (packet : Packet) → s.phase ≡ phase.Listening b → result ≡ Ok packet → P (on_listening s b from packet)
     listening-shows b (Handshake stamp dest shake) is reads = listener-shows b stamp dest shake (asked shake.ask) is reads refl
-    listening-shows b other is reads = stale-shows
+    listening-shows b _ is reads = stale-shows
 
     connecting-shows : (c : Connecting) (again : ℕ) (packet : Packet) → s.phase ≡ phase.Connecting c again → result ≡ Ok packet
         → P (on_connecting w s c from packet)
     connecting-shows c again (Handshake stamp dest shake) is reads =
         client-shows c again stamp dest shake (client_saw c dest shake from) is reads refl
-    connecting-shows c again other is reads = stale-shows
+    connecting-shows c again _ is reads = stale-shows
 
     meeting-shows : (m : Meeting) (again : ℕ) (packet : Packet) → s.phase ≡ phase.Meeting m again → result ≡ Ok packet
         → P (on_meeting w s m again from packet)
     meeting-shows m again (Handshake stamp dest shake) is reads =
         meeter-shows m again stamp dest shake (meet_saw m dest shake from) is reads refl
-    meeting-shows m again other is reads = stale-shows
+    meeting-shows m again _ is reads = stale-shows
 
     packet-shows : (packet : Packet) (phase : Phase) → result ≡ Ok packet → s.phase ≡ phase → P (packet_in w s from packet phase)
     packet-shows packet phase.Connected reads is = connected-shows s from result P cases is packet reads
     packet-shows packet (phase.Listening b) reads is = listening-shows b packet is reads
     packet-shows packet (phase.Connecting c again) reads is = connecting-shows c again packet is reads
     packet-shows packet (phase.Meeting m again) reads is = meeting-shows m again packet is reads
-    packet-shows packet other reads is = stale-shows
+    packet-shows packet _ reads is = stale-shows
 
   -- what holds of all these outcomes holds of each arrival
   pub arrival-shows : (s : State C) (from : Addr) (P : Outcome C → Type 0) (result : Result Packet Malformed) → OfArrivals s from result P
