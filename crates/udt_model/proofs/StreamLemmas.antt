@@ -138,4 +138,5 @@ module _ {C : Type 0} (w : Ways C) where
     acknowledges = λ from raw number stamp body offset is sender reads acks. ack-none s.sending s.rtt body none;
     reports = λ ranges. nak-none s.sending s.rtt ranges none;
     times_out = timeout-none s.sending s.rtt none;
+    links = λ peer unsettled. none;
   })
