@@ -1,12 +1,11 @@
 -- What an arrival may do: either it passes by, or it is an arrival from the peer, which may carry a block, a message drop
 -- request, an ACK, a NAK, an ACK2, a handshake that is answered again or the end, or it is a handshake that comes to a socket
 -- which isn't settled.
-use Rattle.std.proofs.Common.{◌≡◌, ℕ, true, false, List, [], ◌∷◌, ◌++◌, Ok, Err, refl, subst}
+use Rattle.std.proofs.Common.{◌≡◌, ℕ, true, false, List, [], ◌∷◌, Ok, Err, refl, subst}
 use Rattle.std.specs.Prelude.{◌+◌, Bool, Result, Option, Some, None, not, ◌&&◌, ◌==◌, if◌then◌else◌}
 use Rattle.std.proofs.lemmas.Bool.{and_parts, eqb-true}
 use Rattle.udt_model.specs.declared.limits.TheConstants.{SHAKE_INTERVAL}
 use Rattle.udt_model.specs.declared.addresses.Addr.{Addr}
-use Rattle.udt_model.specs.declared.answers.Arrived.{Arrived}
 use Rattle.udt_model.specs.declared.answers.Cause.TheVariants as cause
 use Rattle.udt_model.specs.declared.answers.Failure.TheVariants as failure
 use Rattle.udt_model.specs.declared.answers.Heard.{Heard}
@@ -37,7 +36,7 @@ use Rattle.udt_model.specs.Arrivals.{has_bad_length, heard_now, emitted_by_gap, 
 use Rattle.udt_model.specs.Connections.{shake_emission}
 use Rattle.udt_model.specs.Counted.{count_stale, count_control, count_foreign, on_stale, on_control}
 use Rattle.udt_model.specs.Events.{Outcome, answered, DidHear}
-use Rattle.udt_model.specs.Handshakes.{Connecting, Meeting, asked, judged, client_request, client_saw, meet_saw, meet_keeps}
+use Rattle.udt_model.specs.Handshakes.{Connecting, Meeting, asked, judged, client_request, client_saw, meet_saw}
 use Rattle.udt_model.specs.Losses.{LostRange}
 use Rattle.udt_model.specs.Opening.{connected}
 use Rattle.udt_model.specs.Rate.{Ways}

@@ -1,6 +1,6 @@
 -- What an event may do to the sending half.
 use Rattle.std.proofs.Common.{◌≡◌, ℕ, Bool, List, Ok, refl}
-use Rattle.std.specs.Prelude.{Option, false, length, min}
+use Rattle.std.specs.Prelude.{Option, false, min}
 use Rattle.udt_model.specs.declared.addresses.Addr.{Addr}
 use Rattle.udt_model.specs.declared.answers.Peer.{Peer}
 use Rattle.udt_model.specs.Phases.{Phase, Link, Stands, Lost, Absent, link_of}

@@ -1,6 +1,6 @@
 -- No block of a stream expires, so a stream asks for no message to be dropped.
-use Rattle.std.proofs.Common.{◌≡◌, ℕ, zero, suc, ◌+◌, Bool, true, false, List, [], ◌∷◌, ◌++◌, length, take, drop, Some, None, Ok, Err, refl, subst, arith}
-use Rattle.std.specs.Prelude.{Option, Result, slice_get, nat_lt, if◌then◌else◌}
+use Rattle.std.proofs.Common.{◌≡◌, ℕ, zero, suc, ◌+◌, false, List, [], ◌∷◌, ◌++◌, length, drop, Some, None, Ok, Err, refl, subst, arith}
+use Rattle.std.specs.Prelude.{Option, Result, slice_get, nat_lt}
 use Rattle.std.proofs.lemmas.Bool.{cases_Bool}
 use Rattle.std.proofs.lemmas.Bool.Decides.{nat_tests}
 use Rattle.udt_model.specs.declared.answers.SendNo.{SendNo}
