@@ -95,6 +95,20 @@ module _ {C : Type 0} (w : Ways C) where
         → result ≡ Ok (Handshake stamp dest shake) → meet_saw m dest shake from ≡ meet.Connected peer
         → Links s from result peer origin.Rendezvous (agreement_to (connected w s peer origin.Rendezvous) (asked shake.ask))
 
+  -- what has to be shown of the outcomes that a readable packet may have where no connection stands
+  pub record OfHandshakes (s : State C) (from : Addr) (result : Result Packet Malformed) (P : Outcome C → Type 0) : Type 0 where
+    -- no use is made of it
+    pub stale : P (on_stale s)
+    -- it is a handshake that comes to a socket which isn't settled, and gets no connection by it: the halves stay
+    pub shaken : (next : Phase) (peer : Peer) (from_whom : Origin) (answer : Heard) (emissions : List Emission)
+        → (answer ≡ heard.Placed → ⊥) → (answer ≡ heard.Dropped → ⊥) → is_settled s.phase ≡ false
+        → Shakes s from result next peer from_whom answer emissions
+        → P (on_control (record s { phase = next; peer = peer; origin = from_whom }) answer emissions)
+    -- it is a handshake that connects the socket
+    pub linked : (peer : Peer) (from_whom : Origin) (emissions : List Emission) → is_settled s.phase ≡ false
+        → Links s from result peer from_whom emissions
+        → P (on_control (connected w s peer from_whom) heard.Connected emissions)
+
   -- what has to be shown of the outcomes that an arrival may have, so that it holds of each arrival
   pub record OfArrivals (s : State C) (from : Addr) (result : Result Packet Malformed) (P : Outcome C → Type 0) : Type 0 where
     -- it changes nothing but a count
@@ -249,10 +263,7 @@ module _ {C : Type 0} (w : Ways C) where
           | false ↦ λ own. cases.passed (count_foreign s.counters) heard.Foreign (λ same. cc)
         ] refl
 
-  module _ (s : State C) (from : Addr) (result : Result Packet Malformed) (P : Outcome C → Type 0) (cases : OfArrivals s from result P) where
-    stale-shows : P (on_stale s)
-    stale-shows = cases.passed (count_stale s.counters) heard.Stale (λ same. cc)
-
+  module _ (s : State C) (from : Addr) (result : Result Packet Malformed) (P : Outcome C → Type 0) (cases : OfHandshakes s from result P) where
     -- ---- a listener
 
     judged-shows : (b : Backlog) (stamp : ℕ) (shake : Shake) (v : Verdict) → s.phase ≡ phase.Listening b
@@ -282,13 +293,13 @@ module _ {C : Type 0} (w : Ways C) where
               judged-shows b stamp shake _ is
               (subst (λ (id : ℕ). result ≡ Ok (Handshake stamp id shake)) (eqb-true dest 0 parts.0) reads) asks
               (not_true (shake.id == 0) parts.1) refl
-          | false ↦ λ fits. stale-shows
+          | false ↦ λ fits. cases.stale
         ] refl
 
     listener-shows : (b : Backlog) (stamp dest : ℕ) (shake : Shake) (a : Asked) → s.phase ≡ phase.Listening b
         → result ≡ Ok (Handshake stamp dest shake) → asked shake.ask ≡ a → P (listener_hears s b from dest shake a)
     listener-shows b stamp dest shake asks.Requests is reads asks = request-shows b stamp dest shake is reads asks
-    listener-shows b stamp dest shake _ is reads asks = stale-shows
+    listener-shows b stamp dest shake _ is reads asks = cases.stale
 
     -- ---- a client
 
@@ -300,7 +311,7 @@ module _ {C : Type 0} (w : Ways C) where
         cases.linked peer origin.Listener [] (rw is refl) (ByListener c again stamp dest shake peer is reads sees)
     client-shows c again stamp dest shake client.Rejected is reads sees =
         cases.shaken _ _ _ _ _ (λ same. cc) (λ same. cc) (rw is refl) (IsRefused c again stamp dest shake is reads sees)
-    client-shows c again stamp dest shake client.Stale is reads sees = stale-shows
+    client-shows c again stamp dest shake client.Stale is reads sees = cases.stale
 
     -- ---- a rendezvous
 
@@ -312,35 +323,42 @@ module _ {C : Type 0} (w : Ways C) where
         cases.shaken _ _ _ _ _ (λ same. cc) (λ same. cc) (rw is refl) (AnswersAdopted m again stamp dest shake is reads sees)
     meeter-shows m again stamp dest shake (meet.Connected peer) is reads sees =
         cases.linked peer origin.Rendezvous _ (rw is refl) (ByMeeting m again stamp dest shake peer is reads sees)
-    meeter-shows m again stamp dest shake meet.Stale is reads sees = stale-shows
+    meeter-shows m again stamp dest shake meet.Stale is reads sees = cases.stale
 
     -- ---- packets to a socket that isn't settled
 
     listening-shows : (b : Backlog) (packet : Packet) → s.phase ≡ phase.Listening b → result ≡ Ok packet → P (on_listening s b from packet)
     listening-shows b (Handshake stamp dest shake) is reads = listener-shows b stamp dest shake (asked shake.ask) is reads refl
-    listening-shows b _ is reads = stale-shows
+    listening-shows b _ is reads = cases.stale
 
     connecting-shows : (c : Connecting) (again : ℕ) (packet : Packet) → s.phase ≡ phase.Connecting c again → result ≡ Ok packet
         → P (on_connecting w s c from packet)
     connecting-shows c again (Handshake stamp dest shake) is reads =
         client-shows c again stamp dest shake (client_saw c dest shake from) is reads refl
-    connecting-shows c again _ is reads = stale-shows
+    connecting-shows c again _ is reads = cases.stale
 
     meeting-shows : (m : Meeting) (again : ℕ) (packet : Packet) → s.phase ≡ phase.Meeting m again → result ≡ Ok packet
         → P (on_meeting w s m again from packet)
     meeting-shows m again (Handshake stamp dest shake) is reads =
         meeter-shows m again stamp dest shake (meet_saw m dest shake from) is reads refl
-    meeting-shows m again _ is reads = stale-shows
+    meeting-shows m again _ is reads = cases.stale
 
-    packet-shows : (packet : Packet) (phase : Phase) → result ≡ Ok packet → s.phase ≡ phase → P (packet_in w s from packet phase)
-    packet-shows packet phase.Connected reads is = connected-shows s from result P cases is packet reads
-    packet-shows packet (phase.Listening b) reads is = listening-shows b packet is reads
-    packet-shows packet (phase.Connecting c again) reads is = connecting-shows c again packet is reads
-    packet-shows packet (phase.Meeting m again) reads is = meeting-shows m again packet is reads
-    packet-shows packet _ reads is = stale-shows
+    -- what holds of all these outcomes holds of each packet where no connection stands
+    pub packet-shows : (packet : Packet) (p : Phase) → result ≡ Ok packet → s.phase ≡ p → (p ≡ phase.Connected → P (on_connected w s from packet))
+        → P (packet_in w s from packet p)
+    packet-shows packet phase.Connected reads is stands = stands refl
+    packet-shows packet (phase.Listening b) reads is stands = listening-shows b packet is reads
+    packet-shows packet (phase.Connecting c again) reads is stands = connecting-shows c again packet is reads
+    packet-shows packet (phase.Meeting m again) reads is stands = meeting-shows m again packet is reads
+    packet-shows packet _ reads is stands = cases.stale
 
   -- what holds of all these outcomes holds of each arrival
   pub arrival-shows : (s : State C) (from : Addr) (P : Outcome C → Type 0) (result : Result Packet Malformed) → OfArrivals s from result P
       → P (on_read w s from result)
   arrival-shows s from P (Err why) cases = cases.passed _ (heard.Malformed why) (λ same. cc)
-  arrival-shows s from P (Ok packet) cases = packet-shows s from (Ok packet) P cases packet s.phase refl refl
+  arrival-shows s from P (Ok packet) cases =
+      packet-shows s from (Ok packet) P (record {
+        stale = cases.passed (count_stale s.counters) heard.Stale (λ same. cc);
+        shaken = cases.shaken;
+        linked = cases.linked;
+      }) packet s.phase refl refl (λ connected. connected-shows s from (Ok packet) P cases connected packet refl)
