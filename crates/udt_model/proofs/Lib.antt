@@ -12,6 +12,7 @@ pub mod TickLemmas
 pub mod HistoryLemmas
 pub mod PhaseLemmas
 pub mod ArrivalLemmas
+pub mod UnlinkedLemmas
 pub mod StepLemmas
 pub mod ReceivingSteps
 pub mod SendingSteps

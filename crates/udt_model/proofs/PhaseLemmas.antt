@@ -17,41 +17,66 @@ is_settled (phase.Connecting c again) = false
 is_settled (phase.Meeting m again) = false
 is_settled other = true
 
+-- in these a socket has a peer to speak to
+abbrev pub speaks : Phase → Bool
+speaks phase.Connected = true
+speaks phase.Closing = true
+speaks other = false
+
 -- a connection stands in one phase alone
 pub stands-connected : (p : Phase) → link_of p ≡ Stands → p ≡ phase.Connected
 stands-connected phase.Connected is = refl
 stands-connected (phase.Broken why) is = absurd (cc)
 stands-connected _ is = absurd (cc)
 
+-- in which a socket speaks
+pub mute-absent : (p : Phase) → speaks p ≡ false → link_of p ≡ Stands → ⊥
+mute-absent phase.Connected mute is = cc
+mute-absent (phase.Broken why) mute is = cc
+mute-absent _ mute is = cc
+
+-- and isn't unsettled
+pub unsettled-mute : (p : Phase) → is_settled p ≡ false → speaks p ≡ false
+unsettled-mute phase.Connected unsettled = absurd (cc)
+unsettled-mute phase.Closing unsettled = absurd (cc)
+unsettled-mute _ unsettled = refl
+
+-- a settled phase is followed by a settled one, and by one in which the socket speaks only from such a one
+abbrev pub Follows : Phase → Phase → Type 0
+Follows p next = is_settled p ≡ true → (is_settled next ≡ true) × (speaks next ≡ true → speaks p ≡ true)
+
+pub follows-ended : (p next : Phase) → is_settled next ≡ true → speaks next ≡ false → Follows p next
+follows-ended p next settled mute before = (settled, λ spoken. absurd (cc))
+
 -- a call that has a socket listen, ask or meet leaves a settled one as it is
-pub begun-settled : (fits : Bool) (p next : Phase) → is_settled p ≡ true → is_settled (phase_after (begun fits p) next p) ≡ true
-begun-settled false p next settled = settled
-begun-settled true phase.Opened next settled = absurd (cc)
-begun-settled true _ next settled = settled
+pub begun-follows : (fits : Bool) (p next : Phase) → Follows p (phase_after (begun fits p) next p)
+begun-follows false p next settled = (settled, λ spoken. spoken)
+begun-follows true phase.Opened next settled = absurd (cc)
+begun-follows true _ next settled = (settled, λ spoken. spoken)
 
-pub accept-settled : (p : Phase) → is_settled p ≡ true → is_settled (phase_after_accept p) ≡ true
-accept-settled (phase.Listening b) settled = settled
-accept-settled _ settled = settled
+pub accept-follows : (p : Phase) → Follows p (phase_after_accept p)
+accept-follows (phase.Listening b) settled = absurd (cc)
+accept-follows _ settled = (settled, λ spoken. spoken)
 
-pub offer-settled : (id : ℕ) (p : Phase) → is_settled p ≡ true → is_settled (phase_after_offer id p) ≡ true
-offer-settled id (phase.Listening b) settled = settled
-offer-settled id _ settled = settled
+pub offer-follows : (id : ℕ) (p : Phase) → Follows p (phase_after_offer id p)
+offer-follows id (phase.Listening b) settled = absurd (cc)
+offer-follows id _ settled = (settled, λ spoken. spoken)
 
-pub withdraw-settled : (p : Phase) → is_settled p ≡ true → is_settled (phase_after_withdraw p) ≡ true
-withdraw-settled (phase.Listening b) settled = settled
-withdraw-settled _ settled = settled
+pub withdraw-follows : (p : Phase) → Follows p (phase_after_withdraw p)
+withdraw-follows (phase.Listening b) settled = absurd (cc)
+withdraw-follows _ settled = (settled, λ spoken. spoken)
 
-pub port-settled : (p : Phase) → is_settled p ≡ true → is_settled (phase_without_port p) ≡ true
-port-settled (phase.Listening b) settled = refl
-port-settled (phase.Connecting c again) settled = refl
-port-settled (phase.Meeting m again) settled = refl
-port-settled phase.Connected settled = refl
-port-settled _ settled = settled
+pub port-follows : (p : Phase) → Follows p (phase_without_port p)
+port-follows (phase.Listening b) settled = absurd (cc)
+port-follows (phase.Connecting c again) settled = absurd (cc)
+port-follows (phase.Meeting m again) settled = absurd (cc)
+port-follows phase.Connected settled = (refl, λ spoken. refl)
+port-follows _ settled = (settled, λ spoken. spoken)
 
-pub closed-settled : (p : Phase) → is_settled (closed_from p) ≡ true
-closed-settled phase.Connected = refl
-closed-settled phase.Closing = refl
-closed-settled _ = refl
+pub closed-follows : (p : Phase) → Follows p (closed_from p)
+closed-follows phase.Connected settled = (refl, λ spoken. refl)
+closed-follows phase.Closing settled = (refl, λ spoken. refl)
+closed-follows _ settled = (refl, λ spoken. absurd (cc))
 
 module _ {C : Type 0} where
   -- what a tick of a socket that waits for a handshake does: it fails, emits its handshake again, or does nothing

@@ -4,6 +4,8 @@ use Rattle.std.specs.Prelude.{Option, Result, length}
 use Rattle.udt_model.specs.declared.addresses.Addr.{Addr}
 use Rattle.udt_model.specs.Phases.{Phase, Link, Stands, Lost, Absent, link_of}
 use Rattle.udt_model.specs.Phases as phase
+use Rattle.udt_model.specs.declared.answers.Cause.TheVariants as cause
+use Rattle.udt_model.specs.declared.answers.Failure.TheVariants as failure
 use Rattle.udt_model.specs.declared.answers.Peer.{Peer}
 use Rattle.udt_model.specs.declared.packets.Config.{Config}
 use Rattle.udt_model.specs.declared.packets.Kind.{Kind}
@@ -28,7 +30,7 @@ use Rattle.udt_model.specs.Timing.{RoundTrip}
 use Rattle.udt_model.specs.Wire.{Packet, read}
 use Rattle.udt_model.proofs.ArrivalLemmas.{arrival-shows}
 use Rattle.udt_model.proofs.HalfLemmas.{KeepsSending, KeepsReceiving, same_sending, same_receiving, sending_on, receiving_on, after_send-keeps, after_send_message-keeps, packing-keeps, after_ack-keeps, after_nak-keeps, after_timeout-keeps, after_receive-keeps, after_receive_message-keeps, with_taken-keeps, after_block-keeps, after_ack_timer-keeps, after_nak_timer-keeps, after_ack2-keeps}
-use Rattle.udt_model.proofs.PhaseLemmas.{is_settled, begun-settled, accept-settled, offer-settled, withdraw-settled, port-settled, closed-settled, repeats-show}
+use Rattle.udt_model.proofs.PhaseLemmas.{is_settled, speaks, Follows, follows-ended, begun-follows, accept-follows, offer-follows, withdraw-follows, port-follows, closed-follows, repeats-show}
 
 module _ {C : Type 0} where
   -- what an event never changes
@@ -47,6 +49,7 @@ module _ {C : Type 0} where
     pub peer : t.peer ≡ s.peer
     pub origin : t.origin ≡ s.origin
     pub settled : is_settled s.phase ≡ true → is_settled t.phase ≡ true
+    pub speaks : is_settled s.phase ≡ true → speaks t.phase ≡ true → speaks s.phase ≡ true
     pub sending : KeepsSending s.sending t.sending
     pub receiving : KeepsReceiving s.receiving t.receiving
 
@@ -81,6 +84,7 @@ module _ {C : Type 0} where
     peer = refl;
     origin = refl;
     settled = λ settled. settled;
+    speaks = λ settled spoken. spoken;
     sending = same_sending s.sending;
     receiving = same_receiving s.receiving;
   }
@@ -94,6 +98,7 @@ module _ {C : Type 0} where
     peer = second.peer ∙ first.peer;
     origin = second.origin ∙ first.origin;
     settled = λ settled. second.settled (first.settled settled);
+    speaks = λ settled spoken. first.speaks settled (second.speaks (first.settled settled) spoken);
     sending = sending_on s.sending t.sending u.sending first.sending second.sending;
     receiving = receiving_on s.receiving t.receiving u.receiving first.receiving second.receiving;
   }
@@ -108,6 +113,7 @@ module _ {C : Type 0} where
     peer = refl;
     origin = refl;
     settled = λ settled. settled;
+    speaks = λ settled spoken. spoken;
     sending = sends;
     receiving = same_receiving s.receiving;
   }
@@ -122,6 +128,7 @@ module _ {C : Type 0} where
     peer = refl;
     origin = refl;
     settled = λ settled. settled;
+    speaks = λ settled spoken. spoken;
     sending = same_sending s.sending;
     receiving = receives;
   }
@@ -137,20 +144,22 @@ module _ {C : Type 0} where
     peer = kept.peer;
     origin = kept.origin;
     settled = kept.settled;
+    speaks = kept.speaks;
     sending = kept.sending;
     receiving = kept.receiving;
   }
 
   -- a settled phase may change to another one
-  phase-keeps : (s : State C) (next : Phase) → (is_settled s.phase ≡ true → is_settled next ≡ true) → KeepsIdentity s (record s { phase = next })
-  phase-keeps s next settled = record {
+  phase-keeps : (s : State C) (next : Phase) → Follows s.phase next → KeepsIdentity s (record s { phase = next })
+  phase-keeps s next follows = record {
     own = refl;
     kind = refl;
     isn = refl;
     opened = refl;
     peer = refl;
     origin = refl;
-    settled = settled;
+    settled = λ settled. (follows settled).0;
+    speaks = λ settled. (follows settled).1;
     sending = same_sending s.sending;
     receiving = same_receiving s.receiving;
   }
@@ -195,7 +204,7 @@ module _ {C : Type 0} where
   recv_message_as-keeps s room kind.Message = recv_message-keeps s room (link_of s.phase)
 
   close-keeps : (s : State C) → KeepsIdentity s (on_close s).after
-  close-keeps s = phase-keeps s _ (λ settled. closed-settled s.phase)
+  close-keeps s = phase-keeps s _ (closed-follows s.phase)
 
   reports-keep : (s : State C) → KeepsIdentity s (after_reports s)
   reports-keep s =
@@ -214,7 +223,7 @@ module _ {C : Type 0} (w : Ways C) where
 
   exp-keeps : (s : State C) (what : ExpOutcome) → KeepsIdentity s (after_exp w s what)
   exp-keeps s exp.NotDue = same_identity s
-  exp-keeps s exp.Breaks = phase-keeps s _ (λ settled. refl)
+  exp-keeps s exp.Breaks = phase-keeps s (phase.Broken cause.Expired) (follows-ended s.phase (phase.Broken cause.Expired) refl refl)
   exp-keeps s exp.LosesAll =
       others-keep s (record s { sending = _ }) _ _ _ _ _ (sending-keeps s _ (after_timeout-keeps w s.sending s.rtt))
   exp-keeps s exp.KeepsAlive = others-keep s s _ _ _ _ _ (same_identity s)
@@ -224,7 +233,7 @@ module _ {C : Type 0} (w : Ways C) where
       → KeepsIdentity s (repeats s began again next emission).after
   repeats-keep s began again next emission unsettled =
       repeats-show s began again next emission (λ outcome. KeepsIdentity s outcome.after) (record {
-        fails = phase-keeps s _ (λ settled. refl);
+        fails = phase-keeps s (phase.Failed failure.TimedOut) (follows-ended s.phase (phase.Failed failure.TimedOut) refl refl);
         again = phase-keeps s _ (λ settled. absurd (cc));
         waits = same_identity s;
       })
@@ -233,7 +242,7 @@ module _ {C : Type 0} (w : Ways C) where
   tick-keeps s phase.Connected is = identity_on s (after_reports s) _ (reports-keep s) (exp-keeps (after_reports s) (exp_outcome s))
   tick-keeps s (phase.Connecting c again) is = repeats-keep s c.caller.began again _ _ (rw is refl)
   tick-keeps s (phase.Meeting m again) is = repeats-keep s m.caller.began again _ _ (rw is refl)
-  tick-keeps s phase.Closing is = phase-keeps s _ (λ settled. refl)
+  tick-keeps s phase.Closing is = phase-keeps s phase.Closed (follows-ended s.phase phase.Closed refl refl)
   tick-keeps s _ is = same_identity s
 
   on_read-keeps : (s : State C) (from : Addr) (result : Result Packet Malformed) → Keeps s (on_read w s from result).after
@@ -250,7 +259,7 @@ module _ {C : Type 0} (w : Ways C) where
         all-kept s _ (others-keep s (record s { sending = _ }) _ _ _ _ _ (sending-keeps s _ (after_nak-keeps w s.sending s.rtt ranges)));
     confirmed = λ number ack connected found.
         all-kept s _ (others-keep s (record s { receiving = _ }) _ _ _ _ _ (receiving-keeps s _ (after_ack2-keeps s.receiving number)));
-    ended = λ connected. all-kept s _ (others-keep s (record s { phase = _ }) _ _ _ _ _ (phase-keeps s _ (λ settled. refl)));
+    ended = λ connected. all-kept s _ (others-keep s (record s { phase = _ }) _ _ _ _ _ (phase-keeps s (phase.Broken cause.PeerShutdown) (follows-ended s.phase (phase.Broken cause.PeerShutdown) refl refl)));
     again = λ stamp dest shake answer connected sender is same answers. all-kept s _ (others-keep s s _ _ _ _ _ (same_identity s));
     shaken = λ next peer origin answer emissions differs drops unsettled is.
         record { name = record { own = refl; kind = refl; isn = refl; opened = refl }; identity = λ settled. absurd (cc) };
@@ -259,12 +268,12 @@ module _ {C : Type 0} (w : Ways C) where
   })
 
   on_act-keeps : (s : State C) (act : Act) → Keeps s (on_act w s act).after
-  on_act-keeps s (Listen backlog secret) = all-kept s _ (phase-keeps s _ (begun-settled (is_backlog backlog) s.phase _))
-  on_act-keeps s (Connect to) = all-kept s _ (phase-keeps s _ (begun-settled (has_port to) s.phase _))
-  on_act-keeps s (Meet to) = all-kept s _ (phase-keeps s _ (begun-settled (has_port to) s.phase _))
-  on_act-keeps s Accept = all-kept s _ (phase-keeps s _ (accept-settled s.phase))
-  on_act-keeps s (Offer id) = all-kept s _ (phase-keeps s _ (offer-settled id s.phase))
-  on_act-keeps s Withdraw = all-kept s _ (phase-keeps s _ (withdraw-settled s.phase))
+  on_act-keeps s (Listen backlog secret) = all-kept s _ (phase-keeps s _ (begun-follows (is_backlog backlog) s.phase _))
+  on_act-keeps s (Connect to) = all-kept s _ (phase-keeps s _ (begun-follows (has_port to) s.phase _))
+  on_act-keeps s (Meet to) = all-kept s _ (phase-keeps s _ (begun-follows (has_port to) s.phase _))
+  on_act-keeps s Accept = all-kept s _ (phase-keeps s _ (accept-follows s.phase))
+  on_act-keeps s (Offer id) = all-kept s _ (phase-keeps s _ (offer-follows id s.phase))
+  on_act-keeps s Withdraw = all-kept s _ (phase-keeps s _ (withdraw-follows s.phase))
   on_act-keeps s (Send bytes) = all-kept s _ (send_as-keeps s bytes s.kind)
   on_act-keeps s (Recv room) = all-kept s _ (recv_as-keeps s room s.kind)
   on_act-keeps s (SendMessage ttl order bytes) = all-kept s _ (send_message_as-keeps s ttl order bytes s.kind)
@@ -272,7 +281,7 @@ module _ {C : Type 0} (w : Ways C) where
   on_act-keeps s Pack = all-kept s _ (pack-keeps s (link_of s.phase))
   on_act-keeps s Tick = all-kept s _ (tick-keeps s s.phase refl)
   on_act-keeps s Close = all-kept s _ (close-keeps s)
-  on_act-keeps s PortDown = all-kept s _ (phase-keeps s _ (port-settled s.phase))
+  on_act-keeps s PortDown = all-kept s _ (phase-keeps s _ (port-follows s.phase))
   on_act-keeps s (Arrive from bytes) = on_read-keeps s from (read bytes)
   on_act-keeps s _ = all-kept s _ (same_identity s)
 
@@ -294,6 +303,7 @@ module _ {C : Type 0} (w : Ways C) where
         peer = kept.peer;
         origin = kept.origin;
         settled = kept.settled;
+        speaks = kept.speaks;
         sending = kept.sending;
         receiving = kept.receiving;
       }
