@@ -18,6 +18,7 @@ pub mod ReceivingSteps
 pub mod SendingSteps
 pub mod StreamLemmas
 pub mod EmissionLemmas
+pub mod SettlingLemmas
 pub mod RecordLemmas
 pub mod TakenOffsets
 pub mod MissingOffsets
