@@ -10,12 +10,15 @@ pub mod FrontLemmas
 pub mod HalfLemmas
 pub mod TickLemmas
 pub mod HistoryLemmas
+pub mod PhaseLemmas
 pub mod ArrivalLemmas
+pub mod UnlinkedLemmas
 pub mod StepLemmas
 pub mod ReceivingSteps
 pub mod SendingSteps
 pub mod StreamLemmas
 pub mod EmissionLemmas
+pub mod SettlingLemmas
 pub mod RecordLemmas
 pub mod TakenOffsets
 pub mod MissingOffsets

@@ -1,6 +1,5 @@
 -- What the calls of a socket answer, leave and emit: send and receive of bytes and of messages, close, pack and perf.
 use Rattle.std.specs.Prelude.{ℕ, ◌-◌, ◌==◌, ◌%◌, ◌^◌, Bool, List, [], ◌∷◌, length, take, Option, Some, None, Result, Ok, Err, nat_le, if◌then◌else◌}
-use Rattle.udt_model.specs.declared.answers.Cause.{Cause}
 use Rattle.udt_model.specs.declared.answers.Perf.{Perf}
 use Rattle.udt_model.specs.declared.answers.Refusal.{Refusal}
 use Rattle.udt_model.specs.declared.answers.SendNo.{SendNo}
@@ -17,7 +16,7 @@ use Rattle.udt_model.specs.ReceiveBlocks.{WholeMessage, waiting_of, next_message
 use Rattle.udt_model.specs.ReceiveHalf.{Receiving, after_receive, after_receive_message}
 use Rattle.udt_model.specs.SendBlocks.{Message, KeptBlock}
 use Rattle.udt_model.specs.SendHalf.{acked_of, send_answer, after_send, message_answer, after_send_message, window_in, period_in, Packing, Waits, Retransmits, Drops, Sends, Idles, packing, packed_as, block_packet, drop_packet, after_packing}
-use Rattle.udt_model.specs.State.{State, Datagram, Emission}
+use Rattle.udt_model.specs.State.{State, Emission}
 use Rattle.udt_model.specs.Events.{Sent, Received, SentMessage, ReceivedMessage, DidPack, DidClose, DidMeasure, Outcome, answered, risen}
 use Rattle.udt_model.specs.Wire.{Packet, spelling}
 

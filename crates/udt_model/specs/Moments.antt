@@ -1,10 +1,9 @@
 -- When a socket has something to do next.
-use Rattle.std.specs.Prelude.{◌≡◌, ℕ, ◌+◌, ◌<◌, ◌≤◌, min, max, List, [], Option, Some, None, nat_le, if◌then◌else◌}
+use Rattle.std.specs.Prelude.{◌≡◌, ℕ, ◌+◌, ◌<◌, ◌≤◌, min, max, [], Option, Some, None, nat_le, if◌then◌else◌}
 use Rattle.udt_model.specs.declared.limits.TheConstants.{LAST_MOMENT, SHAKE_LIMIT}
-use Rattle.udt_model.specs.declared.answers.Packed.{Packed}
 use Rattle.udt_model.specs.Phases.{Phase}
 use Rattle.udt_model.specs.Phases as phase
-use Rattle.udt_model.specs.Events.{Tick, Pack, DidTick, DidPack, Outcome, event, at_moment, answered}
+use Rattle.udt_model.specs.Events.{Tick, Pack, DidTick, event, at_moment, answered}
 use Rattle.udt_model.specs.Rate.{Ways}
 use Rattle.udt_model.specs.SendHalf.{pack_moment}
 use Rattle.udt_model.specs.State.{State}

@@ -1,6 +1,6 @@
 -- How a socket begins, and with which values one can be opened.
-use Rattle.std.specs.Prelude.{◌≡◌, ℕ, ◌+◌, ◌^◌, ◌<◌, ◌≤◌, min, [], None}
-use Rattle.udt_model.specs.declared.limits.TheConstants.{LAST_MOMENT, SYN, LAST_START, MOST_PAYLOAD, FEWEST_BLOCKS, MOST_BLOCKS}
+use Rattle.std.specs.Prelude.{ℕ, ◌^◌, ◌<◌, ◌≤◌, min}
+use Rattle.udt_model.specs.declared.limits.TheConstants.{LAST_MOMENT, LAST_START, MOST_PAYLOAD, FEWEST_BLOCKS, MOST_BLOCKS}
 use Rattle.udt_model.specs.declared.answers.Peer.{Peer}
 use Rattle.udt_model.specs.declared.packets.Config.{Config}
 use Rattle.udt_model.specs.declared.addresses.Ip.TheVariants.{V4}

@@ -17,7 +17,7 @@ use Rattle.udt_model.specs.Timing.{period_of}
 use Rattle.udt_model.specs.Events.{DidTick, Outcome, answered}
 use Rattle.udt_model.specs.Calls.{stamp_of, emission}
 use Rattle.udt_model.specs.Connections.{asks_again, meets_again}
-use Rattle.udt_model.specs.Wire.{Packet, WireRange, KeepAlive, Ack, Nak, Shutdown}
+use Rattle.udt_model.specs.Wire.{WireRange, KeepAlive, Ack, Nak, Shutdown}
 
 -- both ends of a range
 abbrev pub ends_of : LostRange → List ℕ

@@ -41,7 +41,10 @@ pub enum Origin {
 
 /// The peer of a socket that has none.
 pub const NOBODY: Peer = Peer {
-    addr: Addr { ip: Ip::V4(0), port: 0 },
+    addr: Addr {
+        ip: Ip::V4(0),
+        port: 0,
+    },
     id: 0,
     isn: 0,
     payload: 0,

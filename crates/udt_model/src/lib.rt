@@ -12,8 +12,8 @@ mod sockets;
 
 pub use addresses::{Addr, Family, Ip};
 pub use answers::{
-    Arrived, Cause, Dropped, Failure, Heard, NOBODY, Origin, Packed, Peer, Perf, Placed, Refusal, SendNo,
-    Shaken,
+    Arrived, Cause, Dropped, Failure, Heard, NOBODY, Origin, Packed, Peer, Perf, Placed, Refusal,
+    SendNo, Shaken,
 };
 pub use handshakes::{
     Asked, COOKIE_LIFE, Caller, ClientSaw, MeetSaw, SIZE_OVER_PAYLOAD, VERSION, Verdict,
