@@ -1,6 +1,7 @@
 // The calls of the application, and what the owner of the port asks.
 
-ghost use Rattle.std.specs.Prelude.{◌≡◌, ◌+◌, ◌<◌, ◌≤◌, [], length, drop, Ok, IfOk, OnErr};
+ghost use Rattle.std.specs.Prelude.{◌≡◌, ◌+◌, ◌^◌, ◌<◌, ◌≤◌, [], length, drop, Ok, IfOk, OnErr};
+ghost use Rattle.udt_model.specs.declared.limits.TheConstants.{SHAKE_LIMIT};
 ghost use Rattle.udt_model.specs.Step.{step};
 ghost use Rattle.udt_model.specs.Events.{Send, Recv, SendMessage, RecvMessage, Pack, Close, Measure, Sent, Received, SentMessage, ReceivedMessage, DidPack, DidMeasure, at_moment, event, outs_of};
 ghost use Rattle.udt_model.specs.Calls.{packed_so, gives, gives_message, perf_of, refusal_of as why_of};
@@ -274,7 +275,7 @@ impl<C: Control> Socket<C> {
     // handshake again, or gives up.
     fn shaking_moment(&self, began: u64, again: u64) -> Option<u64>
         requires { began + SHAKE_LIMIT < 2 ^ 64 }
-        ensures { result ≡ moments.shaking_moment self.now began again }
+        ensures { result ≡ moments.shaking_moment C.ways self.now began again }
     {
         not_before(self.last, again.min(began + SHAKE_LIMIT))
     }
