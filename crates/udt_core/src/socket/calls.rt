@@ -1,8 +1,8 @@
 // The calls of the application, and what the owner of the port asks.
 
-ghost use Rattle.std.specs.Prelude.{◌≡◌, ◌+◌, ◌^◌, ◌<◌, ◌≤◌, [], length, drop, Ok, IfOk, OnErr};
-ghost use Rattle.udt_model.specs.declared.limits.TheConstants.{SHAKE_LIMIT};
+ghost use Rattle.std.specs.Prelude.{◌≡◌, ◌+◌, ◌<◌, ◌≤◌, [], length, drop, Ok, IfOk, OnErr};
 ghost use Rattle.udt_model.specs.Step.{step};
+ghost use Rattle.udt_model.specs.declared.limits.TheConstants.{LAST_MOMENT};
 ghost use Rattle.udt_model.specs.Events.{Send, Recv, SendMessage, RecvMessage, Pack, Close, Measure, Sent, Received, SentMessage, ReceivedMessage, DidPack, DidMeasure, at_moment, event, outs_of};
 ghost use Rattle.udt_model.specs.Calls.{packed_so, gives, gives_message, perf_of, refusal_of as why_of};
 ghost use Rattle.udt_model.specs.Moments as moments;
@@ -248,10 +248,18 @@ impl<C: Control> Socket<C> {
 
     /// The first moment, not before the last one, at which `tick` or `pack` would do something, in
     /// microseconds. None comes where there is none.
-    #[tactic(auto, unfolding(udt_model::specs::Moments::next_moment))]
     pub fn next_moment(&self) -> Option<u64>
         ensures value { result ≡ moments.next_moment C.ways self.now }
         ensures is { moments.IsNextMoment C.ways self.now result }
+    {
+        self.moment()
+    }
+
+    // The same, as it is found.
+    #[tactic(auto, unfolding(udt_model::specs::Moments::next_moment))]
+    fn moment(&self) -> Option<u64>
+        ensures value { result ≡ moments.next_moment C.ways self.now }
+        ensures within { self.now.last ≤ LAST_MOMENT }
     {
         match &self.phase {
             Phase::Connected => {
@@ -274,10 +282,9 @@ impl<C: Control> Socket<C> {
     // The first moment, not before the last one, at which a socket that asks or meets emits its
     // handshake again, or gives up.
     fn shaking_moment(&self, began: u64, again: u64) -> Option<u64>
-        requires { began + SHAKE_LIMIT < 2 ^ 64 }
         ensures { result ≡ moments.shaking_moment C.ways self.now began again }
     {
-        not_before(self.last, again.min(began + SHAKE_LIMIT))
+        not_before(self.last, again.min(began.saturating_add(SHAKE_LIMIT)))
     }
 
     // The first moment, not before the last one, at which packing sends a block.

@@ -8,6 +8,7 @@ ghost use Rattle.udt_model.specs.Events.{DidHear, outs_of};
 ghost use Rattle.udt_model.specs.Shaking as model;
 ghost use Rattle.udt_model.specs.Ticks.{tick_in};
 ghost use Rattle.udt_model.specs.Wire.{Handshake};
+ghost use Rattle.udt_core.specs.Changes.{ToldBy};
 ghost use Rattle.udt_core.specs.Emitted.{datagrams_of};
 ghost use Rattle.udt_core.specs.Waiting.{Listens, Asks, Meets, HasNumber, heard_as, emitted_by_verdict};
 
@@ -59,6 +60,7 @@ impl<C: Control> Socket<C> {
             ≡ (packet_in C.ways self.old from (Handshake _stamp dest shake.now) self.old.phase).after }
         ensures outs { outs.new
             ≡ outs_of (packet_in C.ways self.old from (Handshake _stamp dest shake.now) self.old.phase) }
+        ensures told { ToldBy result self.old self.new }
     {
         let Phase::Listening(backlog) = &mut self.phase else {
             return self.on_stale();
@@ -112,6 +114,7 @@ impl<C: Control> Socket<C> {
             ≡ (packet_in C.ways self.old from (Handshake _stamp dest shake.now) self.old.phase).after }
         ensures outs { outs.new
             ≡ outs_of (packet_in C.ways self.old from (Handshake _stamp dest shake.now) self.old.phase) }
+        ensures told { ToldBy result self.old self.new }
     {
         let Phase::Connecting { client, again } = &mut self.phase else {
             return self.on_stale();
@@ -155,6 +158,7 @@ impl<C: Control> Socket<C> {
             ≡ (packet_in C.ways self.old from (Handshake _stamp dest shake.now) self.old.phase).after }
         ensures outs { outs.new
             ≡ outs_of (packet_in C.ways self.old from (Handshake _stamp dest shake.now) self.old.phase) }
+        ensures told { ToldBy result self.old self.new }
     {
         let Phase::Meeting { meeting, .. } = &mut self.phase else {
             return self.on_stale();
@@ -209,6 +213,7 @@ impl<C: Control> Socket<C> {
         ensures reply { DidHear result ≡ (model.on_shake_again self.old shake.now).reply }
         ensures after { self.new ≡ (model.on_shake_again self.old shake.now).after }
         ensures outs { outs.new ≡ outs_of (model.on_shake_again self.old shake.now) }
+        ensures told { ToldBy result self.old self.new }
     {
         if shake.id != self.peer.id {
             return self.on_stale();
@@ -235,7 +240,7 @@ impl<C: Control> Socket<C> {
             return;
         };
         let caller = client.caller();
-        if self.last >= caller.began + SHAKE_LIMIT {
+        if self.last.saturating_sub(caller.began) >= SHAKE_LIMIT {
             self.phase = Phase::Failed(Failure::TimedOut);
         } else if self.last >= *again {
             *again = self.last + SHAKE_INTERVAL;
@@ -255,7 +260,7 @@ impl<C: Control> Socket<C> {
             return;
         };
         let caller = meeting.caller();
-        if self.last >= caller.began + SHAKE_LIMIT {
+        if self.last.saturating_sub(caller.began) >= SHAKE_LIMIT {
             self.phase = Phase::Failed(Failure::TimedOut);
         } else if self.last >= *again {
             *again = self.last + SHAKE_INTERVAL;
