@@ -362,23 +362,6 @@ fn raw_line<'a>(
     Ok(Some(Line::Raw { now, datagram }))
 }
 
-fn is_call(word: &[u8]) -> bool
-    ensures { result ≡ spec.is_call word.now }
-{
-    word == b"listen".as_slice()
-        || word == b"connect".as_slice()
-        || word == b"meet".as_slice()
-        || word == b"shake".as_slice()
-        || word == b"send".as_slice()
-        || word == b"recv".as_slice()
-        || word == b"sendmsg".as_slice()
-        || word == b"recvmsg".as_slice()
-        || word == b"pack".as_slice()
-        || word == b"tick".as_slice()
-        || word == b"close".as_slice()
-        || word == b"perf".as_slice()
-}
-
 // The line of a call of the socket that the first word names, by the second word.
 fn line_by_second<'a>(
     alloc: Global,
@@ -393,13 +376,10 @@ fn line_by_second<'a>(
     if second == b"accept".as_slice() {
         return Ok(accept_line(first, others));
     }
-    if is_call(second) {
-        return call_line(alloc, first, second, others);
-    }
-    Ok(None)
+    call_line(alloc, first, second, others)
 }
 
-// Any other line, by its first word.
+// A line that is no call, by its first word.
 fn line_by_first<'a>(
     alloc: Global,
     first: &[u8],
@@ -425,8 +405,8 @@ fn line_by_first<'a>(
     }
 }
 
-// A name may be any word, so a line is read as a call where it is of such a form, and else by its
-// first word.
+// A name may be any word, so a line that isn't of a form by its first word is read as a call. No line is of
+// two forms.
 #[tactic(auto, unfolding(udt_model::specs::Lines::line_by_words))]
 fn line_by_words<'a>(alloc: Global, words: &[&'a [u8]]) -> Result<Option<Line<'a>>, AllocError>
     ensures value { IfOk result (λ found. option_map line_of found
@@ -436,10 +416,10 @@ fn line_by_words<'a>(alloc: Global, words: &[&'a [u8]]) -> Result<Option<Line<'a
     let [first, second, others @ ..] = words else {
         return Ok(None);
     };
-    if let Some(line) = line_by_second(alloc, first, second, others)? {
+    if let Some(line) = line_by_first(alloc, first, second, others)? {
         return Ok(Some(line));
     }
-    line_by_first(alloc, first, second, others)
+    line_by_second(alloc, first, second, others)
 }
 
 /// What the line says, where it is of a form and each value is in its range.
