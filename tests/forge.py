@@ -1,7 +1,9 @@
 """Datagrams that no socket sent: likely ones, with numbers at and near where a socket stands, and mutated ones."""
 from controls import GREATEST_PERIOD
+from halves import FIRST, LAST, ORDER
 from read import NEAR, NUMBERS
-from sockets import FIRST, HEADERS, LAST, ORDER, TYPE_NUMBERS, words
+from shakes import HEADERS
+from sockets import TYPE_NUMBERS, words
 
 # how often each kind of packet comes. A shutdown ends what can be tried with a socket
 KINDS = {"block": 80, "ack": 70, "nak": 50, "ack2": 40, "keepalive": 8, "handshake": 8, "drop": 20, "unknown": 10,
@@ -32,10 +34,10 @@ class Forger:
         """32 bits: most often one of the likely numbers."""
         return self.chance.choice(likely) if likely and self.chance.randrange(8) else self.chance.randrange(1 << 32)
 
-    def number(self, socket, offset):
+    def number(self, half, offset):
         """The sequence number of an offset, or of one that lies near it or somewhere."""
         step = self.chance.choice(STEPS) if self.chance.randrange(40) else self.chance.randrange(NUMBERS)
-        return (socket.opening.isn + offset + step) % NUMBERS
+        return half.number_of(offset + step)
 
     def datagram(self, socket):
         """A datagram that a peer might send, or nearly so."""
@@ -60,7 +62,7 @@ class Forger:
         """The sequence number of a block: where a gap begins or ends, at the base, or near one of these."""
         receiver = socket.receiver
         offsets = [receiver.top] * 2 + [receiver.ack_offset()] * 2 + [receiver.base]
-        return self.number(socket, self.chance.choice(offsets))
+        return self.number(receiver, self.chance.choice(offsets))
 
     def block(self, socket, number):
         """A block with this sequence number, whose bytes are all taken."""
@@ -89,14 +91,14 @@ class Forger:
             receiver = socket.receiver
             first = chance.choice([receiver.base, receiver.ack_offset(), receiver.top])
             reach = chance.choice([0, 0, 1, 2, 5, 31, -1])
-            told = self.number(socket, first), self.number(socket, first + reach)
+            told = self.number(receiver, first), self.number(receiver, first + reach)
             return words(*told)[: chance.choice([8] * 8 + [7, 0])]
         return chance.randbytes(chance.choice([0, 0, 0, 1, 4]))
 
     def ack(self, socket):
         """The field of a full ACK, with a byte that is passed over."""
         sender = socket.sender
-        number = self.number(socket, self.chance.choice([sender.acked, sender.next]))
+        number = self.number(sender, self.chance.choice([sender.acked, sender.next]))
         number += self.chance.choice([0, 0, NUMBERS])
         told = [self.word(self.rtts), self.word(), self.word(BUFFERS), self.word(self.rates), self.capacity(socket)]
         return words(number, *told) + b"\0"
@@ -116,7 +118,7 @@ class Forger:
         """The field of a loss report, whole or not: ranges of what is in flight, at its ends, and anywhere."""
         chance, field = self.chance, []
         for _ in range(chance.choice([1, 1, 1, 2, 3, 5])):
-            first = self.number(socket, chance.randint(socket.sender.acked, socket.sender.next))
+            first = self.number(socket.sender, chance.randint(socket.sender.acked, socket.sender.next))
             if chance.randrange(2):
                 field.append(first)
             else:

@@ -19,9 +19,10 @@ import tempfile
 
 from controls import CONTROLS, NATIVE
 from forge import Forger, control_words
+from halves import ACK_HISTORY, PROBE
 from play import LAST_MOMENT, LAST_START, STATUS_PLAYED, STATUS_REFUSED, Player
 from read import NUMBERS
-from sockets import ACK_HISTORY, GREATEST_SILENCE, PROBE, words
+from sockets import GREATEST_SILENCE, words
 
 STRANGER = "10.0.0.9:9000"
 # (a script of so many datagrams, and a story that ends once it has printed so much, print less than a mebibyte)
@@ -70,7 +71,7 @@ class Script:
 
     def raw(self, socket, data, sender=None, host=None):
         """Bytes come to a socket from its peer, or from or to elsewhere."""
-        self.say(f"raw {self.now} {sender or socket.peer_host} {host or socket.host} {data.hex() or '-'}")
+        self.say(f"raw {self.now} {sender or socket.peer.host} {host or socket.host} {data.hex() or '-'}")
 
     def give(self, socket, length):
         """A socket is asked to send so many bytes."""
@@ -104,7 +105,7 @@ class Script:
 
     def settle(self, socket, rtt, count):
         """So many ACKs reach a socket, which tell this round-trip time and release nothing."""
-        field = words(socket.number_of(socket.sender.acked), rtt, 0, 4)
+        field = words(socket.sender.number_of(socket.sender.acked), rtt, 0, 4)
         for _ in range(count):
             self.raw(socket, control_words("ack", 1, socket.own) + field)
 
@@ -168,7 +169,7 @@ class Datagrams(Script):
         for _ in range(chance.choice([64, 64, 140])):
             fills = receiver.lost and not chance.randrange(3)
             offset = receiver.ack_offset() if fills else receiver.top + chance.choice([0] * 12 + [1, 2])
-            self.raw(self.socket, self.forger.block(self.socket, self.socket.number_of(offset)))
+            self.raw(self.socket, self.forger.block(self.socket, receiver.number_of(offset)))
             if not chance.randrange(6):
                 self.take_all(self.socket)
 
@@ -245,7 +246,7 @@ class Story(Script):
     def flight(self, socket):
         """Rounds in which blocks go out as far as the windows allow, arrive in this order, and are answered. The
         network loses and repeats some."""
-        chance, peer = self.chance, self.player.sockets[socket.peer - 1]
+        chance, peer = self.chance, self.player.sockets[socket.peer.id - 1]
         step, losses = chance.choice([0, 1, 30, 200, 2_000]), chance.choice([0, 0, 2, 10, 30])
         for _ in range(chance.choice([1, 2, 4, 8])):
             first = len(self.player.datagrams)
@@ -322,7 +323,7 @@ class Remembered(Script):
         self.say("pair stream a b 4 5 4")
         b, count = self.player.sockets[1], ACK_HISTORY + chance.choice([0, 1, 2, 40])
         # (the block is acknowledged again every second round trip, as long as no ACK2 arrives)
-        self.raw(b, self.forger.block(b, b.number_of(0)))
+        self.raw(b, self.forger.block(b, b.receiver.number_of(0)))
         while b.receiver.last_ack is None or b.receiver.last_ack[0] < count:
             self.now += 2 * b.path.rtt
             self.say(f"b tick {self.now}")
