@@ -264,10 +264,16 @@ class Crowd(Script):
                 self.say(f"deliver {first} {self.now}")
                 first += 1
             self.say(f"l accept {self.now} y{len(self.lines)}")
+        self.end()
+
+    def end(self):
+        """One more socket, or one more host than there may be."""
+        chance, last = self.chance, ["open stream z h 4 5 2", "pair stream z0 z1 4 5 2"]
         if chance.randrange(2):
             for i in range(len(self.player.named_hosts), MOST_HOSTS):
                 self.say(f"host h{i} 10.1.0.{i}:1")
-        self.say(chance.choice(["host z 10.2.0.1:1", "open stream z h 4 5 2", "pair stream z0 z1 4 5 2"]))
+            last = ["host z 10.2.0.1:1"]
+        self.say(chance.choice(last))
 
     def fill(self, count):
         """Pairs, and a last socket where that is one alone, up to so many."""

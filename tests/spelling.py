@@ -31,7 +31,7 @@ class Spelling(Script):
     def edge(self):
         """A line, now and then with words of a kind that is likely to be refused."""
         forms = [self.pair, self.deliver, self.raw, self.other] + [self.call] * 6
-        forms += [self.host, self.open, self.accept] + [self.begin] * 3 if self.has_shakes else []
+        forms += [self.host, self.open, self.accept] * 2 + [self.begin] * 4 if self.has_shakes else []
         text = " ".join(self.chance.choice(forms)())
         changed = self.chance.randrange(40)
         changes = [text + " ", " " + text, text.replace(" ", "  ", 1), text + " 0", text.upper(), text + "\r"]
@@ -57,7 +57,8 @@ class Spelling(Script):
 
     def new_name(self, *good):
         """Most often a name that isn't in use."""
-        return self.pick(good, self.NAMES + list(self.player.named) + list(self.player.named_hosts))
+        used = list(self.player.named) + list(self.player.named_hosts)
+        return self.pick(good, self.chance.choice([self.NAMES, used]))
 
     def bytes(self):
         return self.pick(["00ff", "-", "aa"], self.BYTES)
