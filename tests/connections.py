@@ -37,13 +37,13 @@ class Connections(Story):
         return {"begin": 1, "converse": 3, "accept": 2, "shake": 1, "deliver": 4, "again": chance.choice([1, 4]),
                 "pretend": chance.choice([0, 2, 10]), "forge": chance.choice([0, 1, 4]), "send": 3, "recv": 2,
                 "pack": 4, "tick": 4, "flight": chance.choice([0, 1]), "close": chance.choice([0.05, 0.6]),
-                "perf": 0.5, "misplace": 0.8, "misuse": 0.1}
+                "perf": 0.5, "misplace": 0.8, "misuse": 0.1, "measure": 0.4}
 
     # ---- what happens
 
     def happen(self, act):
         """Time passes, and there is a call, an arrival or bytes of no socket."""
-        if act not in ("begin", "converse", "accept", "again", "pretend", "misplace", "shake"):
+        if act not in ("begin", "converse", "accept", "again", "pretend", "misplace", "shake", "measure"):
             super().happen(act)
             return
         self.now += self.chance.choice(self.steps)
@@ -124,6 +124,21 @@ class Connections(Story):
 
     def shake(self):
         self.say(f"{self.anyone().name} shake {self.now}")
+
+    def measure(self):
+        """A socket loses a packet, which ends its slow start, and is told rates. What its rate control makes of them
+        depends on the bytes of a packet, on which both ends agreed."""
+        socket = self.socket()
+        if socket.phase != "connected":
+            return
+        self.give(socket, 1)
+        self.pack(socket)
+        number = words(socket.sender.number_of(socket.sender.acked))
+        self.raw(socket, control_words("nak", 0, socket.own) + number)
+        for _ in range(3):
+            field = number + words(1_000, 0, self.room, *self.chance.choices([0, 7, 1_000, 100_000], k=2))
+            self.raw(socket, control_words("ack", 1, socket.own) + field)
+        self.say(f"{socket.name} perf {self.now}")
 
     # ---- what the network does
 

@@ -96,7 +96,8 @@ class Spelling(Script):
     def host(self):
         """A host, whose name may be a word of a call, so that only its address tells what the line is."""
         name = self.new_name("u1", "v1", "tick", "close", "shake", "pair2", "deliver")
-        return ["host", name, self.address(f"10.0.0.{self.chance.randrange(3, 200)}:7", "[::7]:0", "[::9]:65535")]
+        new = [f"10.0.0.{self.chance.randrange(3, 200)}:7", "[::7]:0", "[::9]:65535"]
+        return ["host", name, self.pick(new, self.chance.choice([self.ADDRESSES, list(self.player.hosts)]))]
 
     def open(self):
         host = self.pick(list(self.player.named_hosts), self.NAMES + list(self.player.named))
