@@ -5,6 +5,7 @@ use Rattle.std.specs.Prelude.{FitsSigned, nat_le, nat_lt, length, ◌==◌, if�
 use Rattle.std.specs.Int.{w32, cast_signed, cast_unsigned}
 use Rattle.std.proofs.lemmas.Bool.{cases_lt, lt-ltb, le-ltb, ltb-false}
 use Rattle.std.proofs.lemmas.Bool.Decides.{nat_tests}
+use Rattle.std.proofs.lemmas.Option.{same_Some}
 use Rattle.std.proofs.lemmas.List.{take_all, length-take, length-drop}
 use Rattle.std.proofs.Math.Facts.{to_z-of_z, Fits-of_z, sfits_to_z}
 use Rattle.udt_model.specs.declared.packets.Flags.{Flags}
@@ -439,3 +440,31 @@ read-shake_spelling stamp dest shake packet reads = record {
   same_id = λ fits. word_of-word shake.id fits;
   same_isn = λ fits. number-reads shake.isn _ fits (word_of-word shake.isn (omega arith));
 }
+
+-- ---- destinations of spellings
+
+header-target : (first second third fourth : ℕ) (field : List ℕ) → fourth < 2 ^ 32
+    → target (header first second third fourth ++ field) ≡ Some fourth
+unfolding target
+header-target first second third fourth field fits =
+    let bytes = header first second third fourth ++ field in
+    let long : nat_lt (length bytes) 16 ≡ false = le-ltb (length bytes) 16 (omega (arith, length-header first second third fourth field)) in
+    rw (long, fourth_word first second third fourth field fits) refl
+
+spelling-target : (packet : Packet) → destination packet < 2 ^ 32 → target (spelling packet) ≡ Some (destination packet)
+unfolding spelling
+spelling-target (Block seq flags stamp dest bytes) fits = header-target seq (flags_word flags) stamp dest bytes fits
+spelling-target (Handshake stamp dest shake) fits = header-target (type_word 0) 0 stamp dest (shake_bytes shake) fits
+spelling-target (KeepAlive stamp dest) fits = header-target (type_word 1) 0 stamp dest [] fits
+spelling-target (Ack number stamp dest body) fits = header-target (type_word 2) number stamp dest (ack_bytes body) fits
+spelling-target (Nak stamp dest ranges) fits = header-target (type_word 3) 0 stamp dest (ranges_bytes ranges) fits
+spelling-target (Shutdown stamp dest) fits = header-target (type_word 5) 0 stamp dest [] fits
+spelling-target (Ack2 number stamp dest) fits = header-target (type_word 6) number stamp dest [] fits
+spelling-target (DropAsk message stamp dest first last) fits =
+    header-target (type_word 7) message stamp dest (word first ++ word last) fits
+
+-- what a spelling is read as is for the ID that the packet names, where this fits its place
+pub spelling-dest : (packet read_as : Packet) → destination packet < 2 ^ 32 → read (spelling packet) ≡ Ok read_as
+    → destination read_as ≡ destination packet
+spelling-dest packet read_as fits reads =
+    same_Some (destination read_as) (destination packet) (sym (target-of-read (spelling packet) read_as reads) ∙ spelling-target packet fits)
