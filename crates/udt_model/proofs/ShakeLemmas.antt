@@ -34,7 +34,8 @@ use Rattle.udt_model.specs.Shaking.{answer_again, meeter_hears}
 use Rattle.udt_model.specs.State.{State, Emission}
 use Rattle.udt_model.specs.Step.{on_act, step}
 use Rattle.udt_model.specs.Wire.{Packet, Handshake, destination, read, spelling}
-use Rattle.udt_model.proofs.EmissionLemmas.{Emitting, NewBlock, LostBlock, DropRequest, FullAck, LightAck, Reports, ReportsGap, ReportsDropGap, AnswersAck, SendsKeepAlive, TheEnd, SendsHandshake, SendsShake, Requests, Meets, AnswersPeer, AnswersNew, Agrees, AnswersAgain, GivesCookie, Refuses}
+use Rattle.udt_model.proofs.EmissionLemmas.{Emitting, NewBlock, LostBlock, DropRequest, FullAck, LightAck, Reports, ReportsGap, ReportsDropGap, AnswersAck, SendsKeepAlive, TheEnd, SendsHandshake, SendsShake, emitted-at, Requests, Meets, AnswersPeer, AnswersNew, Agrees, AnswersAgain, GivesCookie, Refuses}
+use Rattle.udt_model.proofs.HistoryLemmas.{after_items-append}
 use Rattle.udt_model.proofs.PeerLemmas.{Standing, standing_of, IsCaller, HasAdopted, Adoption, KnowsPeer, KeepsPeer, IsIntroduced, IsIntroducedAt, IsKnown, config_by, start_by, has_peer, knows-speaks, way-known, step-known, step-keeps_peer, items-known, items-keep_peer, peer-introduced}
 use Rattle.udt_model.proofs.PhaseLemmas.{is_settled, speaks}
 use Rattle.udt_model.proofs.SettlingLemmas.{IsShakeEmission}
@@ -377,3 +378,106 @@ module _ {C : Type 0} (w : Ways C) where
   peer-fits own (Opened isn config now) items s range is has = opened-fits own isn config now items s is has
   peer-fits own (Paired config peer now) items s range is has = opening-fits own config peer now 0 items s range is
   peer-fits own (PairedAt config peer now start) items s range is has = opening-fits own config peer now start items s range is
+
+pair_from : Addr → ℕ → PeerPair
+pair_from addr id = record { addr = addr; id = id }
+
+pair_from-same : (a b : Addr) (m n : ℕ) → a ≡ b → m ≡ n → pair_from a m ≡ pair_from b n
+pair_from-same a b m n addr id = cc
+
+-- a socket that has a peer names it
+has-names : (from : Origin) (peer : Peer) → has_peer from ≡ true → peer_by from peer ≡ Some (record { addr = peer.addr; id = peer.id })
+has-names origin.Nobody peer has = absurd (cc)
+has-names _ peer has = refl
+
+module _ {C : Type 0} (w : Ways C) where
+  goes-named : (t : State C) (emission : Emission) (packet : Packet) → GoesToPeer t emission packet
+      → peer_by t.origin t.peer ≡ Some (record { addr = emission.datagram.addr; id = destination packet })
+  unfolding pair_from
+  goes-named t emission packet goes =
+      has-names t.origin t.peer goes.has
+      ∙ ap (λ (pair : PeerPair). Some pair)
+      (pair_from-same t.peer.addr emission.datagram.addr t.peer.id (destination packet) (sym goes.addr) (sym goes.id))
+
+  -- where a peer stays, what went to it goes to the last one
+  goes-kept : (t u : State C) (emission : Emission) (packet : Packet) → KeepsPeer t u → GoesToPeer t emission packet → GoesToPeer u emission packet
+  goes-kept t u emission packet kept goes = record {
+    has = ap has_peer kept.origin ∙ goes.has;
+    addr = goes.addr ∙ ap (λ (p : Peer). p.addr) (sym kept.peer);
+    id = goes.id ∙ ap (λ (p : Peer). p.id) (sym kept.peer);
+  }
+
+  after-front : (s : State C) (front : List Item) (item : Item) (rest : List Item)
+      → after_items w s (front ++ item ∷ rest) ≡ after_items w (step w (after_items w s front) item.event).after rest
+  unfolding after_items
+  after-front s front item rest = after_items-append w s front (item ∷ rest)
+
+  module _ (own : ℕ) (way : Way) (s : State C) (in_range : IsWay own way) (opened_so : s ≡ opened_by w own way) where
+    -- what a handshake tells that was emitted with an item
+    shake-at : (front : List Item) (item : Item) (emission : Emission)
+        → (sent : IsShakeEmission (at_moment (after_items w s front) item.event.now) item.event.act emission)
+        → Tells (at_moment (after_items w s front) item.event.now) (step w (after_items w s front) item.event).after sent.to sent.dest sent.shake
+    unfolding step
+    shake-at front item emission sent =
+        let t = after_items w s front in
+        let known = known-after w own way s in_range opened_so front in
+        sends-tells w (at_moment t item.event.now) item.event.act sent.to sent.dest sent.shake sent.sends known.knows
+        (λ has.
+        let kept = step-keeps_peer w (config_by w way) (start_by w way) t item.event known has in
+        record { peer = kept.peer; origin = kept.origin })
+
+    -- what was emitted with an item and is bound for the peer goes to the peer after it
+    bound-at : (front : List Item) (item : Item) (emission : Emission) (packet : Packet)
+        → IsToPeer (at_moment (after_items w s front) item.event.now) emission
+        ⊎ IsShakeEmission (at_moment (after_items w s front) item.event.now) item.event.act emission
+        → read emission.datagram.bytes ≡ Ok packet → is_bound packet ≡ true
+        → (has_peer (step w (after_items w s front) item.event).after.origin ≡ true
+        → (step w (after_items w s front) item.event).after.peer.id < 2 ^ 32)
+        → GoesToPeer (step w (after_items w s front) item.event).after emission packet
+    bound-at front item emission packet (inl sent) reads bound fits =
+        let t = after_items w s front in
+        let known = known-after w own way s in_range opened_so front in
+        let has = knows-speaks (standing_of t) t.phase known.knows sent.spoken in
+        let kept = step-keeps_peer w (config_by w way) (start_by w way) t item.event known has in
+        let t_fits = (peer-fits w own way front s in_range opened_so has).id in
+        goes-kept t (step w t item.event).after emission packet kept (record {
+          has = has;
+          addr = sent.addr;
+          id = spelling-dest sent.packet packet (subst (λ (n : ℕ). n < 2 ^ 32) (sym sent.dest) t_fits)
+              (ap read (sym sent.bytes) ∙ reads) ∙ sent.dest;
+        })
+    bound-at front item emission packet (inr sent) reads bound fits =
+        tells-bound (at_moment (after_items w s front) item.event.now) (step w (after_items w s front) item.event).after sent.to sent.dest sent.shake
+        emission packet (shake-at front item emission sent) sent.is reads bound fits
+
+    -- the peer after one of some items stays
+    last-keeps : (front : List Item) (item : Item) (rest items : List Item) → items ≡ front ++ item ∷ rest
+        → has_peer (step w (after_items w s front) item.event).after.origin ≡ true
+        → KeepsPeer (step w (after_items w s front) item.event).after (after_items w s items)
+    last-keeps front item rest items joined has =
+        let t = (step w (after_items w s front) item.event).after in
+        let known = (step-known w (config_by w way) (start_by w way) _ item.event (known-after w own way s in_range opened_so front)).known in
+        let kept = items-keep_peer w (config_by w way) (start_by w way) t rest known has in
+        let last : after_items w s items ≡ after_items w t rest = ap (after_items w s) joined ∙ after-front s front item rest in
+        record {
+          peer = ap (λ (u : State C). u.peer) last ∙ kept.peer;
+          origin = ap (λ (u : State C). u.origin) last ∙ kept.origin;
+        }
+
+    -- what some items emitted that is bound for the peer goes to the own peer
+    pub bound-goes : (items : List Item) (emission : Emission) (packet : Packet) → Contains (emitted_by w s items) emission
+        → read emission.datagram.bytes ≡ Ok packet → is_bound packet ≡ true
+        → peer_by (after_items w s items).origin (after_items w s items).peer
+        ≡ Some (record { addr = emission.datagram.addr; id = destination packet })
+    bound-goes items emission packet among reads bound =
+        let at = emitted-at w s items emission among in
+        let t = (step w (after_items w s at.front) at.item.event).after in
+        let fits : has_peer t.origin ≡ true → t.peer.id < 2 ^ 32 =
+        λ has.
+        let kept = last-keeps at.front at.item at.rest items at.joined has in
+        subst (λ (p : Peer). p.id < 2 ^ 32) kept.peer (peer-fits w own way items s in_range opened_so (ap has_peer kept.origin ∙ has)).id in
+        let goes =
+        bound-at at.front at.item emission packet
+        (emitting-cases w (at_moment (after_items w s at.front) at.item.event.now) at.item.event.act _ emission at.emitting) reads bound fits in
+        goes-named (after_items w s items) emission packet
+        (goes-kept t (after_items w s items) emission packet (last-keeps at.front at.item at.rest items at.joined goes.has) goes)
