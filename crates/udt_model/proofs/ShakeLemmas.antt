@@ -39,7 +39,8 @@ use Rattle.udt_model.proofs.HistoryLemmas.{after_items-append}
 use Rattle.udt_model.proofs.PeerLemmas.{Standing, standing_of, IsCaller, HasAdopted, Adoption, KnowsPeer, KeepsPeer, IsIntroduced, IsIntroducedAt, IsKnown, config_by, start_by, has_peer, knows-speaks, way-known, step-known, step-keeps_peer, items-known, items-keep_peer, peer-introduced}
 use Rattle.udt_model.proofs.PhaseLemmas.{is_settled, speaks}
 use Rattle.udt_model.proofs.SettlingLemmas.{IsShakeEmission}
-use Rattle.udt_model.proofs.WireLemmas.{IsReadShake, read-in_range, read-shake_spelling, spelling-dest}
+use Rattle.udt_model.proofs.StepLemmas.{after_items-keeps_name}
+use Rattle.udt_model.proofs.WireLemmas.{IsReadShake, IsPlain, plain-no_shake, read-in_range, read-shake_spelling, spelling-dest}
 
 -- ---- all that isn't a handshake
 
@@ -47,15 +48,17 @@ module _ {C : Type 0} where
   -- an emission of a socket that speaks, to its peer
   pub record IsToPeer (s : State C) (emission : Emission) : Type 0 where
     pub packet : Packet
+    pub plain : IsPlain packet
     pub spoken : speaks s.phase ≡ true
     pub bytes : emission.datagram.bytes ≡ spelling packet
     pub addr : emission.datagram.addr ≡ s.peer.addr
     pub dest : destination packet ≡ s.peer.id
 
-  to_peer-by : (s : State C) (act : Act) (emission : Emission) (packet : Packet) (offsets : List ℕ) → speaks s.phase ≡ true
+  to_peer-by : (s : State C) (act : Act) (emission : Emission) (packet : Packet) (offsets : List ℕ) → IsPlain packet → speaks s.phase ≡ true
       → destination packet ≡ s.peer.id → emission ≡ emits s packet offsets → IsToPeer s emission ⊎ IsShakeEmission s act emission
-  to_peer-by s act emission packet offsets spoken dest is = inl (record {
+  to_peer-by s act emission packet offsets plain spoken dest is = inl (record {
     packet = packet;
+    plain = plain;
     spoken = spoken;
     bytes = ap (λ (e : Emission). e.datagram.bytes) is;
     addr = ap (λ (e : Emission). e.datagram.addr) is;
@@ -66,21 +69,21 @@ module _ {C : Type 0} (w : Ways C) where
   -- each emission goes to the peer, or is a handshake
   pub emitting-cases : (s : State C) (act : Act) (reply : Reply) (emission : Emission) → Emitting w s act reply emission
       → IsToPeer s emission ⊎ IsShakeEmission s act emission
-  emitting-cases s act reply emission (NewBlock block connected packs is) = to_peer-by s act emission _ _ (rw connected refl) refl is
-  emitting-cases s act reply emission (LostBlock offset block connected packs is) = to_peer-by s act emission _ _ (rw connected refl) refl is
-  emitting-cases s act reply emission (DropRequest message connected packs is) = to_peer-by s act emission _ _ (rw connected refl) refl is
-  emitting-cases s act reply emission (FullAck ack connected tells is) = to_peer-by s act emission _ _ (rw connected refl) refl is
+  emitting-cases s act reply emission (NewBlock block connected packs is) = to_peer-by s act emission _ _ (omega arith) (rw connected refl) refl is
+  emitting-cases s act reply emission (LostBlock offset block connected packs is) = to_peer-by s act emission _ _ (omega arith) (rw connected refl) refl is
+  emitting-cases s act reply emission (DropRequest message connected packs is) = to_peer-by s act emission _ _ tt (rw connected refl) refl is
+  emitting-cases s act reply emission (FullAck ack connected tells is) = to_peer-by s act emission _ _ tt (rw connected refl) refl is
   emitting-cases s act reply emission (LightAck from raw number flags stamp bytes connected arrives carries sender replies is) =
-      to_peer-by s act emission _ _ (rw connected refl) refl is
-  emitting-cases s act reply emission (Reports range ranges connected reports is) = to_peer-by s act emission _ _ (rw connected refl) refl is
+      to_peer-by s act emission _ _ tt (rw connected refl) refl is
+  emitting-cases s act reply emission (Reports range ranges connected reports is) = to_peer-by s act emission _ _ tt (rw connected refl) refl is
   emitting-cases s act reply emission (ReportsGap from raw number flags stamp bytes ends connected arrives carries sender gap is) =
-      to_peer-by s act emission _ _ (rw connected refl) refl is
+      to_peer-by s act emission _ _ tt (rw connected refl) refl is
   emitting-cases s act reply emission
       (ReportsDropGap from raw message stamp first last range ends connected arrives asks sender messages taken gap is) =
-      to_peer-by s act emission _ _ (rw connected refl) refl is
-  emitting-cases s act reply emission (AnswersAck number connected is) = to_peer-by s act emission _ _ (rw connected refl) refl is
-  emitting-cases s act reply emission (SendsKeepAlive connected is) = to_peer-by s act emission _ _ (rw connected refl) refl is
-  emitting-cases s act reply emission (TheEnd closing is) = to_peer-by s act emission _ _ (rw closing refl) refl is
+      to_peer-by s act emission _ _ tt (rw connected refl) refl is
+  emitting-cases s act reply emission (AnswersAck number connected is) = to_peer-by s act emission _ _ tt (rw connected refl) refl is
+  emitting-cases s act reply emission (SendsKeepAlive connected is) = to_peer-by s act emission _ _ tt (rw connected refl) refl is
+  emitting-cases s act reply emission (TheEnd closing is) = to_peer-by s act emission _ _ tt (rw closing refl) refl is
   emitting-cases s act reply emission (SendsHandshake to dest shake sends is) =
       inr (record { to = to; dest = dest; shake = shake; sends = sends; is = is })
 
@@ -379,6 +382,21 @@ module _ {C : Type 0} (w : Ways C) where
   peer-fits own (Paired config peer now) items s range is has = opening-fits own config peer now 0 items s range is
   peer-fits own (PairedAt config peer now start) items s range is has = opening-fits own config peer now start items s range is
 
+module _ {C : Type 0} (w : Ways C) where
+  -- a socket has the ID with which it was opened
+  pub way-own : (own : ℕ) (way : Way) → (opened_by w own way).own ≡ own
+  unfolding opened opening
+  way-own own (Opened isn config now) = refl
+  way-own own (Paired config peer now) = refl
+  way-own own (PairedAt config peer now start) = refl
+
+  -- which fits its place, and so does the initial sequence number
+  way-fits : (own : ℕ) (way : Way) → IsWay own way → ((opened_by w own way).own < 2 ^ 32) × ((opened_by w own way).isn < 2 ^ 31)
+  unfolding opened opening
+  way-fits own (Opened isn config now) range = (range.own_fits, range.isn_fits)
+  way-fits own (Paired config peer now) range = (range.own_fits, range.isn_fits)
+  way-fits own (PairedAt config peer now start) range = (range.own_fits, range.isn_fits)
+
 pair_from : Addr → ℕ → PeerPair
 pair_from addr id = record { addr = addr; id = id }
 
@@ -481,3 +499,31 @@ module _ {C : Type 0} (w : Ways C) where
         (emitting-cases w (at_moment (after_items w s at.front) at.item.event.now) at.item.event.act _ emission at.emitting) reads bound fits in
         goes-named (after_items w s items) emission packet
         (goes-kept t (after_items w s items) emission packet (last-keeps at.front at.item at.rest items at.joined goes.has) goes)
+
+    -- a handshake that some items emitted and that tells whose it is carries the own ID and initial sequence number
+    named-at : (front : List Item) (item : Item) (emission : Emission) (stamp dest : ℕ) (shake : Shake)
+        → IsToPeer (at_moment (after_items w s front) item.event.now) emission
+        ⊎ IsShakeEmission (at_moment (after_items w s front) item.event.now) item.event.act emission
+        → read emission.datagram.bytes ≡ Ok (Handshake stamp dest shake) → names_sender dest (asked shake.ask) ≡ true
+        → NamesOwn (after_items w s front).own (after_items w s front).isn shake
+    named-at front item emission stamp dest shake (inl sent) reads names =
+        absurd (plain-no_shake sent.packet stamp dest shake sent.plain (ap read (sym sent.bytes) ∙ reads))
+    named-at front item emission stamp dest shake (inr sent) reads names =
+        let t = after_items w s front in
+        let name = after_items-keeps_name w s front in
+        let fits = way-fits w own way in_range in
+        tells-named (at_moment t item.event.now) (step w t item.event).after sent.to sent.dest sent.shake emission stamp dest shake
+        (shake-at front item emission sent) sent.is reads names
+        (subst (λ (n : ℕ). n < 2 ^ 32) (sym (name.own ∙ ap (λ (u : State C). u.own) opened_so)) fits.0)
+        (subst (λ (n : ℕ). n < 2 ^ 31) (sym (name.isn ∙ ap (λ (u : State C). u.isn) opened_so)) fits.1)
+
+    pub shake-names : (items : List Item) (emission : Emission) (stamp dest : ℕ) (shake : Shake) → Contains (emitted_by w s items) emission
+        → read emission.datagram.bytes ≡ Ok (Handshake stamp dest shake) → names_sender dest (asked shake.ask) ≡ true
+        → (shake.id ≡ own) × (shake.isn ≡ s.isn)
+    shake-names items emission stamp dest shake among reads names =
+        let at = emitted-at w s items emission among in
+        let named =
+        named-at at.front at.item emission stamp dest shake
+        (emitting-cases w (at_moment (after_items w s at.front) at.item.event.now) at.item.event.act _ emission at.emitting) reads names in
+        let name = after_items-keeps_name w s at.front in
+        (named.id ∙ name.own ∙ ap (λ (u : State C). u.own) opened_so ∙ way-own w own way, named.number ∙ name.isn)
