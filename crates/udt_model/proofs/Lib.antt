@@ -21,6 +21,7 @@ pub mod StreamLemmas
 pub mod EmissionLemmas
 pub mod SettlingLemmas
 pub mod PeerLemmas
+pub mod ShakeLemmas
 pub mod RecordLemmas
 pub mod TakenOffsets
 pub mod MissingOffsets

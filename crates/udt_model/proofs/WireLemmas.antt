@@ -5,6 +5,7 @@ use Rattle.std.specs.Prelude.{FitsSigned, nat_le, nat_lt, length, ◌==◌, if�
 use Rattle.std.specs.Int.{w32, cast_signed, cast_unsigned}
 use Rattle.std.proofs.lemmas.Bool.{cases_lt, lt-ltb, le-ltb, ltb-false}
 use Rattle.std.proofs.lemmas.Bool.Decides.{nat_tests}
+use Rattle.std.proofs.lemmas.Option.{same_Some}
 use Rattle.std.proofs.lemmas.List.{take_all, length-take, length-drop}
 use Rattle.std.proofs.Math.Facts.{to_z-of_z, Fits-of_z, sfits_to_z}
 use Rattle.udt_model.specs.declared.packets.Flags.{Flags}
@@ -439,3 +440,91 @@ read-shake_spelling stamp dest shake packet reads = record {
   same_id = λ fits. word_of-word shake.id fits;
   same_isn = λ fits. number-reads shake.isn _ fits (word_of-word shake.isn (omega arith));
 }
+
+-- ---- destinations of spellings
+
+header-target : (first second third fourth : ℕ) (field : List ℕ) → fourth < 2 ^ 32
+    → target (header first second third fourth ++ field) ≡ Some fourth
+unfolding target
+header-target first second third fourth field fits =
+    let bytes = header first second third fourth ++ field in
+    let long : nat_lt (length bytes) 16 ≡ false = le-ltb (length bytes) 16 (omega (arith, length-header first second third fourth field)) in
+    rw (long, fourth_word first second third fourth field fits) refl
+
+spelling-target : (packet : Packet) → destination packet < 2 ^ 32 → target (spelling packet) ≡ Some (destination packet)
+unfolding spelling
+spelling-target (Block seq flags stamp dest bytes) fits = header-target seq (flags_word flags) stamp dest bytes fits
+spelling-target (Handshake stamp dest shake) fits = header-target (type_word 0) 0 stamp dest (shake_bytes shake) fits
+spelling-target (KeepAlive stamp dest) fits = header-target (type_word 1) 0 stamp dest [] fits
+spelling-target (Ack number stamp dest body) fits = header-target (type_word 2) number stamp dest (ack_bytes body) fits
+spelling-target (Nak stamp dest ranges) fits = header-target (type_word 3) 0 stamp dest (ranges_bytes ranges) fits
+spelling-target (Shutdown stamp dest) fits = header-target (type_word 5) 0 stamp dest [] fits
+spelling-target (Ack2 number stamp dest) fits = header-target (type_word 6) number stamp dest [] fits
+spelling-target (DropAsk message stamp dest first last) fits =
+    header-target (type_word 7) message stamp dest (word first ++ word last) fits
+
+-- what a spelling is read as is for the ID that the packet names, where this fits its place
+pub spelling-dest : (packet read_as : Packet) → destination packet < 2 ^ 32 → read (spelling packet) ≡ Ok read_as
+    → destination read_as ≡ destination packet
+spelling-dest packet read_as fits reads =
+    same_Some (destination read_as) (destination packet) (sym (target-of-read (spelling packet) read_as reads) ∙ spelling-target packet fits)
+
+-- ---- what reads as no handshake
+
+-- the spelling of a packet that is no handshake, whose sequence number fits its place
+abbrev pub IsPlain : Packet → Type 0
+IsPlain (Block seq flags stamp dest bytes) = seq < 2 ^ 31
+IsPlain (Handshake stamp dest shake) = ⊥
+IsPlain other = Unit {0}
+
+control-no_shake : (type : ControlType) (info stamp dest : ℕ) (field : List ℕ) (s d : ℕ) (shake : Shake) → (type ≡ HandshakeType → ⊥)
+    → read_control type info stamp dest field ≡ Ok (Handshake s d shake) → ⊥
+unfolding read_control
+control-no_shake HandshakeType info stamp dest field s d shake other reads = other refl
+control-no_shake AckType info stamp dest field s d shake other reads =
+    let is = (read_long (nat_lt (length field) 4) BadAckLength (Ack info stamp dest (ack_of field)) (Handshake s d shake) reads).1 in
+    cc
+control-no_shake NakType info stamp dest field s d shake other reads = losses-no_shake stamp dest s d (ranges_of field) shake reads
+control-no_shake DropAskType info stamp dest field s d shake other reads =
+    let is =
+    (read_long (nat_lt (length field) 8) BadDropLength (DropAsk (info % 2 ^ 29) stamp dest (number_at 0 field) (number_at 4 field)) (Handshake s d shake) reads).1 in
+    cc
+control-no_shake _ info stamp dest field s d shake other reads = cc
+
+-- what stands after the header of a control packet is read by its type, whatever its other words are
+header-no_shake : (type info stamp dest : ℕ) (field : List ℕ) (s d : ℕ) (shake : Shake) → type < 2 ^ 15 → (control_type type ≡ HandshakeType → ⊥)
+    → read (header (type_word type) info stamp dest ++ field) ≡ Ok (Handshake s d shake) → ⊥
+header-no_shake type info stamp dest field s d shake fits other reads =
+    let bytes = header (type_word type) info stamp dest ++ field in
+    let is_type : type_of (type_word type) ≡ type = omega arith in
+    let is =
+    read-ack_emitted bytes (type_word type) (word_at 4 bytes) (word_at 8 bytes) (word_at 12 bytes) field
+    (omega (arith, length-header (type_word type) info stamp dest field)) (omega arith)
+    (first_word (type_word type) info stamp dest field (omega arith)) refl refl refl (field-header (type_word type) info stamp dest field)
+    ∙ ap (λ (t : ℕ). read_control (control_type t) (word_at 4 bytes) (word_at 8 bytes) (word_at 12 bytes) field) is_type in
+    control-no_shake (control_type type) (word_at 4 bytes) (word_at 8 bytes) (word_at 12 bytes) field s d shake other (sym is ∙ reads)
+
+block-no_shake : (seq second stamp dest : ℕ) (field : List ℕ) (s d : ℕ) (shake : Shake) → seq < 2 ^ 31
+    → read (header seq second stamp dest ++ field) ≡ Ok (Handshake s d shake) → ⊥
+unfolding read
+block-no_shake seq second stamp dest field s d shake fits reads =
+    let bytes = header seq second stamp dest ++ field in
+    let long : nat_lt (length bytes) 16 ≡ false = le-ltb (length bytes) 16 (omega (arith, length-header seq second stamp dest field)) in
+    let first = first_word seq second stamp dest field (omega arith) in
+    let data_bit : nat_lt (word_at 0 bytes) (2 ^ 31) ≡ true = lt-ltb (word_at 0 bytes) (2 ^ 31) (omega (arith, first, fits)) in
+    let is : Ok (block_of bytes) ≡ Ok (Handshake s d shake) = rw (long, data_bit) at reads in
+    cc
+
+pub plain-no_shake : (packet : Packet) (s d : ℕ) (shake : Shake) → IsPlain packet → read (spelling packet) ≡ Ok (Handshake s d shake) → ⊥
+unfolding spelling
+plain-no_shake (Block seq flags stamp dest bytes) s d shake plain reads = block-no_shake seq (flags_word flags) stamp dest bytes s d shake plain reads
+plain-no_shake (Handshake stamp dest other) s d shake plain reads = plain
+plain-no_shake (KeepAlive stamp dest) s d shake plain reads = header-no_shake 1 0 stamp dest [] s d shake (omega arith) (λ is. cc) reads
+plain-no_shake (Ack number stamp dest body) s d shake plain reads =
+    header-no_shake 2 number stamp dest (ack_bytes body) s d shake (omega arith) (λ is. cc) reads
+plain-no_shake (Nak stamp dest ranges) s d shake plain reads =
+    header-no_shake 3 0 stamp dest (ranges_bytes ranges) s d shake (omega arith) (λ is. cc) reads
+plain-no_shake (Shutdown stamp dest) s d shake plain reads = header-no_shake 5 0 stamp dest [] s d shake (omega arith) (λ is. cc) reads
+plain-no_shake (Ack2 number stamp dest) s d shake plain reads = header-no_shake 6 number stamp dest [] s d shake (omega arith) (λ is. cc) reads
+plain-no_shake (DropAsk message stamp dest first last) s d shake plain reads =
+    header-no_shake 7 message stamp dest (word first ++ word last) s d shake (omega arith) (λ is. cc) reads
