@@ -30,8 +30,9 @@ use Rattle.udt_model.proofs.PhaseLemmas.{speaks}
 use Rattle.udt_model.proofs.SettlingLemmas.{IsLinked, IsConnectedAt}
 use Rattle.udt_model.proofs.ShakeLemmas.{known-after, last-keeps}
 
--- a handshake connects a socket: it comes from the peer's address, is for the own ID, and is an answer of the socket that the state names
--- as its peer. A client is connected by a listener's answer alone, which tells the peer's initial sequence number too
+-- a handshake connects a socket: it comes from the peer's address, is for the own ID, and is an answer of the socket
+-- that the state names as its peer. A client is connected by a listener's answer alone, which tells the peer's initial
+-- sequence number too
 pub record IsConnectedBy {C : Type 0} (s : State C) (act : Act) (t : State C) : Type 0 where
   pub from : Addr
   pub raw : List ℕ
@@ -47,44 +48,49 @@ pub record IsConnectedBy {C : Type 0} (s : State C) (act : Act) (t : State C) : 
   pub client : t.origin ≡ origin.Listener → (asked shake.ask ≡ asks.Answers) × (shake.isn ≡ t.peer.isn)
 
 module _ {C : Type 0} (w : Ways C) where
-  offer-connects : (s : State C) (from : Addr) (raw : List ℕ) (c : Connecting) (again stamp dest : ℕ) (shake : Shake) (peer : Peer)
+  offer-connects : (s : State C) (from : Addr) (raw : List ℕ) (c : Connecting) (again stamp dest : ℕ) (shake : Shake)
+      (peer : Peer)
       → read raw ≡ Ok (Handshake stamp dest shake) → SeesAsClient c dest shake from (client.Connected peer)
       → KnowsPeer (standing_of s) (phase.Connecting c again) → (counters : Counters)
       → IsConnectedBy s (Arrive from raw) (record (connected w s peer origin.Listener) { counters = counters })
-  offer-connects s from raw c again stamp dest shake _ reads (SeesOffer sender own answers fits) knows counters = record {
-    from = from;
-    raw = raw;
-    stamp = stamp;
-    dest = dest;
-    shake = shake;
-    arrives = refl;
-    reads = reads;
-    addr = refl;
-    own = own ∙ knows.1.own;
-    id = refl;
-    answers = inl answers;
-    client = λ is. (answers, refl);
-  }
+  offer-connects s from raw c again stamp dest shake _ reads (SeesOffer sender own answers fits) knows counters =
+      record {
+        from = from;
+        raw = raw;
+        stamp = stamp;
+        dest = dest;
+        shake = shake;
+        arrives = refl;
+        reads = reads;
+        addr = refl;
+        own = own ∙ knows.1.own;
+        id = refl;
+        answers = inl answers;
+        client = λ is. (answers, refl);
+      }
 
-  answer-connects : (s : State C) (from : Addr) (raw : List ℕ) (m : Meeting) (again stamp dest : ℕ) (shake : Shake) (peer : Peer)
+  answer-connects : (s : State C) (from : Addr) (raw : List ℕ) (m : Meeting) (again stamp dest : ℕ) (shake : Shake)
+      (peer : Peer)
       → read raw ≡ Ok (Handshake stamp dest shake) → SeesAsMeeting m dest shake from (meet.Connected peer)
       → KnowsPeer (standing_of s) (phase.Meeting m again) → (counters : Counters)
       → IsConnectedBy s (Arrive from raw) (record (connected w s peer origin.Rendezvous) { counters = counters })
-  answer-connects s from raw m again stamp dest shake _ reads (SeesAnswer sender fits answers own none) knows counters = record {
-    from = from;
-    raw = raw;
-    stamp = stamp;
-    dest = dest;
-    shake = shake;
-    arrives = refl;
-    reads = reads;
-    addr = refl;
-    own = own ∙ knows.0.own;
-    id = refl;
-    answers = inl answers;
-    client = λ is. absurd (cc);
-  }
-  answer-connects s from raw m again stamp dest shake _ reads (SeesPeer peer sender fits answers own adopts same) knows counters =
+  answer-connects s from raw m again stamp dest shake _ reads (SeesAnswer sender fits answers own none) knows counters =
+      record {
+        from = from;
+        raw = raw;
+        stamp = stamp;
+        dest = dest;
+        shake = shake;
+        arrives = refl;
+        reads = reads;
+        addr = refl;
+        own = own ∙ knows.0.own;
+        id = refl;
+        answers = inl answers;
+        client = λ is. absurd (cc);
+      }
+  answer-connects s from raw m again stamp dest shake _ reads (SeesPeer peer sender fits answers own adopts same) knows
+      counters =
       let has = subst (Adoption (standing_of s) m.caller.to) adopts knows.1 in
       record {
         from = from;
@@ -101,32 +107,39 @@ module _ {C : Type 0} (w : Ways C) where
         client = λ is. absurd (cc);
       }
 
-  links-connect : (s : State C) (from : Addr) (raw : List ℕ) (peer : Peer) (from_whom : Origin) (emissions : List Emission)
+  links-connect : (s : State C) (from : Addr) (raw : List ℕ) (peer : Peer) (from_whom : Origin)
+      (emissions : List Emission)
       → KnowsPeer (standing_of s) s.phase → Links w s from (read raw) peer from_whom emissions → (counters : Counters)
       → IsConnectedBy s (Arrive from raw) (record (connected w s peer from_whom) { counters = counters })
   links-connect s from raw _ _ _ knows (arrives.ByListener c again stamp dest shake peer is reads sees) counters =
       offer-connects s from raw c again stamp dest shake peer reads
-      (subst (SeesAsClient c dest shake from) sees (client_saw-sees c dest shake from)) (subst (KnowsPeer (standing_of s)) is knows) counters
+      (subst (SeesAsClient c dest shake from) sees (client_saw-sees c dest shake from))
+      (subst (KnowsPeer (standing_of s)) is knows) counters
   links-connect s from raw _ _ _ knows (arrives.ByMeeting m again stamp dest shake peer is reads sees) counters =
       answer-connects s from raw m again stamp dest shake peer reads
-      (subst (SeesAsMeeting m dest shake from) sees (meet_saw-sees m dest shake from)) (subst (KnowsPeer (standing_of s)) is knows) counters
+      (subst (SeesAsMeeting m dest shake from) sees (meet_saw-sees m dest shake from))
+      (subst (KnowsPeer (standing_of s)) is knows) counters
 
-  linked-connects : (s : State C) (act : Act) (outcome : Outcome C) → KnowsPeer (standing_of s) s.phase → IsLinked w s act outcome
+  linked-connects : (s : State C) (act : Act) (outcome : Outcome C) → KnowsPeer (standing_of s) s.phase
+      → IsLinked w s act outcome
       → IsConnectedBy s act outcome.after
   linked-connects s act outcome knows linked =
       rw (linked.arrives, linked.outcome_is)
-      (links-connect s linked.from linked.raw linked.peer linked.from_whom linked.emissions knows linked.links (count_control s.counters))
+      (links-connect s linked.from linked.raw linked.peer linked.from_whom linked.emissions knows linked.links
+      (count_control s.counters))
 
-  -- a socket that was opened without a connection and is connected with one of some items: by whom, who told of the peer, and that the
-  -- peer stays
-  pub record IsMet (config : Config) (s : State C) (items : List Item) (at : IsConnectedAt w config 0 s items) : Type 0 where
+  -- a socket that was opened without a connection and is connected with one of some items: by whom, who told of the
+  -- peer, and that the peer stays
+  pub record IsMet (config : Config) (s : State C) (items : List Item) (at : IsConnectedAt w config 0 s items)
+      : Type 0 where
     pub by : IsConnectedBy (at_moment (after_items w s at.front) at.item.event.now) at.item.event.act
         (step w (after_items w s at.front) at.item.event).after
     pub stays : KeepsPeer (step w (after_items w s at.front) at.item.event).after (after_items w s items)
     pub has : has_peer (after_items w s items).origin ≡ true
     pub introduced : IsIntroducedAt w s items
 
-  module _ (own isn : ℕ) (config : Config) (now : ℕ) (s : State C) (in_range : IsOpened own isn config) (is : s ≡ opened w own isn config now) where
+  module _ (own isn : ℕ) (config : Config) (now : ℕ) (s : State C) (in_range : IsOpened own isn config)
+      (is : s ≡ opened w own isn config now) where
     opened-nobody : has_peer s.origin ≡ false
     unfolding opened
     opened-nobody = ap (λ (u : State C). has_peer u.origin) is
@@ -143,7 +156,8 @@ module _ {C : Type 0} (w : Ways C) where
         let last : has_peer (after_items w s items).origin ≡ true = ap has_peer stays.origin ∙ has in
         let begun = subst (IsKnown w config 0) (sym is) (way-known w own way) in
         record {
-          by = linked-connects (at_moment t at.item.event.now) at.item.event.act (step w t at.item.event) known.knows at.linked;
+          by = linked-connects (at_moment t at.item.event.now) at.item.event.act (step w t at.item.event) known.knows
+              at.linked;
           stays = stays;
           has = last;
           introduced = peer-introduced w config 0 s items begun opened-nobody last;
