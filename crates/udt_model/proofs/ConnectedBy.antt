@@ -1,5 +1,5 @@
 -- By which handshake a socket comes to be connected.
-use Rattle.std.proofs.Common.{◌≡◌, ℕ, true, false, List, Ok, refl, ap, ◌∙◌, sym, subst, inl, ◌⊎◌}
+use Rattle.std.proofs.Common.{◌≡◌, ℕ, true, false, List, Ok, refl, ap, ◌∙◌, sym, subst, inl, inr, ◌⊎◌}
 use Rattle.udt_model.specs.declared.addresses.Addr.{Addr}
 use Rattle.udt_model.specs.declared.answers.Origin.{Origin}
 use Rattle.udt_model.specs.declared.answers.Origin.TheVariants as origin
@@ -13,21 +13,23 @@ use Rattle.udt_model.specs.declared.sockets.Counters.{Counters}
 use Rattle.udt_model.specs.Counted.{count_control}
 use Rattle.udt_model.specs.Events.{Act, Arrive, Outcome, at_moment}
 use Rattle.udt_model.specs.Handshakes.{Connecting, Meeting, asked}
-use Rattle.udt_model.specs.History.{Item, after_items}
-use Rattle.udt_model.specs.Opening.{connected, opened, IsOpened}
+use Rattle.udt_model.specs.History.{Item, after_items, AreLegal}
+use Rattle.udt_model.specs.Opening.{connected, opened, opening, IsOpened}
 use Rattle.udt_model.specs.Phases.{Phase, Backlog, has_place}
 use Rattle.udt_model.specs.Phases as phase
 use Rattle.udt_model.specs.Rate.{Ways}
-use Rattle.udt_model.specs.Records.{Opened}
+use Rattle.udt_model.specs.Records.{Way, Opened, Paired, PairedAt, opened_by}
 use Rattle.udt_model.specs.State.{State, Emission}
 use Rattle.udt_model.specs.Step.{step}
 use Rattle.udt_model.specs.Wire.{Handshake, read}
 use Rattle.udt_model.proofs.ArrivalLemmas.{Links}
 use Rattle.udt_model.proofs.ArrivalLemmas as arrives
 use Rattle.udt_model.proofs.HandshakeLemmas.{SeesAsClient, SeesOffer, SeesAsMeeting, SeesAnswer, SeesPeer, client_saw-sees, meet_saw-sees}
-use Rattle.udt_model.proofs.PeerLemmas.{standing_of, Adoption, KnowsPeer, KeepsPeer, IsIntroducedAt, IsKnown, has_peer, knows-speaks, way-known, step-known, peer-introduced}
+use Rattle.udt_model.proofs.PeerLemmas.{standing_of, Adoption, KnowsPeer, KeepsPeer, IsIntroducedAt, IsKnown, config_by, start_by, has_peer, knows-speaks, way-known, step-known, items-keep_peer, peer-introduced}
 use Rattle.udt_model.proofs.PhaseLemmas.{speaks}
-use Rattle.udt_model.proofs.SettlingLemmas.{IsLinked, IsConnectedAt}
+use Rattle.udt_model.proofs.StepLemmas.{KeepsName, same_name, name_on, step-keeps_name, after_items-keeps_name}
+use Rattle.udt_model.proofs.UnlinkedLemmas.{IsUnlinked}
+use Rattle.udt_model.proofs.SettlingLemmas.{IsFresh, GoesOnAs, AreQuiet, goes_on, items-begin, opened-unlinked, opening-fresh, IsLinked, IsConnectedAt}
 use Rattle.udt_model.proofs.ShakeLemmas.{known-after, last-keeps}
 
 -- a handshake connects a socket: it comes from the peer's address, is for the own ID, and is an answer of the socket
@@ -148,11 +150,11 @@ module _ {C : Type 0} (w : Ways C) where
     opened-met items at =
         let t = after_items w s at.front in
         let way = Opened isn config now in
-        let known = known-after w own way s in_range is at.front in
+        let known = known-after w own way s is at.front in
         let after = (step-known w config 0 t at.item.event known).known in
         let next = (step w t at.item.event).after in
         let has = knows-speaks (standing_of next) next.phase after.knows (ap speaks at.fresh.connected) in
-        let stays = last-keeps w own way s in_range is at.front at.item at.rest items at.joined has in
+        let stays = last-keeps w own way s is at.front at.item at.rest items at.joined has in
         let last : has_peer (after_items w s items).origin ≡ true = ap has_peer stays.origin ∙ has in
         let begun = subst (IsKnown w config 0) (sym is) (way-known w own way) in
         record {
@@ -162,3 +164,63 @@ module _ {C : Type 0} (w : Ways C) where
           has = last;
           introduced = peer-introduced w config 0 s items begun opened-nobody last;
         }
+
+-- ---- where a history begins
+
+module _ {C : Type 0} (w : Ways C) where
+  -- a history goes on from a state in which its socket is just connected, as if it began there, with the last peer
+  pub record BeginsConnected (config : Config) (start : ℕ) (s : State C) (items : List Item) : Type 0 where
+    pub first : State C
+    pub rest : List Item
+    pub fresh : IsFresh w config start first
+    pub name : KeepsName s first
+    pub peer : KeepsPeer first (after_items w s items)
+    pub goes_on : GoesOnAs w s items first rest
+
+  opened-begins : (own isn : ℕ) (config : Config) (now : ℕ) (s : State C) → s ≡ opened w own isn config now
+      → (items : List Item) → IsConnectedAt w config 0 s items → BeginsConnected config 0 s items
+  opened-begins own isn config now s is items at =
+      let way = Opened isn config now in
+      let t = after_items w s at.front in
+      let next = (step w t at.item.event).after in
+      let after = (step-known w config 0 t at.item.event (known-after w own way s is at.front)).known in
+      let has = knows-speaks (standing_of next) next.phase after.knows (ap speaks at.fresh.connected) in
+      record {
+        first = next;
+        rest = at.rest;
+        fresh = at.fresh;
+        name = name_on s t next (after_items-keeps_name w s at.front) (step-keeps_name w t at.item.event);
+        peer = last-keeps w own way s is at.front at.item at.rest items at.joined has;
+        goes_on = at.goes_on;
+      }
+
+  opening-begins : (own : ℕ) (config : Config) (peer : Peer) (now start : ℕ) (s : State C)
+      → s ≡ opening w own config peer now start → (items : List Item) → AreLegal w s items
+      → BeginsConnected config start s items
+  unfolding opening
+  opening-begins own config peer now start s is items legal =
+      let known = subst (IsKnown w config start) (sym is) (way-known w own (PairedAt config peer now start)) in
+      record {
+        first = s;
+        rest = items;
+        fresh = subst (IsFresh w config start) (sym is) (opening-fresh w own config peer now start);
+        name = same_name s;
+        peer = items-keep_peer w config start s items known (ap (λ (u : State C). has_peer u.origin) is);
+        goes_on = goes_on w s items legal;
+      }
+
+  -- however a socket was opened, it was never connected and its history tells nothing, or it goes on from a state in
+  -- which it is just connected
+  pub way-begins : (own : ℕ) (way : Way) (s : State C) → s ≡ opened_by w own way → (items : List Item)
+      → AreLegal w s items
+      → (IsUnlinked w (config_by w way) (start_by w way) (after_items w s items) × AreQuiet w s items)
+      ⊎ BeginsConnected (config_by w way) (start_by w way) s items
+  way-begins own (Opened isn config now) s is items legal =
+      elim (items-begin w config 0 s items
+      (subst (IsUnlinked w config 0) (sym is) (opened-unlinked w own isn config now)) legal) [
+        | inl quiet ↦ inl quiet
+        | inr at ↦ inr (opened-begins own isn config now s is items at)
+      ]
+  way-begins own (Paired config peer now) s is items legal = inr (opening-begins own config peer now 0 s is items legal)
+  way-begins own (PairedAt config peer now start) s is items legal =
+      inr (opening-begins own config peer now start s is items legal)

@@ -17,10 +17,12 @@ use Rattle.udt_model.specs.Counted.{on_control}
 use Rattle.udt_model.specs.Emissions.{emitted_by, arrived_by_act, arrived_by}
 use Rattle.udt_model.specs.Events.{Act, Arrive, Event, Reply, Outcome, at_moment}
 use Rattle.udt_model.specs.History.{Item, after_items, AreLegal, accepted_by, delivered_by, placed_from, asked_from, shown_from, dropped_from}
+use Rattle.udt_model.specs.Honest.{AreHonest}
 use Rattle.udt_model.specs.Opening.{connected, opened, opening}
 use Rattle.udt_model.specs.Phases.{Phase}
 use Rattle.udt_model.specs.Phases as phase
 use Rattle.udt_model.specs.Rate.{Ways}
+use Rattle.udt_model.specs.Records.{EndpointRecord}
 use Rattle.udt_model.specs.ReceiveHalf.{idle_receiving, linked_receiving}
 use Rattle.udt_model.specs.SendHalf.{Sending, idle_sending, linked_sending}
 use Rattle.udt_model.specs.State.{State, Datagram, Emission}
@@ -254,10 +256,12 @@ module _ {C : Type 0} (w : Ways C) where
     pub emits : (emission : Emission) → Contains (emitted_by w t rest) emission
         → Contains (emitted_by w s items) emission
     pub arrived : (datagram : Datagram) → Contains (arrived_by rest) datagram → Contains (arrived_by items) datagram
+    pub honest : (net : List (EndpointRecord C)) (addr : Addr) → AreHonest w net addr s items
+        → AreHonest w net addr t rest
     pub ends : after_items w s items ≡ after_items w t rest
     pub legal : AreLegal w t rest
 
-  goes_on : (s : State C) (items : List Item) → AreLegal w s items → GoesOnAs s items s items
+  pub goes_on : (s : State C) (items : List Item) → AreLegal w s items → GoesOnAs s items s items
   goes_on s items legal = record {
     accepted = refl;
     delivered = refl;
@@ -268,6 +272,7 @@ module _ {C : Type 0} (w : Ways C) where
     emitted = λ emission among. inr among;
     emits = λ emission among. among;
     arrived = λ datagram among. among;
+    honest = λ net addr honest. honest;
     ends = refl;
     legal = legal;
   }
@@ -277,7 +282,7 @@ module _ {C : Type 0} (w : Ways C) where
 
   goes-before : (s : State C) (item : Item) (items : List Item) (t : State C) (rest : List Item) → IsQuietItem s item
       → GoesOnAs (step w s item.event).after items t rest → GoesOnAs s (item ∷ items) t rest
-  unfolding accepted_by delivered_by placed_from asked_from shown_from dropped_from emitted_by arrived_by after_items
+  unfolding accepted_by delivered_by placed_from asked_from shown_from dropped_from emitted_by arrived_by after_items AreHonest
   goes-before s item items t rest first others = record {
     accepted = empty-first _ _ first.nothing.taken ∙ others.accepted;
     delivered = empty-first _ _ first.nothing.given ∙ others.delivered;
@@ -293,6 +298,7 @@ module _ {C : Type 0} (w : Ways C) where
         (others.emits emission among);
     arrived = λ datagram among. Contains-append_right (arrived_by_act item.event.act) _ datagram
         (others.arrived datagram among);
+    honest = λ net addr honest. others.honest net addr honest.1;
     ends = others.ends;
     legal = others.legal;
   }

@@ -28,13 +28,33 @@ use Rattle.udt_model.proofs.HandshakeTells.{IsToPeer, Tells, emitting-cases, sen
 
 -- ---- histories
 
-module _ {C : Type 0} (w : Ways C) (own : ℕ) (way : Way) (s : State C) (in_range : IsWay own way)
-    (opened_so : s ≡ opened_by w own way) where
-  -- the state after some items is known
-  pub known-after : (items : List Item) → IsKnown w (config_by w way) (start_by w way) (after_items w s items)
-  known-after items =
-      items-known w (config_by w way) (start_by w way) s items
-      (subst (IsKnown w (config_by w way) (start_by w way)) (sym opened_so) (way-known w own way))
+module _ {C : Type 0} (w : Ways C) where
+  after-front : (s : State C) (front : List Item) (item : Item) (rest : List Item)
+      → after_items w s (front ++ item ∷ rest) ≡ after_items w (step w (after_items w s front) item.event).after rest
+  unfolding after_items
+  after-front s front item rest = after_items-append w s front (item ∷ rest)
+
+  module _ (own : ℕ) (way : Way) (s : State C) (opened_so : s ≡ opened_by w own way) where
+    -- the state after some items is known
+    pub known-after : (items : List Item) → IsKnown w (config_by w way) (start_by w way) (after_items w s items)
+    known-after items =
+        items-known w (config_by w way) (start_by w way) s items
+        (subst (IsKnown w (config_by w way) (start_by w way)) (sym opened_so) (way-known w own way))
+
+    -- the peer after one of some items stays
+    pub last-keeps : (front : List Item) (item : Item) (rest items : List Item) → items ≡ front ++ item ∷ rest
+        → has_peer (step w (after_items w s front) item.event).after.origin ≡ true
+        → KeepsPeer (step w (after_items w s front) item.event).after (after_items w s items)
+    last-keeps front item rest items joined has =
+        let t = (step w (after_items w s front) item.event).after in
+        let known = (step-known w (config_by w way) (start_by w way) _ item.event (known-after front)).known in
+        let kept = items-keep_peer w (config_by w way) (start_by w way) t rest known has in
+        let last : after_items w s items ≡ after_items w t rest =
+        ap (after_items w s) joined ∙ after-front s front item rest in
+        record {
+          peer = ap (λ (u : State C). u.peer) last ∙ kept.peer;
+          origin = ap (λ (u : State C). u.origin) last ∙ kept.origin;
+        }
 
 -- the ID and the initial sequence number of a peer fit their places
 pub record PeerFits (peer : Peer) : Type 0 where
@@ -123,11 +143,6 @@ module _ {C : Type 0} (w : Ways C) where
     id = goes.id ∙ ap (λ (p : Peer). p.id) (sym kept.peer);
   }
 
-  after-front : (s : State C) (front : List Item) (item : Item) (rest : List Item)
-      → after_items w s (front ++ item ∷ rest) ≡ after_items w (step w (after_items w s front) item.event).after rest
-  unfolding after_items
-  after-front s front item rest = after_items-append w s front (item ∷ rest)
-
   module _ (own : ℕ) (way : Way) (s : State C) (in_range : IsWay own way) (opened_so : s ≡ opened_by w own way) where
     -- what a handshake tells that was emitted with an item
     shake-at : (front : List Item) (item : Item) (emission : Emission)
@@ -137,7 +152,7 @@ module _ {C : Type 0} (w : Ways C) where
     unfolding step
     shake-at front item emission sent =
         let t = after_items w s front in
-        let known = known-after w own way s in_range opened_so front in
+        let known = known-after w own way s opened_so front in
         sends-tells w (at_moment t item.event.now) item.event.act sent.to sent.dest sent.shake sent.sends known.knows
         (λ has.
         let kept = step-keeps_peer w (config_by w way) (start_by w way) t item.event known has in
@@ -153,7 +168,7 @@ module _ {C : Type 0} (w : Ways C) where
         → GoesToPeer (step w (after_items w s front) item.event).after emission packet
     bound-at front item emission packet (inl sent) reads bound fits =
         let t = after_items w s front in
-        let known = known-after w own way s in_range opened_so front in
+        let known = known-after w own way s opened_so front in
         let has = knows-speaks (standing_of t) t.phase known.knows sent.spoken in
         let kept = step-keeps_peer w (config_by w way) (start_by w way) t item.event known has in
         let t_fits = (peer-fits w own way front s in_range opened_so has).id in
@@ -168,23 +183,6 @@ module _ {C : Type 0} (w : Ways C) where
         sent.to sent.dest sent.shake
         emission packet (shake-at front item emission sent) sent.is reads bound fits
 
-    -- the peer after one of some items stays
-    pub last-keeps : (front : List Item) (item : Item) (rest items : List Item) → items ≡ front ++ item ∷ rest
-        → has_peer (step w (after_items w s front) item.event).after.origin ≡ true
-        → KeepsPeer (step w (after_items w s front) item.event).after (after_items w s items)
-    last-keeps front item rest items joined has =
-        let t = (step w (after_items w s front) item.event).after in
-        let known =
-        (step-known w (config_by w way) (start_by w way) _ item.event
-        (known-after w own way s in_range opened_so front)).known in
-        let kept = items-keep_peer w (config_by w way) (start_by w way) t rest known has in
-        let last : after_items w s items ≡ after_items w t rest = ap (after_items w s) joined
-        ∙ after-front s front item rest in
-        record {
-          peer = ap (λ (u : State C). u.peer) last ∙ kept.peer;
-          origin = ap (λ (u : State C). u.origin) last ∙ kept.origin;
-        }
-
     -- what some items emitted that is bound for the peer goes to the own peer
     pub bound-goes : (items : List Item) (emission : Emission) (packet : Packet)
         → Contains (emitted_by w s items) emission
@@ -196,7 +194,7 @@ module _ {C : Type 0} (w : Ways C) where
         let t = (step w (after_items w s at.front) at.item.event).after in
         let fits : has_peer t.origin ≡ true → t.peer.id < 2 ^ 32 =
         λ has.
-        let kept = last-keeps at.front at.item at.rest items at.joined has in
+        let kept = last-keeps w own way s opened_so at.front at.item at.rest items at.joined has in
         subst (λ (p : Peer). p.id < 2 ^ 32) kept.peer
         (peer-fits w own way items s in_range opened_so (ap has_peer kept.origin ∙ has)).id in
         let goes =
@@ -204,7 +202,8 @@ module _ {C : Type 0} (w : Ways C) where
         (emitting-cases w (at_moment (after_items w s at.front) at.item.event.now) at.item.event.act _ emission
         at.emitting) reads bound fits in
         goes-named (after_items w s items) emission packet
-        (goes-kept t (after_items w s items) emission packet (last-keeps at.front at.item at.rest items at.joined
+        (goes-kept t (after_items w s items) emission packet (last-keeps w own way s opened_so at.front at.item at.rest
+        items at.joined
         goes.has) goes)
 
     -- a handshake that some items emitted and that tells whose it is carries the own ID and initial sequence number

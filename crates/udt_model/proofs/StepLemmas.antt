@@ -68,7 +68,7 @@ module _ {C : Type 0} where
   pub same_name : (s : State C) → KeepsName s s
   same_name s = record { own = refl; kind = refl; isn = refl; opened = refl }
 
-  name_on : (s t u : State C) → KeepsName s t → KeepsName t u → KeepsName s u
+  pub name_on : (s t u : State C) → KeepsName s t → KeepsName t u → KeepsName s u
   name_on s t u first second = record {
     own = second.own ∙ first.own;
     kind = second.kind ∙ first.kind;
