@@ -190,7 +190,8 @@ fresh-listens : reply fresh 0 (Listen 1 []) ≡ DidListen (Ok tt)
 unfolding config reply fresh step opened
 fresh-listens = refl
 
-listening-connect : reply (after fresh 0 (Listen 1 [])) 0 (Connect (at 0x0a000009 1)) ≡ DidConnect (Err refusal.Connected)
+listening-connect : reply (after fresh 0 (Listen 1 [])) 0 (Connect (at 0x0a000009 1))
+    ≡ DidConnect (Err refusal.Connected)
 unfolding config at after reply fresh step opened
 listening-connect = refl
 
