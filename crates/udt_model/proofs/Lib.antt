@@ -1,7 +1,9 @@
 mod Examples
+mod ShakeExamples
 pub mod NearLemmas
 pub mod RangeLemmas
 pub mod WireLemmas
+pub mod SpellingLemmas
 pub mod AddressLemmas
 pub mod OffsetLemmas
 pub mod SendingLemmas
@@ -21,7 +23,9 @@ pub mod StreamLemmas
 pub mod EmissionLemmas
 pub mod SettlingLemmas
 pub mod PeerLemmas
+pub mod HandshakeTells
 pub mod ShakeLemmas
+pub mod ConnectedBy
 pub mod RecordLemmas
 pub mod TakenOffsets
 pub mod MissingOffsets
