@@ -432,13 +432,13 @@ module _ {C : Type 0} (w : Ways C) where
 
   -- ---- openings
 
-  -- the values with which a socket was opened, and the offset at which its directions begin
+  -- the values with which a socket was opened
   abbrev pub config_by : Way → Config
   config_by (Opened isn config now) = config
   config_by (Paired config peer now) = config
   config_by (PairedAt config peer now start) = config
 
-  -- and the offset
+  -- and the offset at which its directions begin
   abbrev pub start_by : Way → ℕ
   start_by (Opened isn config now) = 0
   start_by (Paired config peer now) = 0
