@@ -8,8 +8,8 @@ packet costs is the difference of the two runs, so that openings and the program
 calls of a socket, each with all that it calls: those that give packets (send, pack), those that take them (arrive,
 recv), and the ticks. In the program each call stands in a function of its own, `socket::call_send` and so on. ACKs,
 ACK2s and NAKs arrive too, so they count as arriving. What all heap blocks of one packet's run take tells the memory of
-the two sockets. `PROGRAM flood PACKETS` has one NAK arrive so often, and then one block that its socket has already. It
-prints
+the two sockets. `PROGRAM flood PACKETS` has one NAK arrive so often, and then one block that its socket has already, and
+`PROGRAM routes PACKETS` looks up one of 1,024 IDs so often. It prints
 
     send and pack N instructions a packet
     arrive and recv N instructions a packet
@@ -19,8 +19,10 @@ prints
     a NAK that came before N instructions
     a block that came before N instructions
     allocations N more with a flood of twice as many
+    a look-up among 1,024 IDs N instructions
+    allocations N more with twice as many look-ups
 
-and ends with status 1 where a flood wasn't taken as it should be.
+and ends with status 1 where a flood wasn't taken, or an ID wasn't found, as it should be.
 """
 import os
 import re
@@ -117,6 +119,7 @@ def main(given):
     with tempfile.TemporaryDirectory() as folder:
         pushed = profiles(program, "socket", packets, r"N packets, \d+ bytes received", folder)
         flooded = profiles(program, "flood", packets, "N reports, N blocks again", folder)
+        routed = profiles(program, "routes", packets, "N look-ups, N found", folder)
     for line, calls in LINES.items():
         cost = sum(counted(f"socket::call_{it}", *pushed) for it in calls)
         print(f"{line} {cost // packets} instructions a packet")
@@ -125,6 +128,8 @@ def main(given):
     for line, name in FLOODS.items():
         print(f"{line} that came before {counted(name, *flooded) // packets} instructions")
     print(f"allocations {allocations(*flooded)} more with a flood of twice as many")
+    print(f"a look-up among 1,024 IDs {counted('routes::look_up', *routed) // packets} instructions")
+    print(f"allocations {allocations(*routed)} more with twice as many look-ups")
 
 
 if __name__ == "__main__":

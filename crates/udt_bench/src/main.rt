@@ -1,4 +1,4 @@
-//! A program that measures: `udt_bench turn` counts the turns that several threads take in a second, beside a lock of the standard library, `udt_bench loss` times the calls of the loss lists, `udt_bench buffers` what a block costs in the buffers of a socket, `udt_bench queues` how many entries go through the outbox in a second, and `udt_bench socket` and `udt_bench flood` have datagrams go between two sockets.
+//! A program that measures: `udt_bench turn` counts the turns that several threads take in a second, beside a lock of the standard library, `udt_bench loss` times the calls of the loss lists, `udt_bench buffers` what a block costs in the buffers of a socket, `udt_bench queues` how many entries go through the outbox in a second, `udt_bench routes` how many look-ups readers of the routes make in a second, and `udt_bench socket` and `udt_bench flood` have datagrams go between two sockets.
 #![tactic(auto)]
 
 mod buffers;
@@ -6,6 +6,7 @@ mod flood;
 mod locks;
 mod loss;
 mod queues;
+mod routes;
 mod socket;
 mod tally;
 mod turns;
@@ -35,6 +36,15 @@ fn main(rt: HostRuntime) -> io::Result<()> {
         Some(word) if word.as_str() == "loss" => loss::bench(&rt, rt.alloc()),
         Some(word) if word.as_str() == "buffers" => buffers::bench_buffers(&rt, rt.alloc()),
         Some(word) if word.as_str() == "queues" => queues::bench(&rt, rt.alloc()),
+        Some(word) if word.as_str() == "routes" => {
+            let reads = words
+                .next()
+                .and_then(|word| word.as_str().parse::<u32>().ok());
+            match reads {
+                Some(reads) => routes::count(&rt, rt.alloc(), reads),
+                None => routes::bench(&rt, rt.alloc()),
+            }
+        }
         Some(word) if word.as_str() == "socket" => {
             let packets = words
                 .next()
@@ -48,7 +58,7 @@ fn main(rt: HostRuntime) -> io::Result<()> {
             flood::bench_flood(&rt, rt.alloc(), count.unwrap_or(FLOOD))
         }
         _ => {
-            println!(rt; "usage: udt_bench turn|loss|buffers|queues|socket|flood")?;
+            println!(rt; "usage: udt_bench turn|loss|buffers|queues|routes|socket|flood")?;
             Ok(())
         }
     }

@@ -4,3 +4,6 @@ mod PairLemmas
 mod MeetLemmas
 pub mod DrawerLemmas
 mod EachOnce
+mod KeepingChanges
+mod Noting
+mod Origins

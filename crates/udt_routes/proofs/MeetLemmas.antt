@@ -1,5 +1,5 @@
 -- Meetings by ID and by address say the same.
-use Rattle.std.proofs.Common.{◌≡◌, ℕ, ◌==◌, Bool, true, false, cond, ◌&&◌, not, nat_lt, ◌+◌, ◌<◌, length, arith, List, [], ◌∷◌, Option, Some, None, is_some, eqb-true, eq-eqb, true≢false, refl, sym, ap, ◌∙◌, subst}
+use Rattle.std.proofs.Common.{◌≡◌, ℕ, Bool, true, false, cond, ◌&&◌, not, nat_lt, ◌+◌, ◌<◌, length, arith, List, [], ◌∷◌, Option, Some, None, is_some, true≢false, refl, sym, ap, ◌∙◌}
 use Rattle.std.proofs.lemmas.Bool.{and_parts, ltb-true}
 use Rattle.std.proofs.lemmas.Map.{lookup-none}
 use Rattle.std.proofs.lemmas.Map.Entries.{none_past_head}

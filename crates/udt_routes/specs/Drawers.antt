@@ -1,5 +1,5 @@
 -- Which IDs a drawer gives.
-use Rattle.std.specs.Prelude.{◌≡◌, ◌≢◌, ℕ, ◌+◌, ◌-◌, ◌*◌, ◌<◌, ◌≤◌, nat_lt, Option, Some, None, if◌then◌else◌}
+use Rattle.std.specs.Prelude.{◌≡◌, ℕ, ◌+◌, ◌-◌, ◌*◌, ◌<◌, ◌≤◌, nat_lt, Option, Some, None, if◌then◌else◌}
 
 -- one of several drawers that share the IDs from the first one down: how many IDs there are, how many
 -- drawers share them, which of these it is, and how many it has given

@@ -10,3 +10,10 @@ pub mod Tables
 pub mod Inside
 pub mod Routing
 pub mod Lookups
+pub mod Changes
+pub mod Copies
+pub mod Publications
+pub mod Publishing
+pub mod Publishers
+pub mod Readings
+pub mod Writings

@@ -1,5 +1,6 @@
 -- What is known of the sockets of one endpoint.
-use Rattle.std.specs.Prelude.{◌≡◌, ◌+◌, ℕ, Bool, not, ◌&&◌, nat_lt, nat_eq, is_some, List, [], length, Option, Some, None, if◌then◌else◌, refl}
+use Rattle.std.specs.Prelude.{◌≡◌, ◌+◌, ℕ, Bool, not, ◌&&◌, nat_lt, nat_eq, is_some}
+use Rattle.std.specs.Prelude.{List, [], length, Option, Some, None, if◌then◌else◌, refl}
 use Rattle.std.specs.Coded.{Coded, code_by, coded×, coded_ℕ, coded_list, coded_option}
 use Rattle.std.specs.Map.{remove_entry}
 use Rattle.std.specs.BTreeMap.{is_at, insert_entry}
@@ -27,9 +28,19 @@ Parts R = (ℕ × ℕ) × (List (ℕ × R) × (List (ℕ × (Addr × ℕ)) × (O
 abbrev pub table_code : {R : Type 0} → Coded R → Coded (Table R)
 table_code {R} code =
     code_by (Parts R)
-    (coded× (coded× coded_ℕ coded_ℕ) (coded× (coded_list (coded× coded_ℕ code)) (coded× (coded_list (coded× coded_ℕ (coded× addr.the_row.coded coded_ℕ))) (coded× (coded_option coded_ℕ) (coded_list (coded× coded_ℕ addr.the_row.coded))))))
+    (coded× (coded× coded_ℕ coded_ℕ)
+    (coded× (coded_list (coded× coded_ℕ code))
+    (coded× (coded_list (coded× coded_ℕ (coded× addr.the_row.coded coded_ℕ)))
+    (coded× (coded_option coded_ℕ) (coded_list (coded× coded_ℕ addr.the_row.coded))))))
     (λ t. ((t.ids, t.live), (t.enrolled, (t.adoptions, (t.listener, t.meetings)))))
-    (λ p. record { ids = p.0.0; live = p.0.1; enrolled = p.1.0; adoptions = p.1.1.0; listener = p.1.1.1.0; meetings = p.1.1.1.1 })
+    (λ p. record {
+      ids = p.0.0;
+      live = p.0.1;
+      enrolled = p.1.0;
+      adoptions = p.1.1.0;
+      listener = p.1.1.1.0;
+      meetings = p.1.1.1.1;
+    })
     (λ _. refl)
 
 -- the listener, where it isn't this ID
@@ -40,7 +51,14 @@ listener_without (Some listener) id = if nat_eq listener id then None else Some 
 module _ {R : Type 0} where
   -- a table of which nothing is known yet
   abbrev pub empty_table : ℕ → ℕ → Table R
-  empty_table ids live = record { ids = ids; live = live; enrolled = []; adoptions = []; listener = None; meetings = [] }
+  empty_table ids live = record {
+    ids = ids;
+    live = live;
+    enrolled = [];
+    adoptions = [];
+    listener = None;
+    meetings = [];
+  }
 
   -- what is enrolled under an ID
   abbrev pub what_of : Table R → ℕ → Option R

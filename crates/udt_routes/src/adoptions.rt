@@ -1,6 +1,7 @@
 // Which socket has adopted which pair of a peer's address and socket ID.
 
-ghost use Rattle.std.specs.Prelude.{◌≡◌, ◌+◌, ◌<◌, ◌≤◌, ◌++◌, [], ◌∷◌, length, is_some, is_ok, not, IfOk, OnOk, OnErr, None};
+ghost use Rattle.std.specs.Prelude.{◌≡◌, ◌+◌, ◌<◌, ◌≤◌, ◌++◌, [], ◌∷◌, length};
+ghost use Rattle.std.specs.Prelude.{is_some, is_ok, not, IfOk, OnOk, OnErr, None};
 ghost use Rattle.udt_routes.specs.Pairs.{pair_of, adopter_of, IsAdoptedOnce};
 
 use crate::errors::{OutOfMemory, Taken};
@@ -32,7 +33,7 @@ impl Model for Adoptions {
 }
 
 impl Adoptions {
-    /// No adoptions, with room for so many.
+    /// No adoptions, with room for this number.
     pub fn new(alloc: Global, ids: u32) -> Result<Adoptions, OutOfMemory>
         ensures { IfOk result (λ a. a ≡ record { ids = ids; adopted = [] }) }
     {
@@ -50,7 +51,8 @@ impl Adoptions {
         requires first { pair_of self.old.adopted own ≡ None }
         requires room { length self.old.adopted < self.old.ids }
         ensures exact { is_ok result ≡ not (is_some (adopter_of self.old.adopted (addr, peer))) }
-        ensures ok { OnOk result (self.new ≡ record self.old { adopted = self.old.adopted ++ (own, (addr, peer)) ∷ [] }) }
+        ensures ok { OnOk result
+            (self.new ≡ record self.old { adopted = self.old.adopted ++ (own, (addr, peer)) ∷ [] }) }
         ensures err { OnErr result (self.new ≡ self.old) }
         ensures once { IsAdoptedOnce self.new.adopted }
     {

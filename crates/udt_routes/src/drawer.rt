@@ -51,7 +51,8 @@ impl Drawer {
     #[tactic(auto, using(crate::proofs::DrawerLemmas::draws_none, crate::proofs::DrawerLemmas::draws_some, crate::proofs::DrawerLemmas::next_depth))]
     pub fn next_id(&mut self) -> Option<u32>
         ensures value { result ≡ draw self.old self.old.drawn }
-        ensures next { self.new ≡ record self.old { drawn = if is_some result then self.old.drawn + 1 else self.old.drawn } }
+        ensures next { self.new
+            ≡ record self.old { drawn = if is_some result then self.old.drawn + 1 else self.old.drawn } }
     {
         let depth = self.next;
         if depth >= self.ids as u64 {

@@ -23,3 +23,27 @@ pub struct ListenTwice;
 /// The address is met already, the socket meets one already, or as many are met as may be.
 #[derive(Clone, Copy, Debug, PartialEq, Eq)]
 pub struct MeetTaken;
+
+/// Why the writer doesn't enrol an ID.
+#[derive(Clone, Copy, Debug, PartialEq, Eq)]
+pub enum EnrolNo {
+    /// The ID is enrolled, or as many are as may be.
+    Live,
+    OutOfMemory,
+}
+
+/// Why the writer doesn't make a socket the listener.
+#[derive(Clone, Copy, Debug, PartialEq, Eq)]
+pub enum ListenNo {
+    /// A socket listens already.
+    ListenTwice,
+    OutOfMemory,
+}
+
+/// Why the writer doesn't let a socket meet an address.
+#[derive(Clone, Copy, Debug, PartialEq, Eq)]
+pub enum MeetNo {
+    /// The address is met already, the socket meets one already, or as many are met as may be.
+    MeetTaken,
+    OutOfMemory,
+}

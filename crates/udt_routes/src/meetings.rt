@@ -34,7 +34,7 @@ impl Model for Meetings {
 }
 
 impl Meetings {
-    // No meetings, with room for so many.
+    // No meetings, with room for this number.
     pub(crate) fn new(alloc: Global, live: u32) -> Result<Meetings, OutOfMemory>
         ensures { IfOk result (λ m. m ≡ record { live = live; met = [] }) }
     {

@@ -35,15 +35,17 @@ impl<R> Model for Routes<R> {
 }
 
 impl<R: Drop> Routes<R> {
-    ghost use Rattle.std.specs.Prelude.{◌≡◌, ◌≢◌, ◌<◌, ◌++◌, [], ◌∷◌, length, is_some, is_ok, not, IfOk, IfErr, OnOk, OnErr, Some, None};
+    ghost use Rattle.std.specs.Prelude.{◌≡◌, ◌≢◌, ◌<◌, ◌++◌, [], ◌∷◌, length, is_some, is_ok, not, Some, None};
+    ghost use Rattle.std.specs.Prelude.{IfOk, IfErr, OnOk, OnErr};
     ghost use Rattle.std.specs.Option.{option_copied};
     ghost use Rattle.udt_routes.specs.Pairs.{pair_of, adopter_of, IsAdoptedOnce};
     ghost use Rattle.udt_routes.specs.Meets.{met_by, meeter_of, can_meet, IsMetOnce};
     ghost use Rattle.udt_routes.specs.Routing.{found_in, route};
-    ghost use Rattle.udt_routes.specs.Tables.{empty_table, what_of, can_enrol, listener_without, Enrols, Leaves, MeetsOnly};
+    ghost use Rattle.udt_routes.specs.Tables.{empty_table, what_of, can_enrol, listener_without};
+    ghost use Rattle.udt_routes.specs.Tables.{Enrols, Leaves, MeetsOnly};
     ghost use Rattle.udt_routes.specs.Tables.{with_enrolled, without, with_meeting, without_meeting};
 
-    /// A table of no sockets, for at most so many adoptions and so many enrolled sockets. All memory is
+    /// A table of no sockets, for at most this number of adoptions and of enrolled sockets. All memory is
     /// taken here.
     pub fn new(alloc: Global, ids: u32, live: u32) -> Result<Routes<R>, OutOfMemory>
         ensures { IfOk result (λ t. t ≡ empty_table ids live) }
@@ -60,6 +62,13 @@ impl<R: Drop> Routes<R> {
         })
     }
 
+    // Whether an ID can be enrolled.
+    pub(crate) fn can_enrol(&self, id: u32) -> bool
+        ensures { result ≡ can_enrol self.now id }
+    {
+        self.enrolled.len() < self.live as usize && find(&self.enrolled, &id).is_none()
+    }
+
     /// Enrols a socket. Err gives it back where its ID is enrolled, or as many are as may be.
     pub fn enrol(&mut self, id: u32, what: R) -> Result<(), R>
         ensures exact { is_ok result ≡ can_enrol self.old id }
@@ -68,7 +77,7 @@ impl<R: Drop> Routes<R> {
         ensures given_back { IfErr result (λ back. back ≡ what) }
         ensures err { OnErr result (self.new ≡ self.old) }
     {
-        if self.enrolled.len() >= self.live as usize || find(&self.enrolled, &id).is_some() {
+        if !self.can_enrol(id) {
             return Err(what);
         }
         put(&mut self.enrolled, id, what);
@@ -121,7 +130,8 @@ impl<R: Drop> Routes<R> {
         requires first { pair_of self.old.adoptions own ≡ None }
         requires room { length self.old.adoptions < self.old.ids }
         ensures exact { is_ok result ≡ not (is_some (adopter_of self.old.adoptions (addr, peer))) }
-        ensures ok { OnOk result (self.new ≡ record self.old { adoptions = self.old.adoptions ++ (own, (addr, peer)) ∷ [] }) }
+        ensures ok { OnOk result
+            (self.new ≡ record self.old { adoptions = self.old.adoptions ++ (own, (addr, peer)) ∷ [] }) }
         ensures err { OnErr result (self.new ≡ self.old) }
         ensures once { IsAdoptedOnce self.new.adoptions }
     {
@@ -171,6 +181,13 @@ impl<R: Drop> Routes<R> {
         }
     }
 
+    // Whether a socket can meet an address.
+    pub(crate) fn can_meet(&self, to: Addr, id: u32) -> bool
+        ensures { result ≡ can_meet self.now.live self.now.meetings to id }
+    {
+        self.meetings.can_meet(to, id)
+    }
+
     /// Lets a socket meet an address, where no socket meets it, this one meets none, and fewer are met
     /// than may be.
     pub fn set_meeting(&mut self, to: Addr, id: u32) -> Result<(), MeetTaken>
@@ -179,7 +196,7 @@ impl<R: Drop> Routes<R> {
         ensures table { OnOk result (self.new ≡ with_meeting self.old to id) }
         ensures err { OnErr result (self.new ≡ self.old) }
     {
-        if !self.meetings.can_meet(to, id) {
+        if !self.can_meet(to, id) {
             return Err(MeetTaken);
         }
         self.meetings.meet(to, id);

@@ -34,10 +34,11 @@ impl Lookup {
     pub fn routed(&self, found: Option<u32>) -> Routed
         ensures { result ≡ routed_by self.now found }
     {
-        match found {
-            None => self.absent,
-            Some(_) if self.stale => Routed::Stale,
-            Some(id) => Routed::ToSocket(id),
+        match (found, self.want) {
+            (None, _) => self.absent,
+            (Some(_), _) if self.stale => Routed::Stale,
+            (Some(_), Want::Id(id)) => Routed::ToSocket(id),
+            (Some(id), _) => Routed::ToSocket(id),
         }
     }
 }

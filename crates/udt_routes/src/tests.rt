@@ -2,6 +2,8 @@
 
 ghost use Rattle.std.specs.Prelude.{◌≡◌, ◌+◌, ◌<◌, ◌≤◌, length};
 
+mod shared;
+
 use crate::{Drawer, ListenTwice, MeetTaken, Routed, Routes, Taken};
 use std::test::Fail;
 use udt_model::{Addr, Ip};

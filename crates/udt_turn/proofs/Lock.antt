@@ -1,17 +1,18 @@
 -- The kinds of step that draw a ticket, read which one is served, and call the next one keep the rule.
-use Rattle.std.proofs.Common.{◌≡◌, ◌≢◌, ℕ, ◌+◌, ◌%◌, ◌^◌, ◌<◌, ◌≤◌, true, List, [], ◌∷◌, length, set, Option, Some, None, refl, sym, ap, ◌∙◌, subst, inl, inr, ⊎_elim, arith, lt_of_not-le}
+use Rattle.std.proofs.Common.{◌≡◌, ◌≢◌, ℕ, eqb, ◌+◌, ◌%◌, ◌^◌, ◌<◌, ◌≤◌, true, List, [], ◌∷◌, length, set, Option, Some, None, refl, sym, ap, ◌∙◌, subst, inl, inr, ⊎_elim, arith, lt_of_not-le}
 use Rattle.std.specs.Prelude.{slice_index, slice_set}
 use mathlib.Core.Option as opt
 use mathlib.Core.Option.{some, some-ne-none, some-injective}
 use mathlib.Core.Logic.{dite}
 use native.Mathlib.Decide.{ℕ_discrete, dec_le}
 use lib.ListN.{get_elem?}
-use Rattle.atomic_table.specs.Table.{State, Me, keeps, takes, gives, Allows, Step, put_back}
-use Rattle.atomic_table.proofs.Lists.{set_again, one_turn}
+use prog.Atomic.{either}
+use Rattle.atomic_table.specs.Table.{State, Me, Act, keeps, takes, gives, Allows, Step, Valid, put_back, carried_after, stepped}
+use Rattle.atomic_table.proofs.Lists.{exchanged, set_again, one_turn}
 use Rattle.udt_turn.specs.Story.{Telling}
 use Rattle.udt_turn.specs.History.{has, value_after, MayFollow, last_from}
 use Rattle.udt_turn.specs.Rule.{total_of, ticket_of, queues, HasTurn, draws, owned_of, owns, IsLive, IsAlone, Knows, parts, Each, Some_view, Tickets, IsView, AloneHasAll, Kept}
-use Rattle.udt_turn.specs.Kinds.{at_stage, seeing, ticket_in, IsSound, Draws, Reads, Calls}
+use Rattle.udt_turn.specs.Kinds.{at_stage, seeing, ticket_in, IsSound, Draws, DrawsFirst, Reads, Calls}
 use Rattle.udt_turn.specs.declared.view.View.{View}
 use Rattle.udt_turn.specs.declared.view.Stage.{Stage}
 use Rattle.udt_turn.specs.declared.view.Stage.TheVariants.{Idle, Waiting, Holding, Done}
@@ -115,6 +116,20 @@ module _ {V E : Type 0} (t : Telling V E) (opening : V) where
         },
         (k.drawn, found, refl),
       )
+
+  -- and so does drawing it where it is the one that was looked for
+  pub draws_first_keeps : (slots id : ℕ) (me : Me (Option V) (View V E)) (st : Step (Option V)) (wanted next : ℕ) → me.0.stage ≡ Idle → st.first ≡ wanted → next ≡ (wanted + 1) % 2 ^ 64
+      → Allows (Kept t opening) slots id me 1 (λ n. either (eqb n wanted) next n) (DrawsFirst st me)
+  draws_first_keeps slots id me st wanted next e first follows s k len at fits =
+      let found = slice_index s.words 1 in
+      exchanged found wanted next
+      (λ n. (w : View V E) × (a : Act (Option V)) × Valid s.homes me.1 a × Kept t opening (stepped s 1 n id me.1 w a) × DrawsFirst st me found (w, carried_after me.1 a))
+      (λ same.
+      let (w, a, valid, kept, drew) = draws_keeps slots id me st e s k len at fits in
+      let next_is : (found + 1) % 2 ^ 64 ≡ next = ap (λ n. (n + 1) % 2 ^ 64) same ∙ sym follows in
+      (w, a, valid, subst (λ n. Kept t opening (stepped s 1 n id me.1 w a)) next_is kept, ((λ _. drew), (λ differs. absurd (differs (same ∙ sym first))))))
+      (λ differs.
+      (me.0, keeps, tt, nothing s id me.0 1 at k (ap (λ ws. slice_set ws 1 (slice_index ws 1)) k.words ∙ sym k.words), ((λ same. absurd (differs (same ∙ first))), (λ _. refl))))
 
   not_waiting : (st : Stage E) (n : ℕ) → st ≡ Waiting n → HasTurn st → ⊥
   not_waiting st n e h = subst HasTurn e h

@@ -84,6 +84,10 @@ module _ {V E : Type 0} where
   abbrev pub Draws : Step (Option V) → Me (Option V) (View V E) → ℕ → Me (Option V) (View V E) → Type 0
   Draws st me n me' = (k : ℕ) × (n ≡ k % 2 ^ 64) × (me' ≡ (at_stage me.0 (Waiting k), me.1))
 
+  -- where it found the ticket that it looked for it has that one; else nothing changes
+  abbrev pub DrawsFirst : Step (Option V) → Me (Option V) (View V E) → ℕ → Me (Option V) (View V E) → Type 0
+  DrawsFirst st me n me' = (n ≡ st.first → Draws st me n me') × (n ≢ st.first → me' ≡ me)
+
   -- the value of the history that it found is in the slot that it took
   pub record Takes (t : Telling V E) (me : Me (Option V) (View V E)) (me' : Me (Option V) (View V E)) : Type 0 where
     pub found : List (ℕ × E)

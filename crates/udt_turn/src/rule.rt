@@ -1,6 +1,6 @@
 //! The rule of a turn's table, and what each kind of step tells.
 ghost use Rattle.udt_turn.specs.Rule.{Kept};
-ghost use Rattle.udt_turn.specs.Kinds.{newcomer, spent, Draws, Reads, Says, Leaves, Calls, Looks, Counts, Numbers, parent_of, child_of, joined, Settles, Ends};
+ghost use Rattle.udt_turn.specs.Kinds.{newcomer, spent, Draws, DrawsFirst, Reads, Says, Leaves, Calls, Looks, Counts, Numbers, parent_of, child_of, joined, Settles, Ends};
 
 use crate::story::{Naming, Story};
 use crate::view::View;
@@ -23,6 +23,12 @@ pub(crate) struct Draw;
 
 impl<V, E> Play<Option<V>, View<V, E>> for Draw {
     ghost then = { Draws };
+}
+
+pub(crate) struct DrawFirst;
+
+impl<V, E> Play<Option<V>, View<V, E>> for DrawFirst {
+    ghost then = { DrawsFirst };
 }
 
 pub(crate) struct Read;

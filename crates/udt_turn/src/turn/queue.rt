@@ -1,8 +1,9 @@
 //! The single steps of whoever takes the turn: draw, read, take, put and call.
-use crate::rule::{Call, Draw, Leave, Read, Sat, Say};
+use crate::rule::{Call, Draw, DrawFirst, Leave, Read, Sat, Say};
 use crate::story::{Naming, Story};
 use crate::turn::Turn;
 use std::sync::Wait;
+use std::time::Duration;
 use std::{hint, thread};
 
 // The number of rounds that are spun before the thread yields.
@@ -11,13 +12,69 @@ const SPINS: u32 = 2_000;
 // Only a thread spins that has fewer tickets before its own.
 const NEAR: u64 = 2;
 
+// The number of rounds for which a thread looks, with no ticket, whether the turn is free.
+const ROUNDS: u32 = 10_000;
+
+// In one of so many rounds it sleeps.
+const LOOKS: u32 = 100;
+
+// For this long, at the most.
+const SLEEP_MICROS: u64 = 50;
+
 impl<V: Story> Turn<V> {
-    ghost use Rattle.std.specs.Prelude.{◌≡◌, ℕ, ◌+◌, ◌*◌, ◌%◌, ◌^◌, ◌<◌, ◌≤◌, [], ◌∷◌, Some, None};
+    ghost use Rattle.std.specs.Prelude.{◌≡◌, ℕ, ◌+◌, ◌*◌, ◌%◌, ◌^◌, ◌<◌, ◌≤◌, [], ◌∷◌, Some, None, IsTrue, IsFalse};
     ghost use Rattle.udt_turn.specs.declared.view.Stage.TheVariants.{Idle, Waiting, Holding, Done};
     ghost use Rattle.udt_turn.specs.History.{value_after};
     ghost use Rattle.udt_turn.specs.Kinds.{at_stage, value_found, Agrees, HasTicket, Says, Leaves, Takes};
     ghost use Rattle.atomic_table.specs.Table.{step};
     ghost use mathlib.Core.Option.{none};
+
+    // Draws a ticket. While the turn is taken it waits for a while with none, since a thread that has a ticket and
+    // doesn't run holds up all behind it; and then it draws one that is served later.
+    pub(crate) fn line_up<R: Wait>(&self, rt: &R, seat: &mut Sat<V>) -> u64
+        requires own { seat.old.table_id ≡ self.now.table.shared.table_id }
+        requires idle { seat.old.me.0.stage ≡ Idle }
+        ensures same { (seat.new.table_id ≡ seat.old.table_id) × (seat.new.id ≡ seat.old.id) }
+        ensures drew { (k : ℕ) × (result ≡ k % 2 ^ 64)
+            × (seat.new.me ≡ (at_stage seat.old.me.0 (Waiting k), seat.old.me.1)) }
+    {
+        for round in 0..ROUNDS {
+            let served = self.table.shared.peek(2);
+            if self.table.shared.peek(1) == served && self.draw_first(seat, served) {
+                return served;
+            }
+            self.stand_by(rt, round, served);
+        }
+        self.draw(seat)
+    }
+
+    // Spins, and now and then sleeps for a short time, unless another ticket is served by then.
+    fn stand_by<R: Wait>(&self, rt: &R, round: u32, served: u64) {
+        if round % LOOKS < LOOKS - 1 {
+            hint::spin_loop();
+        } else {
+            let span = Duration::from_micros(SLEEP_MICROS);
+            self.table
+                .shared
+                .park_timeout(rt, 2, (served % (1 << 32)) as u32, span);
+        }
+    }
+
+    // Draws this ticket, if it is the next one. It was served when it was looked for.
+    fn draw_first(&self, seat: &mut Sat<V>, served: u64) -> bool
+        requires own { seat.old.table_id ≡ self.now.table.shared.table_id }
+        requires idle { seat.old.me.0.stage ≡ Idle }
+        ensures same { (seat.new.table_id ≡ seat.old.table_id) × (seat.new.id ≡ seat.old.id) }
+        ensures drew { IsTrue result → (k : ℕ) × (served ≡ k % 2 ^ 64)
+            × (seat.new.me ≡ (at_stage seat.old.me.0 (Waiting k), seat.old.me.1)) }
+        ensures missed { IsFalse result → seat.new.me ≡ seat.old.me }
+    {
+        let next = served.wrapping_add(1);
+        self.table
+            .shared
+            .compare_exchange::<DrawFirst>(seat, 1, served, next)
+            == served
+    }
 
     // Draws a ticket, of which the low 64 bits are answered.
     pub(crate) fn draw(&self, seat: &mut Sat<V>) -> u64

@@ -19,7 +19,7 @@ impl<V: Story> Turn<V> {
         ensures names { KeepsNames (view_of pass.old) (view_of pass.new) }
         ensures seen { seen_of pass.new ≡ seen_of pass.old }
     {
-        let ticket = self.draw(&mut pass.seat);
+        let ticket = self.line_up(rt, &mut pass.seat);
         self.reach(rt, &mut pass.seat, ticket);
         self.take(&mut pass.seat)
     }

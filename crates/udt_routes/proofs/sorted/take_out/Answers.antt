@@ -1,5 +1,4 @@
-use Rattle.std.proofs.Common.{◌≡◌, ◌∙◌, ap, sym, Some, get_or, None}
-use Rattle.udt_routes.specs.Sorted.{value_at}
+use Rattle.std.proofs.Common.{◌∙◌, ap, sym, Some}
 use Rattle.udt_routes.proofs.SortedLemmas.{value_found, value_absent, takes_remove, takes_nothing, removed_is, removed_none, rising_remove}
 use Rattle.udt_routes.proofs.sorted.take_out.Goals as goal
 

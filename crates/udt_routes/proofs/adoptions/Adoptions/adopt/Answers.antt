@@ -1,4 +1,4 @@
-use Rattle.std.proofs.Common.{◌≡◌, ◌+◌, ◌≤◌, ◌∷◌, [], None, not, length, length-append, arith, sym, ap, ◌∙◌}
+use Rattle.std.proofs.Common.{◌≡◌, ◌∷◌, [], None, not, length-append, arith, sym, ap, ◌∙◌}
 use Rattle.udt_routes.specs.Pairs.{Pair, pair_of}
 use Rattle.udt_routes.specs.PairMaps.{keyed}
 use Rattle.udt_routes.proofs.PairLemmas.{held, free, keyed-push, once-push}

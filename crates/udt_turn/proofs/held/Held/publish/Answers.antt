@@ -1,6 +1,6 @@
-use Rattle.std.proofs.Common.{◌≡◌, ◌^◌, ◌<◌, Option, Some, sym, ap, ◌∙◌, subst}
+use Rattle.std.proofs.Common.{◌≡◌, ◌^◌, ◌<◌, Some, sym, ap, ◌∙◌, subst}
 use Rattle.udt_turn.specs.History.{value_of}
-use Rattle.udt_turn.specs.Words.{seen_of, found_by, number_of}
+use Rattle.udt_turn.specs.Words.{found_by, number_of}
 use Rattle.udt_turn.proofs.Histories.{value_after-push}
 use Rattle.udt_turn.proofs.held.Held.publish.Goals as goal
 

@@ -1,0 +1,5 @@
+mod CountLemmas
+mod QuietLemmas
+mod ItemLemmas
+mod HeadlineLemmas
+pub mod LegalLemmas

@@ -1,0 +1,4 @@
+pub mod Entries
+pub mod Sharing
+pub mod Histories
+pub mod Headline
