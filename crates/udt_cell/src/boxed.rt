@@ -1,5 +1,7 @@
 // A socket as the value of a turn, and its events as the entries of the turn's history.
 
+mod connections;
+
 use std::marker::Model;
 use udt_core::{Outs, Socket};
 use udt_model::{Addr, Heard, Packed, Perf, Refusal};
@@ -82,7 +84,7 @@ impl<C: Control> BoxedSocket<C> {
     }
 
     // It takes no further event.
-    fn is_spent(&self) -> bool
+    pub(crate) fn is_spent(&self) -> bool
         ensures { MatchBool result (last_count ≤ self.now.count) (self.now.count < last_count) }
     {
         self.socket.count() >= LAST_COUNT
