@@ -11,6 +11,7 @@ pub mod HalfLemmas
 pub mod TickLemmas
 pub mod HistoryLemmas
 pub mod PhaseLemmas
+pub mod HandshakeLemmas
 pub mod ArrivalLemmas
 pub mod UnlinkedLemmas
 pub mod StepLemmas
@@ -19,6 +20,8 @@ pub mod SendingSteps
 pub mod StreamLemmas
 pub mod EmissionLemmas
 pub mod SettlingLemmas
+pub mod PeerLemmas
+pub mod ShakeLemmas
 pub mod RecordLemmas
 pub mod TakenOffsets
 pub mod MissingOffsets

@@ -94,7 +94,7 @@ module _ {C : Type 0} (w : Ways C) where
         → IsShakeEmission (at_moment s event.now) event.act emission
 
   module _ (config : Config) (start : ℕ) where
-    at_moment-unlinked : (s : State C) (now : ℕ) → IsUnlinked w config start s → IsUnlinked w config start (at_moment s now)
+    pub at_moment-unlinked : (s : State C) (now : ℕ) → IsUnlinked w config start s → IsUnlinked w config start (at_moment s now)
     at_moment-unlinked s now unlinked = record {
       mute = unlinked.mute;
       sending = unlinked.sending;

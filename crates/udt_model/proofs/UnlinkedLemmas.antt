@@ -208,6 +208,16 @@ module _ {C : Type 0} (w : Ways C) where
     pub receiving : s.receiving ≡ idle_receiving config start
     pub unmeasured : s.rtt ≡ unmeasured
 
+  -- it is so from its halves and its round trip alone
+  pub unlinked-as : {config : Config} {start : ℕ} (s t : State C) → IsUnlinked config start s → speaks t.phase ≡ false
+      → t.sending ≡ s.sending → t.receiving ≡ s.receiving → t.rtt ≡ s.rtt → IsUnlinked config start t
+  unlinked-as s t unlinked mute sending receiving rtt = record {
+    mute = mute;
+    sending = sending ∙ unlinked.sending;
+    receiving = receiving ∙ unlinked.receiving;
+    unmeasured = rtt ∙ unlinked.unmeasured;
+  }
+
   -- what has to be shown of the outcomes that an act may have for it, so that it holds of each act
   pub record OfUnlinked (s : State C) (act : Act) (P : Outcome C → Type 0) : Type 0 where
     -- it turns to another phase, or stays
