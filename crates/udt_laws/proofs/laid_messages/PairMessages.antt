@@ -1,6 +1,6 @@
 -- Of two message sockets that were made as a pair, and each got from the other alone, the one shows what the other was asked, where
 -- that one accepted fewer than 2^30 bytes.
-use Rattle.std.proofs.Common.{◌≡◌, ℕ, ◌+◌, ◌^◌, ◌<◌, ◌≤◌, List, [], ◌∷◌, length, Ok, ap, ◌∙◌, sym, subst, inl, inr, arith}
+use Rattle.std.proofs.Common.{◌≡◌, ℕ, ◌+◌, ◌^◌, ◌<◌, ◌≤◌, true, List, [], ◌∷◌, length, Ok, ap, ◌∙◌, sym, subst, inl, inr, arith}
 use Rattle.std.specs.List.{Contains}
 use Rattle.std.proofs.lemmas.List.Elements.{Contains-append_left, Contains-append_right, Contains-push}
 use Rattle.udt_model.specs.declared.addresses.Addr.{Addr}
@@ -8,7 +8,7 @@ use Rattle.udt_model.specs.declared.answers.Peer.{Peer}
 use Rattle.udt_model.specs.declared.packets.Flags.{Flags}
 use Rattle.udt_model.specs.Emissions.{emitted, arrived_by_act, arrived_by, arrivals}
 use Rattle.udt_model.specs.Events.{Act, Arrive}
-use Rattle.udt_model.specs.History.{Item, state_of, start_of, accepted}
+use Rattle.udt_model.specs.History.{Item, History, state_of, start_of, accepted}
 use Rattle.udt_model.specs.Honest.{IsClose}
 use Rattle.udt_model.specs.Rate.{Ways}
 use Rattle.udt_model.specs.Records.{Enrolled, IsSocket, ArePaired}

@@ -53,7 +53,7 @@ module _ {C : Type 0} (w : Ways C) where
   abbrev pub ComesNear : List (EndpointRecord C) → Addr → ℕ → Addr → History C → Type 0
   ComesNear net addr own from g =
       (s : State C) (sender : Addr) (bytes : List ℕ) (packet : Packet) → sender ≡ from → WasEmitted w net s sender addr bytes
-      → read bytes ≡ Ok packet → is_handshake packet ≡ false → destination packet ≡ own → IsEmittedNear w g (read_by s packet) bytes
+      → read bytes ≡ Ok packet → is_handshake packet ≡ false → destination packet ≡ own → IsEmittedNear g (read_by s packet) bytes
 
 module _ {C : Type 0} (w : Ways C) (net : List (EndpointRecord C)) (lawful : AreLawful w net) where
   -- the records have one endpoint of an address
