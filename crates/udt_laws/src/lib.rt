@@ -1,7 +1,7 @@
 //! The main theorems of the protocol, each the contract of an empty function.
 #![tactic(auto)]
 
-ghost use Rattle.udt_laws.specs.Laws.{OneHistory, EmittedBlocks, AllNamed, Addressed};
+ghost use Rattle.udt_laws.specs.Laws.{OneHistory, EmittedBlocks, AllNamed, Addressed, Named};
 ghost use Rattle.udt_laws.specs.Laws.{Prefix, PairPrefix, PairArrived, PairHonest};
 ghost use Rattle.udt_laws.specs.Laws.{Messages};
 
@@ -24,9 +24,15 @@ pub fn all_named<C: Control>()
     ensures { AllNamed C.ways }
 {}
 
-/// What a socket emits once it has a peer goes to that peer.
+/// What a socket emits for its peer, answers and all that isn't a handshake, goes to its own peer.
 pub fn addressed<C: Control>()
     ensures { Addressed C.ways }
+{}
+
+/// A handshake that tells whose it is carries the ID and the initial sequence number of the socket
+/// that emits it.
+pub fn named<C: Control>()
+    ensures { Named C.ways }
 {}
 
 /// Where no datagram is forged and none outlives 2^30 packets, what a stream socket delivers is a

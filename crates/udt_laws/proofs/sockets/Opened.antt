@@ -40,7 +40,7 @@ module _ {C : Type 0} (w : Ways C) where
     somebody = subst (λ (s : State C). is_somebody s.origin) (sym is) tt
 
     -- a history that begins with an opening as connected begins so
-    opening-begins : IsOpening own config peer start → IsLegal w h → Begins w h
+    pub opening-begins : IsOpening own config peer start → IsLegal w h → Begins w h
     opening-begins in_range legal = record {
       config = config;
       start = start;

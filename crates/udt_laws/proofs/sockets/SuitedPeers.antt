@@ -95,7 +95,7 @@ module _ {C : Type 0} where
   shakes-agree s from raw _ _ _ _ _ some knows agrees (arrives.AnswersAdopted m again stamp dest shake is reads sees) = agrees
 
 module _ {C : Type 0} (w : Ways C) where
-  unlinked-some : (config : Config) (start : ℕ) (s : State C) → 1 ≤ config.payload → IsUnlinked w config start s → 1 ≤ s.sending.blocks.room
+  pub unlinked-some : (config : Config) (start : ℕ) (s : State C) → 1 ≤ config.payload → IsUnlinked w config start s → 1 ≤ s.sending.blocks.room
   unlinked-some config start s some unlinked =
       subst (λ (sending : Sending C). 1 ≤ sending.blocks.room) (sym unlinked.sending) some
 
@@ -129,8 +129,9 @@ module _ {C : Type 0} (w : Ways C) where
       items-agree config start (step w s item.event).after items some (step-known w config start s item.event known).known
       (step-agrees config start s item.event some known agrees)
 
-  -- ---- the handshake that connects
+-- ---- the handshake that connects
 
+module _ {C : Type 0} where
   -- the handshake that connects a socket with a peer is an answer of a socket of its own kind, that has the peer's ID, and the peer
   -- agrees on blocks of at least one byte
   pub record IsSuited (s : State C) (raw : List ℕ) (peer : Peer) : Type 0 where
@@ -181,6 +182,7 @@ module _ {C : Type 0} (w : Ways C) where
     payload = subst IsAgreed adopts agrees;
   }
 
+module _ {C : Type 0} (w : Ways C) where
   pub links-suited : (s : State C) (from : Addr) (raw : List ℕ) (peer : Peer) (from_whom : Origin) (emissions : List Emission)
       → 1 ≤ s.sending.blocks.room → KnowsPeer (standing_of s) s.phase → AgreesIn s.phase → Links w s from (read raw) peer from_whom emissions
       → IsSuited s raw peer
