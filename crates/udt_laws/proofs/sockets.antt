@@ -3,4 +3,5 @@ pub mod Begins
 pub mod Opened
 pub mod SuitedPeers
 pub mod ConnectedParts
+pub mod WasSaid
 pub mod OneSocket

@@ -4,8 +4,6 @@ use Rattle.std.specs.Prelude.{map, length, filter, sum, ◌||◌, ◌==◌, nat_
 use Rattle.std.specs.List.{AllByRecursion}
 use Rattle.std.proofs.lemmas.List.Elements.{All-from_recursion}
 use Rattle.std.proofs.Math.Nat.{div-le_self}
-use Rattle.std.specs.Prelude.{FitsSigned}
-use Rattle.std.specs.Int.{w32}
 use Rattle.udt_model.specs.declared.addresses.Addr.{Addr}
 use Rattle.udt_model.specs.declared.addresses.Ip.{Ip}
 use Rattle.udt_model.specs.declared.addresses.Ip.TheVariants.{V4, V6}
@@ -18,7 +16,8 @@ use Rattle.udt_model.specs.declared.packets.Kind.TheVariants as kind
 use Rattle.udt_model.specs.declared.packets.Shake.{Shake}
 use Rattle.udt_model.specs.Calls.{stamp_of, emission as emits}
 use Rattle.udt_model.specs.Connections.{caller_of}
-use Rattle.udt_model.specs.Handshakes.{kind_number, address_field, type_of, says}
+use Rattle.udt_model.specs.Handshakes.{asked, kind_number, address_field, says}
+use Rattle.udt_model.specs.Records.{is_answer}
 use Rattle.udt_model.specs.Events.{Act, Reply}
 use Rattle.udt_model.specs.Rate.{Ways}
 use Rattle.udt_model.specs.ReceiveHalf.{after_block}
@@ -30,6 +29,7 @@ use Rattle.udt_model.specs.Ticks.{numbers_of}
 use Rattle.udt_model.specs.Timing.{in_a_second, near_median, is_near, median, is_short, speed_of, capacity_of}
 use Rattle.udt_model.specs.Wire.{Packet, Handshake, IsShakeInRange, KeepAlive, Ack, Nak, Shutdown, Ack2, IsRange, destination, IsInRange, read, spelling, type_word, word}
 use Rattle.udt_model.proofs.EmissionLemmas.{Emitting, NewBlock, LostBlock, DropRequest, FullAck, LightAck, Reports, ReportsGap, ReportsDropGap, AnswersAck, SendsKeepAlive, TheEnd, SendsHandshake, SendsShake, Requests, Meets, AnswersPeer, AnswersNew, Agrees, AnswersAgain, GivesCookie, Refuses}
+use Rattle.udt_model.proofs.HandshakeTells.{type-fits, asked-type, again-answers}
 use Rattle.udt_model.proofs.PhaseLemmas.{is_settled}
 use Rattle.udt_model.proofs.SendingLemmas.{MessagesFit, MessagesFit-at, MessagesFit-number, kept_at-is, packing-sends, packing-again, packing-drops}
 use Rattle.udt_model.proofs.TickLemmas.{ack_outcome-tells}
@@ -73,14 +73,6 @@ capacity-fits samples = elim (is_short samples) as (λ none. (if none then 0 els
 
 -- ---- handshakes
 
-type-fits : (asked : Asked) → FitsSigned w32 (type_of asked)
-type-fits asks.Meets = omega arith
-type-fits asks.Requests = omega arith
-type-fits asks.Answers = omega arith
-type-fits asks.Agrees = omega arith
-type-fits asks.Refuses = omega arith
-type-fits asks.Other = omega arith
-
 kind-fits : (k : Kind) → kind_number k < 2 ^ 32
 kind-fits kind.Stream = omega arith
 kind-fits kind.Message = omega arith
@@ -90,15 +82,15 @@ length-address (V4 bits) = refl
 length-address (V6 bits) = refl
 
 -- what a socket says of itself fits its places
-pub says-fits : (caller : Caller) (payload : ℕ) (asked : Asked) → caller.own < 2 ^ 32 → caller.isn < 2 ^ 31 → payload ≤ MOST_PAYLOAD
-    → caller.config.rcv_blocks ≤ MOST_BLOCKS → IsShakeInRange (says caller payload asked 0)
-says-fits caller payload asked own isn within blocks = record {
+pub says-fits : (caller : Caller) (payload : ℕ) (answer : Asked) → caller.own < 2 ^ 32 → caller.isn < 2 ^ 31 → payload ≤ MOST_PAYLOAD
+    → caller.config.rcv_blocks ≤ MOST_BLOCKS → IsShakeInRange (says caller payload answer 0)
+says-fits caller payload answer own isn within blocks = record {
   version = omega arith;
   kind = kind-fits caller.config.kind;
   isn = isn;
   packet = omega (arith, within);
   flow = omega (arith, blocks);
-  ask = type-fits asked;
+  ask = type-fits answer;
   id = own;
   cookie = omega arith;
   address = length-address caller.to.ip;
@@ -123,6 +115,7 @@ module _ {C : Type 0} where
   record IsAnswerTo (s : State C) (to : Addr) (dest : ℕ) (shake : Shake) : Type 0 where
     to_is : to ≡ s.peer.addr
     dest_is : dest ≡ s.peer.id
+    answers : is_answer (asked shake.ask) ≡ true
     fits : IsShakeInRange shake
 
   answer-is : (s : State C) (act : Act) (to : Addr) (dest : ℕ) (shake : Shake) → CanSpell s → SendsShake s act to dest shake
@@ -135,6 +128,7 @@ module _ {C : Type 0} where
   answer-is s act _ _ _ can (AnswersAgain again answer connected answers) = record {
     to_is = refl;
     dest_is = refl;
+    answers = ap is_answer (asked-type answer) ∙ again-answers s.origin again answer answers;
     fits = says-fits (caller_of s s.peer.addr) s.receiving.payload answer can.own can.isn can.payload can.reports.capacity;
   }
   answer-is s act _ _ _ can (GivesCookie b from raw stamp shake answer is arrives reads asks named judges) = absurd (cc)
@@ -273,3 +267,21 @@ module _ {C : Type 0} (w : Ways C) where
         reads = ap read by.bytes ∙ read-spelling (packet_of s act reply emission x) (packet-in_range s act reply emission x can);
         sent_to = by.sent_to;
       }
+
+  -- a handshake of a settled socket is an answer
+  pub shake-answers : (s : State C) (act : Act) (reply : Reply) (emission : Emission) (x : Emitting w s act reply emission) (stamp dest : ℕ) (shake : Shake)
+      → CanSpell s → packet_of s act reply emission x ≡ Handshake stamp dest shake → is_answer (asked shake.ask) ≡ true
+  shake-answers s act reply emission (SendsHandshake to dest' shake' sends is) stamp dest shake can same =
+      let shake_is : shake' ≡ shake = cc in
+      ap (λ (x : Shake). is_answer (asked x.ask)) (sym shake_is) ∙ (answer-is s act to dest' shake' can sends).answers
+  shake-answers s act reply emission (NewBlock block connected packs is) stamp dest shake can same = absurd (cc)
+  shake-answers s act reply emission (LostBlock offset block connected packs is) stamp dest shake can same = absurd (cc)
+  shake-answers s act reply emission (DropRequest message connected packs is) stamp dest shake can same = absurd (cc)
+  shake-answers s act reply emission (FullAck ack connected tells is) stamp dest shake can same = absurd (cc)
+  shake-answers s act reply emission (LightAck from raw number flags stamp' bytes connected arrives carries sender replies is) stamp dest shake can same = absurd (cc)
+  shake-answers s act reply emission (Reports range ranges connected reports is) stamp dest shake can same = absurd (cc)
+  shake-answers s act reply emission (ReportsGap from raw number flags stamp' bytes ends connected arrives carries sender gap is) stamp dest shake can same = absurd (cc)
+  shake-answers s act reply emission (ReportsDropGap from raw message stamp' first last range ends connected arrives asks sender messages taken gap is) stamp dest shake can same = absurd (cc)
+  shake-answers s act reply emission (AnswersAck number connected is) stamp dest shake can same = absurd (cc)
+  shake-answers s act reply emission (SendsKeepAlive connected is) stamp dest shake can same = absurd (cc)
+  shake-answers s act reply emission (TheEnd closing is) stamp dest shake can same = absurd (cc)

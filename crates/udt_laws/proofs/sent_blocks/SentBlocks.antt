@@ -8,8 +8,11 @@ use Rattle.udt_model.specs.declared.answers.Peer.{Peer}
 use Rattle.udt_model.specs.declared.limits.TheConstants.{MOST_BLOCKS, MOST_PAYLOAD}
 use Rattle.udt_model.specs.declared.packets.Config.{Config}
 use Rattle.udt_model.specs.declared.packets.Flags.{Flags}
+use Rattle.udt_model.specs.declared.packets.Shake.{Shake}
 use Rattle.udt_model.specs.Emissions.{emitted}
 use Rattle.udt_model.specs.Events.{Act, Reply, at_moment}
+use Rattle.udt_model.specs.Handshakes.{asked}
+use Rattle.udt_model.specs.Records.{is_answer}
 use Rattle.udt_model.specs.History.{Item, History, after_items, state_of, start_of, IsLegal}
 use Rattle.udt_model.specs.Numbers.{sequence_number}
 use Rattle.udt_model.specs.ReceiveHalf.{Receiving, idle_receiving, linked_receiving}
@@ -18,7 +21,7 @@ use Rattle.udt_model.specs.Opening.{CanOpen}
 use Rattle.udt_model.specs.Rate.{Ways}
 use Rattle.udt_model.specs.State.{State, Emission}
 use Rattle.udt_model.specs.Timing.{RoundTrip, unmeasured}
-use Rattle.udt_model.specs.Wire.{Packet, Block, destination, read}
+use Rattle.udt_model.specs.Wire.{Packet, Block, Handshake, destination, read}
 use Rattle.udt_model.proofs.EmissionLemmas.{Emitting, NewBlock, LostBlock, DropRequest, FullAck, LightAck, Reports, ReportsGap, ReportsDropGap, AnswersAck, SendsKeepAlive, TheEnd, SendsHandshake, IsEmittedAt, emitted-at}
 use Rattle.udt_model.proofs.PhaseLemmas.{is_settled}
 use Rattle.udt_model.proofs.InOrder.{none_in_order}
@@ -27,7 +30,7 @@ use Rattle.udt_model.proofs.StepLemmas.{after_items-keeps}
 use Rattle.udt_laws.specs.Laws.{CarriesBlock, HasBlocks, EmittedBlocks}
 use Rattle.udt_laws.proofs.sockets.Begins.{Begins, begins_settled, begins_start}
 use Rattle.udt_laws.proofs.sent_blocks.AcceptedIsCut.{blocks_by, blocks_by-append, blocks_by-parts, items-cut}
-use Rattle.udt_laws.proofs.sent_blocks.EmissionsRead.{CanSpell, packet_of, packet-dest, IsSpelled, emission-spelled}
+use Rattle.udt_laws.proofs.sent_blocks.EmissionsRead.{CanSpell, packet_of, packet-dest, IsSpelled, emission-spelled, shake-answers}
 use Rattle.udt_laws.proofs.sent_blocks.ReportsFit.{RoundTripFits, ReportsFit, items-fit, items-round}
 
 -- ---- what carries a block
@@ -241,3 +244,12 @@ module _ {C : Type 0} (w : Ways C) where
       kept = last-cut.kept;
       emits = carries-block;
     }
+
+    -- and its handshakes are answers
+    pub begins-answers : (emission : Emission) (stamp dest : ℕ) (shake : Shake) → Contains (emitted w h) emission
+        → read emission.datagram.bytes ≡ Ok (Handshake stamp dest shake) → is_answer (asked shake.ask) ≡ true
+    begins-answers emission stamp dest shake among reads =
+        let at = emission-at emission among in
+        let spelled = emission-reads emission at in
+        shake-answers w _ _ _ emission at.emitting stamp dest shake (moment-at emission at).can
+        (same-packet emission.datagram.bytes _ _ spelled.reads reads)

@@ -12,7 +12,6 @@ use Rattle.udt_model.specs.Counted.{on_control}
 use Rattle.udt_model.specs.Emissions.{emitted, emitted_by}
 use Rattle.udt_model.specs.Events.{Outcome, at_moment}
 use Rattle.udt_model.specs.History.{Item, History, after_items, state_of, start_of, AreLegal, IsLegal, acked}
-use Rattle.udt_model.specs.Honest.{AreHonest}
 use Rattle.udt_model.specs.Opening.{connected, opened, opening, IsOpened, IsOpening}
 use Rattle.udt_model.specs.Rate.{Ways}
 use Rattle.udt_model.specs.Records.{Way, Opened, Paired, PairedAt, IsWay, opened_by, Enrolled, IsSocket, EndpointRecord, PeerPair, peer_by, own_peer}
@@ -22,7 +21,7 @@ use Rattle.udt_model.specs.Step.{step}
 use Rattle.udt_model.specs.Wire.{Packet, is_handshake, read}
 use Rattle.udt_model.proofs.ConnectedBy.{IsMet, opened-met}
 use Rattle.udt_model.proofs.PeerLemmas.{IsKnown, has_peer, way-known, items-known}
-use Rattle.udt_model.proofs.SettlingLemmas.{IsHandshake, AreQuiet, GoesOnAs, IsLinked, IsConnectedAt, at_moment-unlinked, items-begin, opened-unlinked}
+use Rattle.udt_model.proofs.SettlingLemmas.{IsHandshake, AreQuiet, GoesOnAs, goes_on, IsLinked, IsConnectedAt, at_moment-unlinked, items-begin, opened-unlinked}
 use Rattle.udt_model.proofs.ShakeLemmas.{known-after, peer-fits, way-own}
 use Rattle.udt_model.proofs.SpellingLemmas.{read-shake_spelling}
 use Rattle.udt_model.proofs.StepLemmas.{KeepsName, same_name, step-keeps_name, after_items-keeps_name}
@@ -43,21 +42,6 @@ has-somebody origin.Nobody has = absurd (cc)
 has-somebody _ has = tt
 
 module _ {C : Type 0} (w : Ways C) where
-  -- ---- what an honest history is since an item
-
-  honest-rest : (net : List (EndpointRecord C)) (addr : Addr) (s : State C) (front rest : List Item) → AreHonest w net addr s (front ++ rest)
-      → AreHonest w net addr (after_items w s front) rest
-  unfolding AreHonest after_items
-  honest-rest net addr s [] rest honest = honest
-  honest-rest net addr s (item ∷ front) rest honest = honest-rest net addr (step w s item.event).after front rest honest.1
-
-  honest-since : (net : List (EndpointRecord C)) (addr : Addr) (s : State C) (front : List Item) (item : Item) (rest items : List Item)
-      → items ≡ front ++ item ∷ rest → AreHonest w net addr s items
-      → AreHonest w net addr (step w (after_items w s front) item.event).after rest
-  unfolding AreHonest
-  honest-since net addr s front item rest items joined honest =
-      (honest-rest net addr s front (item ∷ rest) (subst (AreHonest w net addr s) joined honest)).1
-
   -- ---- since a socket was connected
 
   -- the part of a history since the socket was connected
@@ -67,8 +51,6 @@ module _ {C : Type 0} (w : Ways C) where
     pub goes_on : GoesOnAs w h.opening h.items part.opening part.items
     pub name : KeepsName h.opening part.opening
     pub same_start : start_of part ≡ start_of h
-    pub honest : (net : List (EndpointRecord C)) (addr : Addr) → AreHonest w net addr h.opening h.items
-        → AreHonest w net addr part.opening part.items
 
   -- a socket that was never connected
   pub record NeverConnected (h : History C) : Type 0 where
@@ -79,41 +61,25 @@ module _ {C : Type 0} (w : Ways C) where
 
   -- ---- a socket that was opened as connected
 
-  goes_on : (s : State C) (items : List Item) → AreLegal w s items → GoesOnAs w s items s items
-  goes_on s items legal = record {
-    accepted = refl;
-    delivered = refl;
-    placed = refl;
-    asked = refl;
-    shown = refl;
-    dropped = refl;
-    emitted = λ emission among. inr among;
-    emits = λ emission among. among;
-    arrived = λ datagram among. among;
-    ends = refl;
-    legal = legal;
-  }
-
-  opening-part : (own : ℕ) (config : Config) (peer : Peer) (now start : ℕ) (h : History C) → IsOpening own config peer start
+  pub opening-part : (own : ℕ) (config : Config) (peer : Peer) (now start : ℕ) (h : History C) → IsOpening own config peer start
       → h.opening ≡ opening w own config peer now start → IsLegal w h → ConnectedPart h
   opening-part own config peer now start h in_range is legal = record {
     part = h;
     begins = opening-begins w own config peer now start h is in_range legal;
-    goes_on = goes_on h.opening h.items legal;
+    goes_on = goes_on w h.opening h.items legal;
     name = same_name h.opening;
     same_start = refl;
-    honest = λ net addr honest. honest;
   }
 
   -- ---- a socket that was opened without a connection
 
-  linked-peer : (s : State C) (peer : Peer) (from_whom : Origin) (emissions : List Emission) (outcome : Outcome C)
+  pub linked-peer : (s : State C) (peer : Peer) (from_whom : Origin) (emissions : List Emission) (outcome : Outcome C)
       → outcome ≡ on_control (connected w s peer from_whom) heard.Connected emissions → outcome.after.peer ≡ peer
   linked-peer s peer from_whom emissions outcome is = ap (λ (o : Outcome C). o.after.peer) is
 
   module _ (own isn : ℕ) (config : Config) (now : ℕ) (h : History C) (in_range : IsOpened own isn config)
       (is : h.opening ≡ opened w own isn config now) (legal : IsLegal w h) where
-    opened_name : h.opening.own ≡ own
+    pub opened_name : h.opening.own ≡ own
     unfolding opened
     opened_name = ap (λ (s : State C). s.own) is
 
@@ -121,7 +87,7 @@ module _ {C : Type 0} (w : Ways C) where
     unfolding opened
     opened_number = ap (λ (s : State C). s.isn) is
 
-    opened_start : start_of h ≡ 0
+    pub opened_start : start_of h ≡ 0
     unfolding opened
     opened_start = ap (λ (s : State C). s.sending.blocks.first) is
 
@@ -129,7 +95,7 @@ module _ {C : Type 0} (w : Ways C) where
     unfolding opened
     opened_agrees = subst (λ (s : State C). AgreesIn s.phase) (sym is) tt
 
-    begins_unlinked : IsUnlinked w config 0 h.opening
+    pub begins_unlinked : IsUnlinked w config 0 h.opening
     begins_unlinked = subst (IsUnlinked w config 0) (sym is) (opened-unlinked w own isn config now)
 
     -- the handshake that connects it suits
@@ -144,7 +110,7 @@ module _ {C : Type 0} (w : Ways C) where
         links-suited w (at_moment t at.item.event.now) at.linked.from at.linked.raw at.linked.peer at.linked.from_whom at.linked.emissions
         (unlinked-some w config 0 t in_range.values.payload at.unlinked) known.knows agrees at.linked.links
 
-    connected_part : IsConnectedAt w config 0 h.opening h.items → ConnectedPart h
+    pub connected_part : IsConnectedAt w config 0 h.opening h.items → ConnectedPart h
     connected_part at =
         let t = after_items w h.opening at.front in
         let next = (step w t at.item.event).after in
@@ -176,7 +142,6 @@ module _ {C : Type 0} (w : Ways C) where
           goes_on = at.goes_on;
           name = name;
           same_start = ap (λ (sending : Sending C). sending.blocks.first) at.fresh.sending ∙ sym opened_start;
-          honest = λ net addr honest. honest-since net addr h.opening at.front at.item at.rest h.items at.joined honest;
         }
 
     opened-parts : NeverConnected h ⊎ ConnectedPart h

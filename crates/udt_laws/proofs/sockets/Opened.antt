@@ -19,7 +19,7 @@ module _ {C : Type 0} (w : Ways C) where
     unfolding opening
     opened_own = ap (λ (s : State C). s.own) is
 
-    opened_kind : h.opening.kind ≡ config.kind
+    pub opened_kind : h.opening.kind ≡ config.kind
     unfolding opening
     opened_kind = ap (λ (s : State C). s.kind) is
 
@@ -27,11 +27,11 @@ module _ {C : Type 0} (w : Ways C) where
     unfolding opening
     opened_isn = ap (λ (s : State C). s.isn) is
 
-    opened_peer : h.opening.peer ≡ peer
+    pub opened_peer : h.opening.peer ≡ peer
     unfolding opening
     opened_peer = ap (λ (s : State C). s.peer) is
 
-    opened_start : start_of h ≡ start
+    pub opened_start : start_of h ≡ start
     unfolding opening
     opened_start = ap (λ (s : State C). s.sending.blocks.first) is
 
