@@ -3,3 +3,5 @@ pub mod Requests
 pub mod OneAddress
 pub mod PeersMeet
 pub mod NamesBack
+pub mod Agreement
+pub mod Hears

@@ -59,7 +59,7 @@ module _ {C : Type 0} (w : Ways C) (net : List (EndpointRecord C)) (lawful : Are
         last_peer w socket.history (request-begins config peer now in_range opens) ∙ opened_peer w socket.own config peer now 0 socket.history opens
 
   -- a socket that asks, or says that it wants to meet, wasn't opened as connected
-  asks-not_begun : (h : History C) (emission : Emission) (stamp dest : ℕ) (shake : Shake) → Begins w h → Contains (emitted w h) emission
+  pub asks-not_begun : (h : History C) (emission : Emission) (stamp dest : ℕ) (shake : Shake) → Begins w h → Contains (emitted w h) emission
       → read emission.datagram.bytes ≡ Ok (Handshake stamp dest shake) → is_answer (asked shake.ask) ≡ false → ⊥
   asks-not_begun h emission stamp dest shake begins among reads no_answer =
       let answers = begins-answers w h begins emission stamp dest shake among reads in
@@ -94,7 +94,7 @@ module _ {C : Type 0} (w : Ways C) (net : List (EndpointRecord C)) (lawful : Are
       -- ---- each socket
 
       -- a socket with the peer's address and ID is the other one
-      peer-is : (found : Enrolled C) → StandsAt net (state_of w socket.history).peer.addr found → found.own ≡ (state_of w socket.history).peer.id
+      pub peer-is : (found : Enrolled C) → StandsAt net (state_of w socket.history).peer.addr found → found.own ≡ (state_of w socket.history).peer.id
           → found ≡ other
       peer-is found stands own_is =
           let so = names-so w socket.history (record { addr = at; id = other.own }) names in

@@ -31,7 +31,7 @@ use Rattle.udt_laws.proofs.adoption.OneAddress.{asked-there}
 use Rattle.udt_laws.proofs.adoption.Requests.{promised-request}
 use Rattle.udt_laws.proofs.sent_blocks.SentBlocks.{begins-answers}
 use Rattle.udt_laws.proofs.sockets.Begins.{Begins}
-use Rattle.udt_laws.proofs.sockets.ConnectedParts.{ConnectedPart, NeverConnected, never-emits, linked-peer, opened_name, opened_start, begins_unlinked, connected_part, opening-part, suited}
+use Rattle.udt_laws.proofs.sockets.ConnectedParts.{ConnectedPart, NeverConnected, never-emits, linked-peer, opened_name, opened_start, begins_unlinked, suited}
 use Rattle.udt_laws.proofs.sockets.OneSocket.{packet-bound, same-socket, same-peer}
 use Rattle.udt_laws.proofs.sockets.Opened.{AreConnected, opened_kind, opened_peer, opened_start as opening_start, opening-begins, names-peer, paired-connected}
 use Rattle.udt_laws.proofs.sockets.SuitedPeers.{IsSuited}
@@ -191,7 +191,7 @@ module _ {C : Type 0} (w : Ways C) where
         met_by = opened-met w socket.own isn config now socket.history.opening in_range opens socket.history.items at
 
         -- the handshake that connected this one was emitted by a socket with the peer's ID that carries the same
-        met_kind : (other : Enrolled C) → StandsAt net last_peer_of.addr other → other.own ≡ last_peer_of.id
+        pub met_kind : (other : Enrolled C) → StandsAt net last_peer_of.addr other → other.own ≡ last_peer_of.id
             → other.history.opening.kind ≡ socket.history.opening.kind
         met_kind other there own_is =
             let h = socket.history in

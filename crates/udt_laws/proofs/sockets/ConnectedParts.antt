@@ -61,15 +61,20 @@ module _ {C : Type 0} (w : Ways C) where
 
   -- ---- a socket that was opened as connected
 
-  pub opening-part : (own : ℕ) (config : Config) (peer : Peer) (now start : ℕ) (h : History C) → IsOpening own config peer start
-      → h.opening ≡ opening w own config peer now start → IsLegal w h → ConnectedPart h
-  opening-part own config peer now start h in_range is legal = record {
+  -- a history that begins as connected is that part as a whole
+  pub begins-part : (h : History C) → Begins w h → ConnectedPart h
+  begins-part h begins = record {
     part = h;
-    begins = opening-begins w own config peer now start h is in_range legal;
-    goes_on = goes_on w h.opening h.items legal;
+    begins = begins;
+    goes_on = goes_on w h.opening h.items begins.legal;
     name = same_name h.opening;
     same_start = refl;
   }
+
+  opening-part : (own : ℕ) (config : Config) (peer : Peer) (now start : ℕ) (h : History C) → IsOpening own config peer start
+      → h.opening ≡ opening w own config peer now start → IsLegal w h → ConnectedPart h
+  opening-part own config peer now start h in_range is legal =
+      begins-part h (opening-begins w own config peer now start h is in_range legal)
 
   -- ---- a socket that was opened without a connection
 
