@@ -5,3 +5,4 @@ pub mod PeersMeet
 pub mod NamesBack
 pub mod Agreement
 pub mod Hears
+pub mod MutualAdoption

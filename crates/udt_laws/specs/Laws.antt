@@ -1,5 +1,5 @@
 -- The main theorems, as statements about histories and records, over any rate control.
-use Rattle.std.specs.Prelude.{◌≡◌, ℕ, ◌+◌, ◌-◌, ◌%◌, ◌^◌, ◌<◌, ◌≤◌, List, [], ◌∷◌, ◌++◌, drop, length, map, Some, Ok, slice_get, true, false}
+use Rattle.std.specs.Prelude.{◌≡◌, ◌⊎◌, ℕ, ◌+◌, ◌-◌, ◌%◌, ◌^◌, ◌<◌, ◌≤◌, List, [], ◌∷◌, ◌++◌, drop, length, map, Some, Ok, slice_get, true, false}
 use Rattle.std.specs.List.{Contains, concat}
 use Rattle.udt_model.specs.declared.packets.Flags.{Flags}
 use Rattle.udt_model.specs.declared.packets.Kind.TheVariants.{Stream, Message}
@@ -107,6 +107,31 @@ module _ {C : Type 0} (w : Ways C) where
       → Contains (emitted w socket.history) emission → read emission.datagram.bytes ≡ Ok (Handshake stamp dest shake)
       → names_sender dest (asks shake.ask) ≡ true
       → (shake.id ≡ socket.own) × (shake.isn ≡ socket.history.opening.isn)
+
+  -- the socket has placed a block, taken a message drop request, or has a block acknowledged
+  abbrev pub HasHeard : History C → Type 0
+  HasHeard h =
+      ((offset : ℕ) × Contains (placed_offsets w h) offset) ⊎ (((offset : ℕ) × Contains (dropped_offsets w h) offset) ⊎ (0 < acked w h))
+
+  -- a socket stands where this one names its peer and names this one as its own. Both carry the same, both begin at one offset, and each
+  -- has the initial sequence number of the other
+  pub record HasMutualPeer (net : List (EndpointRecord C)) (addr : Addr) (socket : Enrolled C) (peer : PeerPair) : Type 0 where
+    pub other : Enrolled C
+    pub stands : StandsAt net peer.addr other
+    pub own_is : other.own ≡ peer.id
+    pub back : own_peer w other.history ≡ Some (record { addr = addr; id = socket.own })
+    pub kind : other.history.opening.kind ≡ socket.history.opening.kind
+    pub start : start_of other.history ≡ start_of socket.history
+    pub isn : peer_isn socket.history ≡ other.history.opening.isn
+    pub back_isn : peer_isn other.history ≡ socket.history.opening.isn
+
+  -- Mutual adoption: where records are lawful and honest, this holds of each socket with an own peer that has so heard of it
+  abbrev pub MutualAdoption : Type 0
+  MutualAdoption =
+      (net : List (EndpointRecord C)) (addr : Addr) (socket : Enrolled C) (peer : PeerPair)
+      → AreLawful w net → IsHonest w net
+      → StandsAt net addr socket → own_peer w socket.history ≡ Some peer → HasHeard socket.history
+      → HasMutualPeer net addr socket peer
 
   -- what is promised of a socket's history and that of its own peer: what the one delivered is a prefix of what the other
   -- accepted, and no more blocks of the one are acknowledged than have arrived at the other

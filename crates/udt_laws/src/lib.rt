@@ -2,7 +2,7 @@
 #![tactic(auto)]
 
 ghost use Rattle.udt_laws.specs.Laws.{OneHistory, EmittedBlocks, AllNamed, Addressed, Named};
-ghost use Rattle.udt_laws.specs.Laws.{Prefix, PairPrefix, PairArrived, PairHonest};
+ghost use Rattle.udt_laws.specs.Laws.{MutualAdoption, Prefix, PairPrefix, PairArrived, PairHonest};
 ghost use Rattle.udt_laws.specs.Laws.{Messages};
 
 use udt_rate::Control;
@@ -33,6 +33,13 @@ pub fn addressed<C: Control>()
 /// that emits it.
 pub fn named<C: Control>()
     ensures { Named C.ways }
+{}
+
+/// Where no datagram is forged and none outlives 2^30 packets, a socket that has placed a block, taken
+/// a message drop request or has a block acknowledged is the own peer of its own peer. Both carry the
+/// same, begin at one offset, and have each other's initial sequence number.
+pub fn mutual_adoption<C: Control>()
+    ensures { MutualAdoption C.ways }
 {}
 
 /// Where no datagram is forged and none outlives 2^30 packets, what a stream socket delivers is a

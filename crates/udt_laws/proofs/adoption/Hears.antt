@@ -137,46 +137,87 @@ module _ {C : Type 0} (w : Ways C) where
       }) packet s.phase refl refl (λ connected. dropped-connected s from message stamp dest first last) dropped
 
   module _ (X : Type 0) where
-    placed-by_reply : (s : State C) (from : Addr) (raw : List ℕ) (result : Result Packet Malformed) (offset : ℕ) → read raw ≡ result
-        → (on_read w s from (read raw)).reply ≡ DidHear heard.Placed → HearsSo X s (Arrive from raw) → Contains (offset_of_packet s result) offset → X
-    placed-by_reply s from raw (Ok (Block number flags stamp dest bytes)) offset is placed hears among =
+    placed-by_reply : (s : State C) (now : ℕ) (from : Addr) (raw : List ℕ) (result : Result Packet Malformed) (offset : ℕ) → read raw ≡ result
+        → (on_read w (at_moment s now) from (read raw)).reply ≡ DidHear heard.Placed → HearsSo X s (Arrive from raw)
+        → Contains (offset_of_packet s result) offset → X
+    placed-by_reply s now from raw (Ok (Block number flags stamp dest bytes)) offset is placed hears among =
         let packet = Block number flags stamp dest bytes in
-        let so = placed-for s from raw number packet is placed in
+        let so = placed-for (at_moment s now) from raw number packet is placed in
         hears packet so.sender is refl so.dest
-    placed-by_reply s from raw _ offset is placed hears among = absurd (none-contained offset among)
+    placed-by_reply s now from raw _ offset is placed hears among = absurd (none-contained offset among)
 
-    placed-by_act : (s : State C) (act : Act) (reply : Reply) (offset : ℕ) → reply ≡ (on_act w s act).reply → HearsSo X s act
-        → Contains (placed_by s act reply) offset → X
-    placed-by_act s (Arrive from raw) (DidHear heard.Placed) offset is hears among =
-        placed-by_reply s from raw (read raw) offset refl (sym is) hears among
-    placed-by_act s _ _ offset is hears among = absurd (none-contained offset among)
+    placed-by_act : (s : State C) (now : ℕ) (act : Act) (reply : Reply) (offset : ℕ) → reply ≡ (on_act w (at_moment s now) act).reply
+        → HearsSo X s act → Contains (placed_by s act reply) offset → X
+    placed-by_act s now (Arrive from raw) (DidHear heard.Placed) offset is hears among =
+        placed-by_reply s now from raw (read raw) offset refl (sym is) hears among
+    placed-by_act s now _ _ offset is hears among = absurd (none-contained offset among)
 
-    dropped-by_reply : (s : State C) (from : Addr) (raw : List ℕ) (result : Result Packet Malformed) (offset : ℕ) → read raw ≡ result
-        → (on_read w s from result).reply ≡ DidHear heard.Dropped → HearsSo X s (Arrive from raw) → Contains (offsets_of_request s result) offset → X
-    dropped-by_reply s from raw (Ok (DropAsk message stamp dest first last)) offset is dropped hears among =
-        let so = dropped-for s from message stamp dest first last dropped in
+    dropped-by_reply : (s : State C) (now : ℕ) (from : Addr) (raw : List ℕ) (result : Result Packet Malformed) (offset : ℕ) → read raw ≡ result
+        → (on_read w (at_moment s now) from result).reply ≡ DidHear heard.Dropped → HearsSo X s (Arrive from raw)
+        → Contains (offsets_of_request s result) offset → X
+    dropped-by_reply s now from raw (Ok (DropAsk message stamp dest first last)) offset is dropped hears among =
+        let so = dropped-for (at_moment s now) from message stamp dest first last dropped in
         hears (DropAsk message stamp dest first last) so.sender is refl so.dest
-    dropped-by_reply s from raw _ offset is dropped hears among = absurd (none-contained offset among)
+    dropped-by_reply s now from raw _ offset is dropped hears among = absurd (none-contained offset among)
 
-    dropped-by_act : (s : State C) (act : Act) (reply : Reply) (offset : ℕ) → reply ≡ (on_act w s act).reply → HearsSo X s act
-        → Contains (dropped_by s act reply) offset → X
-    dropped-by_act s (Arrive from raw) (DidHear heard.Dropped) offset is hears among =
-        dropped-by_reply s from raw (read raw) offset refl (sym is) hears among
-    dropped-by_act s _ _ offset is hears among = absurd (none-contained offset among)
-
-    -- a moment changes nothing of this
-    hears-at_moment : (s : State C) (now : ℕ) (act : Act) → HearsSo X s act → HearsSo X (at_moment s now) act
-    hears-at_moment s now (Arrive from bytes) hears = hears
-    hears-at_moment s now _ hears = tt
+    dropped-by_act : (s : State C) (now : ℕ) (act : Act) (reply : Reply) (offset : ℕ) → reply ≡ (on_act w (at_moment s now) act).reply
+        → HearsSo X s act → Contains (dropped_by s act reply) offset → X
+    dropped-by_act s now (Arrive from raw) (DidHear heard.Dropped) offset is hears among =
+        dropped-by_reply s now from raw (read raw) offset refl (sym is) hears among
+    dropped-by_act s now _ _ offset is hears among = absurd (none-contained offset among)
 
     placed-by_step : (s : State C) (event : Event) (reply : Reply) (offset : ℕ) → reply ≡ (step w s event).reply → HearsSo X s event.act
-        → Contains (placed_by (at_moment s event.now) event.act reply) offset → X
+        → Contains (placed_by s event.act reply) offset → X
     unfolding step
-    placed-by_step s event reply offset is hears among =
-        placed-by_act (at_moment s event.now) event.act reply offset is (hears-at_moment s event.now event.act hears) among
+    placed-by_step s event reply offset is hears among = placed-by_act s event.now event.act reply offset is hears among
 
     dropped-by_step : (s : State C) (event : Event) (reply : Reply) (offset : ℕ) → reply ≡ (step w s event).reply → HearsSo X s event.act
-        → Contains (dropped_by (at_moment s event.now) event.act reply) offset → X
+        → Contains (dropped_by s event.act reply) offset → X
     unfolding step
-    dropped-by_step s event reply offset is hears among =
-        dropped-by_act (at_moment s event.now) event.act reply offset is (hears-at_moment s event.now event.act hears) among
+    dropped-by_step s event reply offset is hears among = dropped-by_act s event.now event.act reply offset is hears among
+
+    -- so each offset that items place, or drop, comes with an arrival that shows it
+    pub placed-shows : (s : State C) (items : List Item) (offset : ℕ) → AreLegal w s items → AllHear X s items
+        → Contains (placed_from w s items) offset → X
+    unfolding AreLegal placed_from
+    placed-shows s [] offset legal hear among = absurd (none-contained offset among)
+    placed-shows s (item ∷ items) offset legal hear among =
+        elim (Contains-append_cases (placed_by s item.event.act item.reply) _ offset among) [
+          | inl here ↦ placed-by_step s item.event item.reply offset legal.0 hear.0 here
+          | inr later ↦ placed-shows (step w s item.event).after items offset legal.2 hear.1 later
+        ]
+
+    pub dropped-shows : (s : State C) (items : List Item) (offset : ℕ) → AreLegal w s items → AllHear X s items
+        → Contains (dropped_from w s items) offset → X
+    unfolding AreLegal dropped_from
+    dropped-shows s [] offset legal hear among = absurd (none-contained offset among)
+    dropped-shows s (item ∷ items) offset legal hear among =
+        elim (Contains-append_cases (dropped_by s item.event.act item.reply) _ offset among) [
+          | inl here ↦ dropped-by_step s item.event item.reply offset legal.0 hear.0 here
+          | inr later ↦ dropped-shows (step w s item.event).after items offset legal.2 hear.1 later
+        ]
+
+    -- ---- where records are honest
+
+    module _ (net : List (EndpointRecord C)) (addr : Addr) (own : ℕ) (from : Addr) where
+      -- what is emitted at an address for an ID here, and is no handshake, shows this
+      abbrev pub ShowsSo : Type 0
+      ShowsSo =
+          (s : State C) (sender : Addr) (bytes : List ℕ) (packet : Packet) → sender ≡ from → WasEmitted w net s sender addr bytes
+          → read bytes ≡ Ok packet → is_handshake packet ≡ false → destination packet ≡ own → X
+
+      act-hears : (s : State C) (act : Act) → ShowsSo → s.own ≡ own → s.peer.addr ≡ from → IsHonestAct w net addr s act → HearsSo X s act
+      act-hears s (Arrive sender bytes) shows own_is addr_is was =
+          λ packet from_is reads plain dest. shows s sender bytes packet (from_is ∙ addr_is) was reads plain (dest ∙ own_is)
+      act-hears s _ shows own_is addr_is was = tt
+
+      pub items-hear : (s : State C) (items : List Item) → ShowsSo → is_settled s.phase ≡ true → s.own ≡ own → s.peer.addr ≡ from
+          → AreHonest w net addr s items → AllHear X s items
+      unfolding AreHonest
+      items-hear s [] shows settled own_is addr_is honest = tt
+      items-hear s (item ∷ items) shows settled own_is addr_is honest =
+          let same = step-keeps w s item.event settled in (
+            act-hears s item.event.act shows own_is addr_is honest.0,
+            items-hear (step w s item.event).after items shows (same.settled settled) (same.own ∙ own_is)
+                (ap (λ (p : Peer). p.addr) same.peer ∙ addr_is) honest.1,
+          )
