@@ -6,3 +6,4 @@ pub mod NamesBack
 pub mod Agreement
 pub mod Hears
 pub mod MutualAdoption
+pub mod SocketsInStep

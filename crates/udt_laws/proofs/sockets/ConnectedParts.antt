@@ -1,6 +1,6 @@
 -- The history of a socket since it was connected, which begins as connected: all of it, where the socket was opened so, and else what follows
 -- the handshake that connected it. Before, nothing is taken or given, and no more than handshakes are emitted.
-use Rattle.std.proofs.Common.{◌≡◌, ℕ, ◌+◌, ◌^◌, ◌<◌, ◌≤◌, true, false, List, [], ◌∷◌, ◌++◌, Ok, refl, ap, ◌∙◌, sym, subst, inl, inr, ◌⊎◌, arith}
+use Rattle.std.proofs.Common.{◌≡◌, ℕ, ◌+◌, ◌^◌, ◌<◌, ◌≤◌, true, false, List, [], ◌∷◌, ◌++◌, length, Ok, refl, ap, ◌∙◌, sym, subst, inl, inr, ◌⊎◌, arith}
 use Rattle.std.specs.List.{Contains}
 use Rattle.udt_model.specs.declared.addresses.Addr.{Addr}
 use Rattle.udt_model.specs.declared.answers.Heard.TheVariants as heard
@@ -11,7 +11,7 @@ use Rattle.udt_model.specs.declared.packets.Config.{Config}
 use Rattle.udt_model.specs.Counted.{on_control}
 use Rattle.udt_model.specs.Emissions.{emitted, emitted_by}
 use Rattle.udt_model.specs.Events.{Outcome, at_moment}
-use Rattle.udt_model.specs.History.{Item, History, after_items, state_of, start_of, AreLegal, IsLegal, acked}
+use Rattle.udt_model.specs.History.{Item, History, after_items, state_of, start_of, IsLegal, acked, arrived, gapless, placed_offsets}
 use Rattle.udt_model.specs.Opening.{connected, opened, opening, IsOpened, IsOpening}
 use Rattle.udt_model.specs.Rate.{Ways}
 use Rattle.udt_model.specs.Records.{Way, Opened, Paired, PairedAt, IsWay, opened_by, Enrolled, IsSocket, EndpointRecord, PeerPair, peer_by, own_peer}
@@ -178,6 +178,11 @@ module _ {C : Type 0} (w : Ways C) where
 
     pub part-acked : acked w h ≡ acked w since.part
     part-acked = omega (arith, ap (λ (s : State C). s.sending.blocks.first) since.goes_on.ends, since.same_start)
+
+    pub part-arrived : arrived w h ≡ arrived w since.part
+    part-arrived =
+        ap (λ (offsets : List ℕ). gapless (length offsets) (start_of h) offsets) since.goes_on.placed
+        ∙ ap (λ (n : ℕ). gapless (length (placed_offsets w since.part)) n (placed_offsets w since.part)) (sym since.same_start)
 
     -- what is emitted and is no handshake was emitted since then
     pub part-emitted : (emission : Emission) (packet : Packet) → Contains (emitted w h) emission → read emission.datagram.bytes ≡ Ok packet
