@@ -146,6 +146,7 @@ module _ {C : Type 0} (w : Ways C) where
     unfolding opened
     opened-nobody = ap (λ (u : State C). has_peer u.origin) is
 
+    -- so it is met by the peer that it has to the end
     pub opened-met : (items : List Item) (at : IsConnectedAt w config 0 s items) → IsMet config s items at
     opened-met items at =
         let t = after_items w s at.front in

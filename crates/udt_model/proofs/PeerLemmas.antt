@@ -34,6 +34,7 @@ use Rattle.udt_model.proofs.SettlingLemmas.{at_moment-unlinked, shakes-mute, ope
 use Rattle.udt_model.proofs.StepLemmas.{step-keeps}
 use Rattle.udt_model.proofs.UnlinkedLemmas.{IsUnlinked, OfUnlinked, Turns, Listens, Asks, Meets, ListensOn, AsksOn, MeetsOn, Ends, Stays, turns-mute, unlinked-as, unlinked-shows}
 
+-- a socket with this origin has a peer
 abbrev pub has_peer : Origin → Bool
 has_peer origin.Nobody = false
 has_peer other = true
@@ -48,6 +49,7 @@ pub record Standing : Type 0 where
   pub peer : Peer
   pub origin : Origin
 
+-- a socket in this state
 abbrev pub standing_of : {C : Type 0} → State C → Standing
 standing_of s = record { own = s.own; isn = s.isn; config = config_of s; peer = s.peer; origin = s.origin }
 
@@ -63,6 +65,7 @@ pub record HasAdopted (x : Standing) (to : Addr) (adopted : Peer) : Type 0 where
   pub peer : x.peer ≡ adopted
   pub addr : adopted.addr ≡ to
 
+-- and whom one has adopted: nobody while it has no peer
 abbrev pub Adoption : Standing → Addr → Option Peer → Type 0
 Adoption x to None = x.origin ≡ origin.Nobody
 Adoption x to (Some peer) = HasAdopted x to peer
@@ -100,8 +103,8 @@ mute-knows x p settled mute = settled-knows x p settled (λ spoken. absurd (cc))
 module _ {C : Type 0} where
   -- ---- what an event does to the peer
 
-  -- an event keeps the peer, or it is the arrival of a handshake that tells of one where there was none: of one that
-  -- wants to meet, or an answer for the own ID
+  -- an event is the arrival of a handshake that tells of a peer where there was none: of one that wants to meet, or an
+  -- answer for the own ID
   pub record IsIntroduced (s : State C) (act : Act) (t : State C) : Type 0 where
     pub from : Addr
     pub raw : List ℕ
@@ -117,10 +120,12 @@ module _ {C : Type 0} where
     pub isn : shake.isn ≡ t.peer.isn
     pub asks : (asked shake.ask ≡ asks.Meets) ⊎ ((asked shake.ask ≡ asks.Answers) × (dest ≡ s.own))
 
+  -- it keeps the peer
   pub record KeepsPeer (s t : State C) : Type 0 where
     pub peer : t.peer ≡ s.peer
     pub origin : t.origin ≡ s.origin
 
+  -- one of both
   abbrev pub SetsPeer : State C → Act → State C → Type 0
   SetsPeer s act t = KeepsPeer s t ⊎ IsIntroduced s act t
 
@@ -357,6 +362,7 @@ module _ {C : Type 0} (w : Ways C) where
 
     -- ---- histories
 
+    -- all events leave it known
     pub items-known : (s : State C) (items : List Item) → IsKnown config start s
         → IsKnown config start (after_items w s items)
     unfolding after_items
@@ -372,6 +378,7 @@ module _ {C : Type 0} (w : Ways C) where
       | inr introduced ↦ let none : has_peer s.origin ≡ false = introduced.none_before in absurd (cc)
     ]
 
+    -- over all events
     pub items-keep_peer : (s : State C) (items : List Item) → IsKnown config start s → has_peer s.origin ≡ true
         → KeepsPeer s (after_items w s items)
     unfolding after_items
@@ -425,12 +432,13 @@ module _ {C : Type 0} (w : Ways C) where
 
   -- ---- openings
 
-  -- the values with which a socket was opened, and the offset at which its directions begin
+  -- the values with which a socket was opened
   abbrev pub config_by : Way → Config
   config_by (Opened isn config now) = config
   config_by (Paired config peer now) = config
   config_by (PairedAt config peer now start) = config
 
+  -- and the offset at which its directions begin
   abbrev pub start_by : Way → ℕ
   start_by (Opened isn config now) = 0
   start_by (Paired config peer now) = 0

@@ -102,6 +102,7 @@ module _ {C : Type 0} (w : Ways C) where
         → IsShakeEmission (at_moment s event.now) event.act emission
 
   module _ (config : Config) (start : ℕ) where
+    -- its moment is no matter
     pub at_moment-unlinked : (s : State C) (now : ℕ) → IsUnlinked w config start s
         → IsUnlinked w config start (at_moment s now)
     at_moment-unlinked s now unlinked = record {
@@ -160,6 +161,7 @@ module _ {C : Type 0} (w : Ways C) where
       };
     }
 
+    -- so an event leaves it without a connection, or connects it
     pub step-begins : (s : State C) (event : Event) → IsUnlinked w config start s → Begins config start s event
     unfolding step
     step-begins s event unlinked =

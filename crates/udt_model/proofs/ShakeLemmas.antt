@@ -224,6 +224,7 @@ module _ {C : Type 0} (w : Ways C) where
         (subst (λ (n : ℕ). n < 2 ^ 32) (sym (name.own ∙ ap (λ (u : State C). u.own) opened_so)) fits.0)
         (subst (λ (n : ℕ). n < 2 ^ 31) (sym (name.isn ∙ ap (λ (u : State C). u.isn) opened_so)) fits.1)
 
+    -- of all that they emitted
     pub shake-names : (items : List Item) (emission : Emission) (stamp dest : ℕ) (shake : Shake)
         → Contains (emitted_by w s items) emission
         → read emission.datagram.bytes ≡ Ok (Handshake stamp dest shake) → names_sender dest (asked shake.ask) ≡ true

@@ -94,6 +94,7 @@ shake-field stamp dest shake packet reads =
     refl refl (field-header (type_word 0) 0 stamp dest field) in
     (shake-long (word_at 8 bytes) (word_at 12 bytes) field packet (sym is ∙ reads)).1
 
+-- of each spelling of a handshake that is read at all
 pub read-shake_spelling : (stamp dest : ℕ) (shake : Shake) (packet : Packet)
     → read (spelling (Handshake stamp dest shake)) ≡ Ok packet
     → IsReadShake stamp dest shake packet
@@ -197,6 +198,7 @@ block-no_shake seq second stamp dest field s d shake fits reads =
     let is : Ok (block_of bytes) ≡ Ok (Handshake s d shake) = rw (long, data_bit) at reads in
     cc
 
+-- it is never read as a handshake
 pub plain-no_shake : (packet : Packet) (s d : ℕ) (shake : Shake) → IsPlain packet → read (spelling packet)
     ≡ Ok (Handshake s d shake) → ⊥
 unfolding spelling

@@ -318,12 +318,14 @@ module _ {C : Type 0} (w : Ways C) where
   on_act-keeps s (Arrive from bytes) = on_read-keeps s from (read bytes)
   on_act-keeps s _ = all-kept s _ (same_identity s)
 
+  -- an event keeps the name of a socket
   pub step-keeps_name : (s : State C) (event : Event) → KeepsName s (step w s event).after
   unfolding step
   step-keeps_name s event =
       let kept = (on_act-keeps (at_moment s event.now) event.act).name in
       record { own = kept.own; kind = kept.kind; isn = kept.isn; opened = kept.opened }
 
+  -- and all of its identity where it is settled
   pub step-keeps : (s : State C) (event : Event) → is_settled s.phase ≡ true → KeepsIdentity s (step w s event).after
   unfolding step
   step-keeps s event settled =
@@ -349,6 +351,7 @@ module _ {C : Type 0} (w : Ways C) where
       name_on s (step w s item.event).after _ (step-keeps_name s item.event)
       (after_items-keeps_name (step w s item.event).after items)
 
+  -- of a settled socket they keep all of its identity
   pub after_items-keeps : (s : State C) (items : List Item) → is_settled s.phase ≡ true
       → KeepsIdentity s (after_items w s items)
   unfolding after_items

@@ -91,6 +91,7 @@ module _ {C : Type 0} where
   shown-silent s (RecvMessage (suc room)) (ReceivedMessage (Ok bytes)) silent = absurd (cc)
   shown-silent s _ _ silent = refl
 
+  -- a silent reply tells of nothing, whatever the act
   pub silent-tells : (act : Act) (reply : Reply) → is_silent reply ≡ true → TellsNothing C act reply
   silent-tells act reply silent = record {
     taken = taken-silent act reply silent;
@@ -111,6 +112,7 @@ received-none : (room : ℕ) → take room none ≡ none
 received-none zero = refl
 received-none (suc room) = refl
 
+-- no byte waits in an idle half
 pub idle-received : (config : Config) (start room : ℕ) → received_by (idle_receiving config start) room ≡ []
 unfolding bytes_from
 idle-received config start room = received-none room
@@ -121,10 +123,12 @@ pub idle-after_receive : (config : Config) (start : ℕ) → after_receive (idle
 unfolding beginning
 idle-after_receive config start = refl
 
+-- no message is readable in it
 pub idle-next : (config : Config) (start : ℕ) → next_message (idle_receiving config start).blocks ≡ None
 unfolding message_from
 idle-next config start = refl
 
+-- so a receive of one leaves it as it was
 pub idle-after_message : (config : Config) (start room : ℕ) → after_receive_message (idle_receiving config start) room
     ≡ idle_receiving config start
 unfolding message_from
