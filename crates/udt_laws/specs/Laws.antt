@@ -175,18 +175,6 @@ module _ {C : Type 0} (w : Ways C) where
       → length (sent socket.history) < 2 ^ 30 → length (sent other.history) < 2 ^ 30
       → AreLawful w (both_records addr socket other_addr other) × IsHonest w (both_records addr socket other_addr other)
 
-  -- Script prefix: whatever the lines of a script deliver, lose, repeat and reorder, the same holds of each stream socket of
-  -- it and its own peer, where no line gives bytes of its own
-  abbrev pub ScriptPrefix : Type 0
-  ScriptPrefix =
-      (lines : List (List ℕ)) (place peer_place : ℕ) (script_socket peer : ScriptSocket C)
-      → length lines < 2 ^ 30 → AreEmitted lines
-      → slice_get (network_after w lines).sockets place ≡ Some script_socket
-      → slice_get (network_after w lines).sockets peer_place ≡ Some peer
-      → IsStream script_socket.history
-      → own_peer w script_socket.history ≡ Some (record { addr = peer.host; id = peer_place + 1 })
-      → AreInStep script_socket.history peer.history
-
   -- ---- messages
 
   -- a message that was shown was asked: one was accepted whose first offset is that of the shown one, and each that was has
@@ -227,15 +215,3 @@ module _ {C : Type 0} (w : Ways C) where
       → StandsAt net addr socket → CarriesMessages socket.history → own_peer w socket.history ≡ Some peer
       → StandsAt net peer.addr other → other.own ≡ peer.id
       → ShowsMessages socket.history other.history
-
-  -- Script messages: whatever the lines of a script deliver, lose, repeat and reorder, the same holds of each message socket
-  -- of it and its own peer, where no line gives bytes of its own
-  abbrev pub ScriptMessages : Type 0
-  ScriptMessages =
-      (lines : List (List ℕ)) (place peer_place : ℕ) (script_socket peer : ScriptSocket C)
-      → size_of lines < 2 ^ 30 → AreEmitted lines
-      → slice_get (network_after w lines).sockets place ≡ Some script_socket
-      → slice_get (network_after w lines).sockets peer_place ≡ Some peer
-      → CarriesMessages script_socket.history
-      → own_peer w script_socket.history ≡ Some (record { addr = peer.host; id = peer_place + 1 })
-      → ShowsMessages script_socket.history peer.history
