@@ -1,21 +1,23 @@
 -- The main theorems, as statements about histories and records, over any rate control.
-use Rattle.std.specs.Prelude.{◌≡◌, ℕ, ◌+◌, ◌-◌, ◌%◌, ◌^◌, ◌<◌, ◌≤◌, List, [], ◌∷◌, ◌++◌, drop, length, map, Some, Ok, slice_get, true, false}
+use Rattle.std.specs.Prelude.{◌≡◌, ◌⊎◌, ℕ, ◌+◌, ◌-◌, ◌%◌, ◌^◌, ◌<◌, ◌≤◌, List, [], ◌∷◌, ◌++◌, drop, length, map, Some, Ok, slice_get, true, false}
 use Rattle.std.specs.List.{Contains, concat}
 use Rattle.udt_model.specs.declared.packets.Flags.{Flags}
 use Rattle.udt_model.specs.declared.packets.Kind.TheVariants.{Stream, Message}
+use Rattle.udt_model.specs.declared.packets.Shake.{Shake}
 use Rattle.udt_model.specs.declared.addresses.Addr.{Addr}
 use Rattle.udt_model.specs.Emissions.{IsPrefix, emitted, sent, arrivals, IsMadeOf}
+use Rattle.udt_model.specs.Handshakes.{asked as asks}
 use Rattle.udt_model.specs.History.{AskedMessage, ShownMessage, History, IsLegal, state_of, start_of, accepted, delivered, acked, arrived, asked, shown, placed_offsets, dropped_offsets}
 use Rattle.udt_model.specs.Honest.{IsHonest}
 use Rattle.udt_model.specs.Lines.{AreEmitted}
 use Rattle.udt_model.specs.Network.{ScriptSocket}
 use Rattle.udt_model.specs.Numbers.{sequence_number}
 use Rattle.udt_model.specs.Rate.{Ways}
-use Rattle.udt_model.specs.Records.{Enrolled, IsSocket, EndpointRecord, StandsAt, PeerPair, own_peer, ArePaired, AreLawful}
+use Rattle.udt_model.specs.Records.{Enrolled, IsSocket, EndpointRecord, StandsAt, PeerPair, is_bound, names_sender, own_peer, ArePaired, AreLawful}
 use Rattle.udt_model.specs.Script.{size_of, network_after}
 use Rattle.udt_model.specs.SendBlocks.{KeptBlock}
 use Rattle.udt_model.specs.State.{Datagram, Emission}
-use Rattle.udt_model.specs.Wire.{Packet, Block, is_handshake, destination, read, target}
+use Rattle.udt_model.specs.Wire.{Packet, Block, Handshake, destination, read, target}
 
 module _ {C : Type 0} where
   -- the socket carries a stream of bytes
@@ -91,12 +93,45 @@ module _ {C : Type 0} (w : Ways C) where
   abbrev pub AllNamed : Type 0
   AllNamed = (h : History C) → IsLegal w h → map (λ (emission : Emission). emission.datagram) (emitted w h) ≡ sent h
 
-  -- Addressed: what a socket emits that isn't a handshake goes to its own peer
+  -- Addressed: what a socket emits for its peer, answers and all that isn't a handshake, goes to its own peer
   abbrev pub Addressed : Type 0
   Addressed =
       (socket : Enrolled C) (emission : Emission) (packet : Packet) → IsSocket w socket
-      → Contains (emitted w socket.history) emission → read emission.datagram.bytes ≡ Ok packet → is_handshake packet ≡ false
+      → Contains (emitted w socket.history) emission → read emission.datagram.bytes ≡ Ok packet → is_bound packet ≡ true
       → own_peer w socket.history ≡ Some (record { addr = emission.datagram.addr; id = destination packet })
+
+  -- Named: a handshake that tells whose it is carries the ID and the initial sequence number of the socket that emits it
+  abbrev pub Named : Type 0
+  Named =
+      (socket : Enrolled C) (emission : Emission) (stamp dest : ℕ) (shake : Shake) → IsSocket w socket
+      → Contains (emitted w socket.history) emission → read emission.datagram.bytes ≡ Ok (Handshake stamp dest shake)
+      → names_sender dest (asks shake.ask) ≡ true
+      → (shake.id ≡ socket.own) × (shake.isn ≡ socket.history.opening.isn)
+
+  -- the socket has placed a block, taken a message drop request, or has a block acknowledged
+  abbrev pub HasHeard : History C → Type 0
+  HasHeard h =
+      ((offset : ℕ) × Contains (placed_offsets w h) offset) ⊎ (((offset : ℕ) × Contains (dropped_offsets w h) offset) ⊎ (0 < acked w h))
+
+  -- a socket stands where this one names its peer and names this one as its own. Both carry the same, both begin at one offset, and each
+  -- has the initial sequence number of the other
+  pub record HasMutualPeer (net : List (EndpointRecord C)) (addr : Addr) (socket : Enrolled C) (peer : PeerPair) : Type 0 where
+    pub other : Enrolled C
+    pub stands : StandsAt net peer.addr other
+    pub own_is : other.own ≡ peer.id
+    pub back : own_peer w other.history ≡ Some (record { addr = addr; id = socket.own })
+    pub kind : other.history.opening.kind ≡ socket.history.opening.kind
+    pub start : start_of other.history ≡ start_of socket.history
+    pub isn : peer_isn socket.history ≡ other.history.opening.isn
+    pub back_isn : peer_isn other.history ≡ socket.history.opening.isn
+
+  -- Mutual adoption: where records are lawful and honest, this holds of each socket with an own peer that has so heard of it
+  abbrev pub MutualAdoption : Type 0
+  MutualAdoption =
+      (net : List (EndpointRecord C)) (addr : Addr) (socket : Enrolled C) (peer : PeerPair)
+      → AreLawful w net → IsHonest w net
+      → StandsAt net addr socket → own_peer w socket.history ≡ Some peer → HasHeard socket.history
+      → HasMutualPeer net addr socket peer
 
   -- what is promised of a socket's history and that of its own peer: what the one delivered is a prefix of what the other
   -- accepted, and no more blocks of the one are acknowledged than have arrived at the other
@@ -140,18 +175,6 @@ module _ {C : Type 0} (w : Ways C) where
       → length (sent socket.history) < 2 ^ 30 → length (sent other.history) < 2 ^ 30
       → AreLawful w (both_records addr socket other_addr other) × IsHonest w (both_records addr socket other_addr other)
 
-  -- Script prefix: whatever the lines of a script deliver, lose, repeat and reorder, the same holds of each stream socket of
-  -- it and its own peer, where no line gives bytes of its own
-  abbrev pub ScriptPrefix : Type 0
-  ScriptPrefix =
-      (lines : List (List ℕ)) (place peer_place : ℕ) (script_socket peer : ScriptSocket C)
-      → length lines < 2 ^ 30 → AreEmitted lines
-      → slice_get (network_after w lines).sockets place ≡ Some script_socket
-      → slice_get (network_after w lines).sockets peer_place ≡ Some peer
-      → IsStream script_socket.history
-      → own_peer w script_socket.history ≡ Some (record { addr = peer.host; id = peer_place + 1 })
-      → AreInStep script_socket.history peer.history
-
   -- ---- messages
 
   -- a message that was shown was asked: one was accepted whose first offset is that of the shown one, and each that was has
@@ -192,15 +215,3 @@ module _ {C : Type 0} (w : Ways C) where
       → StandsAt net addr socket → CarriesMessages socket.history → own_peer w socket.history ≡ Some peer
       → StandsAt net peer.addr other → other.own ≡ peer.id
       → ShowsMessages socket.history other.history
-
-  -- Script messages: whatever the lines of a script deliver, lose, repeat and reorder, the same holds of each message socket
-  -- of it and its own peer, where no line gives bytes of its own
-  abbrev pub ScriptMessages : Type 0
-  ScriptMessages =
-      (lines : List (List ℕ)) (place peer_place : ℕ) (script_socket peer : ScriptSocket C)
-      → size_of lines < 2 ^ 30 → AreEmitted lines
-      → slice_get (network_after w lines).sockets place ≡ Some script_socket
-      → slice_get (network_after w lines).sockets peer_place ≡ Some peer
-      → CarriesMessages script_socket.history
-      → own_peer w script_socket.history ≡ Some (record { addr = peer.host; id = peer_place + 1 })
-      → ShowsMessages script_socket.history peer.history

@@ -142,7 +142,7 @@ module _ {C : Type 0} (w : Ways C) where
 
   module _ (own isn : ℕ) (config : Config) (now : ℕ) (s : State C) (in_range : IsOpened own isn config)
       (is : s ≡ opened w own isn config now) where
-    opened-nobody : has_peer s.origin ≡ false
+    pub opened-nobody : has_peer s.origin ≡ false
     unfolding opened
     opened-nobody = ap (λ (u : State C). has_peer u.origin) is
 

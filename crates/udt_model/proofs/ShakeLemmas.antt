@@ -9,7 +9,7 @@ use Rattle.udt_model.specs.declared.answers.Peer.{Peer}
 use Rattle.udt_model.specs.declared.packets.Config.{Config}
 use Rattle.udt_model.specs.declared.packets.Shake.{Shake}
 use Rattle.udt_model.specs.Events.{Act, at_moment}
-use Rattle.udt_model.specs.Handshakes.{asked}
+use Rattle.udt_model.specs.Handshakes.{asked, kind_number}
 use Rattle.udt_model.specs.History.{Item, after_items}
 use Rattle.udt_model.specs.Emissions.{emitted_by}
 use Rattle.udt_model.specs.Opening.{opened, opening, IsOpening}
@@ -29,7 +29,7 @@ use Rattle.udt_model.proofs.HandshakeTells.{IsToPeer, Tells, emitting-cases, sen
 -- ---- histories
 
 module _ {C : Type 0} (w : Ways C) where
-  after-front : (s : State C) (front : List Item) (item : Item) (rest : List Item)
+  pub after-front : (s : State C) (front : List Item) (item : Item) (rest : List Item)
       → after_items w s (front ++ item ∷ rest) ≡ after_items w (step w (after_items w s front) item.event).after rest
   unfolding after_items
   after-front s front item rest = after_items-append w s front (item ∷ rest)
@@ -211,7 +211,7 @@ module _ {C : Type 0} (w : Ways C) where
         → IsToPeer (at_moment (after_items w s front) item.event.now) emission
         ⊎ IsShakeEmission (at_moment (after_items w s front) item.event.now) item.event.act emission
         → read emission.datagram.bytes ≡ Ok (Handshake stamp dest shake) → names_sender dest (asked shake.ask) ≡ true
-        → NamesOwn (after_items w s front).own (after_items w s front).isn shake
+        → NamesOwn (after_items w s front).own (after_items w s front).isn (after_items w s front).kind shake
     named-at front item emission stamp dest shake (inl sent) reads names =
         absurd (plain-no_shake sent.packet stamp dest shake sent.plain (ap read (sym sent.bytes) ∙ reads))
     named-at front item emission stamp dest shake (inr sent) reads names =
@@ -237,3 +237,15 @@ module _ {C : Type 0} (w : Ways C) where
         at.emitting) reads names in
         let name = after_items-keeps_name w s at.front in
         (named.id ∙ name.own ∙ ap (λ (u : State C). u.own) opened_so ∙ way-own w own way, named.number ∙ name.isn)
+
+    -- and tells what the socket carries
+    pub shake-kind : (items : List Item) (emission : Emission) (stamp dest : ℕ) (shake : Shake)
+        → Contains (emitted_by w s items) emission → read emission.datagram.bytes ≡ Ok (Handshake stamp dest shake)
+        → names_sender dest (asked shake.ask) ≡ true → shake.kind ≡ kind_number s.kind
+    shake-kind items emission stamp dest shake among reads names =
+        let at = emitted-at w s items emission among in
+        let named =
+        named-at at.front at.item emission stamp dest shake
+        (emitting-cases w (at_moment (after_items w s at.front) at.item.event.now) at.item.event.act _ emission
+        at.emitting) reads names in
+        named.kind ∙ ap kind_number (after_items-keeps_name w s at.front).kind

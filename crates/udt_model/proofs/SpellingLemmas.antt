@@ -76,6 +76,7 @@ pub record IsReadShake (stamp dest : ℕ) (shake : Shake) (packet : Packet) : Ty
   pub same_ask : FitsSigned w32 shake.ask → read_shake.ask ≡ shake.ask
   pub same_id : shake.id < 2 ^ 32 → read_shake.id ≡ shake.id
   pub same_isn : shake.isn < 2 ^ 31 → read_shake.isn ≡ shake.isn
+  pub same_kind : shake.kind < 2 ^ 32 → read_shake.kind ≡ shake.kind
 
 shake-field : (stamp dest : ℕ) (shake : Shake) (packet : Packet) → read (spelling (Handshake stamp dest shake))
     ≡ Ok packet
@@ -108,6 +109,7 @@ read-shake_spelling stamp dest shake packet reads = record {
       ∙ to_z-of_z fits;
   same_id = λ fits. word_of-word shake.id fits;
   same_isn = λ fits. number-reads shake.isn _ fits (word_of-word shake.isn (omega arith));
+  same_kind = λ fits. word_of-word shake.kind fits;
 }
 
 -- ---- destinations of spellings
