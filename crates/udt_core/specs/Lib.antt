@@ -5,3 +5,4 @@ pub mod Received
 pub mod Backlogs
 pub mod Phases
 pub mod Waiting
+pub mod Peers

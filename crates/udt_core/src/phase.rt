@@ -1,8 +1,12 @@
 // Where a socket stands, with what it keeps there.
 
-ghost use Rattle.std.specs.Prelude.{◌≡◌, ◌+◌, ◌-◌, ◌<◌, ◌≤◌, [], length, drop, IfOk};
+ghost use Rattle.std.specs.Prelude.{◌≡◌, ◌-◌, ◌^◌, ◌==◌, ◌<◌, ◌≤◌, [], length, drop, not, nat_lt, IfOk};
+ghost use Rattle.udt_model.specs.declared.limits.TheConstants.{MOST_BACKLOG};
 ghost use Rattle.udt_model.specs.Connections.{first_offered, with_offer};
-ghost use Rattle.udt_model.specs.Phases.{has_place};
+ghost use Rattle.udt_model.specs.Handshakes.{judged};
+ghost use Rattle.udt_model.specs.Phases as model;
+ghost use Rattle.udt_core.specs.Backlogs.{promised_by};
+ghost use Rattle.udt_core.specs.Waiting.{HasNumber};
 
 use crate::memory::OutOfMemory;
 use std::alloc::Global;
@@ -63,15 +67,18 @@ impl Backlog {
 
     // Whether there is a place for one more.
     fn has_place(&self) -> bool
-        ensures { result ≡ has_place self.now }
+        ensures { result ≡ model.has_place self.now }
     {
         self.offered.len() + (self.promised as usize) < self.most as usize
     }
 
     // Judges a request, and promises it a place where it gets one.
+    #[tactic(auto, unfolding(udt_model::specs::Handshakes::judged))]
     pub(crate) fn judge(&mut self, shake: &Shake, from: Addr, now: u64) -> Verdict
-        ensures value { result ≡ judged self.old.listening shake.now from now (has_place self.old) }
+        requires number { shake.now.isn < 2 ^ 31 }
+        ensures value { result ≡ judged self.old.listening shake.now from now (model.has_place self.old) }
         ensures next { self.new ≡ promised_by self.old result }
+        ensures number { HasNumber result }
     {
         let verdict = self.listening.judge(shake, from, now, self.has_place());
         if let Verdict::Request = verdict {

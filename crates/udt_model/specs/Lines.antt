@@ -217,14 +217,6 @@ raw_line now (from ∷ to ∷ bytes ∷ []) = do
   Some (RawLine now (record { from = from; to = to; bytes = bytes }))
 raw_line now words = None
 
--- the word names a call
-abbrev pub is_call : List ℕ → Bool
-is_call word =
-    is_word word (codes "listen") || is_word word (codes "connect") || is_word word (codes "meet")
-    || is_word word (codes "shake") || is_word word (codes "send") || is_word word (codes "recv") || is_word word (codes "sendmsg")
-    || is_word word (codes "recvmsg") || is_word word (codes "pack") || is_word word (codes "tick")
-    || is_word word (codes "close") || is_word word (codes "perf")
-
 -- the first word tells the lines that aren't calls
 abbrev pub line_by_first : List ℕ → List ℕ → List (List ℕ) → Option Line
 line_by_first first second others =
@@ -243,18 +235,18 @@ abbrev pub line_by_second : List ℕ → List ℕ → List (List ℕ) → Option
 line_by_second first second others =
     if is_word second (codes "accept")
     then accept_line first others
-    else (if is_call second then call_line first second others else None)
+    else call_line first second others
 
 -- the first of two readings that there is
 abbrev pub or_else : Option Line → Option Line → Option Line
 or_else None other = other
 or_else (Some line) other = Some line
 
--- A name may be any word, so a line is read as one of a socket where it is of such a form, and else by its first word
+-- A name may be any word, so a line that isn't of a form by its first word is read as one of a socket. No line is of two forms
 unfoldable pub line_by_words : List (List ℕ) → Option Line
 line_by_words [] = None
 line_by_words (first ∷ []) = None
-line_by_words (first ∷ second ∷ others) = or_else (line_by_second first second others) (line_by_first first second others)
+line_by_words (first ∷ second ∷ others) = or_else (line_by_first first second others) (line_by_second first second others)
 
 -- what a line says, where it is of a form and each value is in its range
 unfoldable pub read_line : List ℕ → Option Line

@@ -65,5 +65,5 @@ module _ (k : Known) (from : Addr) where
   to_target (Some dest) shake = if dest == 0 then to_unnamed shake else to_named dest shake
 
   -- where a datagram goes that came from this address
-  unfoldable pub route : List ℕ → Routed
+  abbrev pub route : List ℕ → Routed
   route bytes = to_target (target bytes) (handshake_in (read bytes))

@@ -2,6 +2,7 @@
 
 ghost use Rattle.std.specs.Prelude.{◌≡◌, ℕ, [], ◌++◌, ◌≤◌, length, true};
 ghost use Rattle.udt_model.specs.Addresses.{same_addr};
+ghost use Rattle.udt_model.specs.Phases as phase;
 ghost use Rattle.udt_model.specs.Step.{step};
 ghost use Rattle.udt_model.specs.declared.packets.Kind.TheVariants.{Message};
 ghost use Rattle.udt_model.specs.Events.{Arrive, DidHear, at_moment, event, outs_of};
@@ -9,7 +10,7 @@ ghost use Rattle.udt_model.specs.Arrivals.{on_read, heard_now, is_own as comes_f
 ghost use Rattle.udt_model.specs.Counted.{count_malformed, count_foreign, on_control as control_arrives, on_stale as stale_arrives};
 ghost use Rattle.udt_model.specs.Wire.{read as wire_read, IsInRange};
 ghost use Rattle.udt_packet.specs.Packets.{block_packet_of, packet_of, IsBlock, SpellsBlock};
-ghost use Rattle.udt_core.specs.Changes.{ChangesExpAlone};
+ghost use Rattle.udt_core.specs.Changes.{ChangesExpAlone, ToldBy};
 ghost use Rattle.udt_core.specs.Emitted.{datagrams_of};
 ghost use Rattle.udt_core.specs.Waiting.{IsWaiting};
 
@@ -54,12 +55,7 @@ impl<C: Control> Socket<C> {
         ensures reply { DidHear result ≡ (on_read C.ways self.old from (wire_read bytes.now)).reply }
         ensures after { self.new ≡ (on_read C.ways self.old from (wire_read bytes.now)).after }
         ensures outs { outs.new ≡ outs_of (on_read C.ways self.old from (wire_read bytes.now)) }
-        ensures malformed { (why : Malformed) → result ≡ Heard.Malformed why
-            → self.new ≡ record self.old { counters = count_malformed self.old.counters } }
-        ensures foreign { result ≡ Heard.Foreign
-            → self.new ≡ record self.old { counters = count_foreign self.old.counters } }
-        ensures stale { result ≡ Heard.Stale → ChangesExpAlone self.old self.new }
-        ensures bad_length { result ≡ Heard.BadLength → ChangesExpAlone self.old self.new }
+        ensures told { ToldBy result self.old self.new }
     {
         match read(bytes) {
             Err(why) => {
@@ -84,6 +80,7 @@ impl<C: Control> Socket<C> {
             ≡ (packet_in C.ways self.old from (packet_of packet.entry) self.old.phase).after }
         ensures outs { outs.new
             ≡ outs_of (packet_in C.ways self.old from (packet_of packet.entry) self.old.phase) }
+        ensures told { ToldBy result self.old self.new }
     {
         match self.phase {
             Phase::Connected => {}
@@ -110,6 +107,7 @@ impl<C: Control> Socket<C> {
             ≡ (packet_in C.ways self.old from (packet_of packet.entry) self.old.phase).after }
         ensures outs { outs.new
             ≡ outs_of (packet_in C.ways self.old from (packet_of packet.entry) self.old.phase) }
+        ensures told { ToldBy result self.old self.new }
     {
         let Packet::Handshake { stamp, dest, shake } = packet else {
             return self.on_stale();
@@ -139,6 +137,7 @@ impl<C: Control> Socket<C> {
             ≡ (packet_in C.ways self.old _from (block_packet_of block.now) self.old.phase).after }
         ensures outs { outs.new
             ≡ outs_of (packet_in C.ways self.old _from (block_packet_of block.now) self.old.phase) }
+        ensures told { ToldBy result self.old self.new }
     {
         match self.phase {
             Phase::Connected => {}
@@ -181,11 +180,13 @@ impl<C: Control> Socket<C> {
     // A packet from the peer that is no block. It goes its way apart, so that a block's has no room for other packets.
     #[inline(never)]
     fn on_own(&mut self, packet: Packet, outs: &mut Outs) -> Heard
+        requires connected { self.old.phase ≡ phase.Connected }
         requires empty { outs.old ≡ [] }
         requires no_block { ¬ IsBlock (packet_of packet) }
         ensures reply { DidHear result ≡ (own_arrives C.ways self.old (packet_of packet.entry)).reply }
         ensures after { self.new ≡ (own_arrives C.ways self.old (packet_of packet.entry)).after }
         ensures outs { outs.new ≡ outs_of (own_arrives C.ways self.old (packet_of packet.entry)) }
+        ensures told { ToldBy result self.old self.new }
     {
         match packet {
             Packet::KeepAlive { .. } => self.on_control(Heard::Alive),
@@ -209,6 +210,7 @@ impl<C: Control> Socket<C> {
         ensures reply { DidHear result ≡ (block_arrives self.old seq flags bytes.now).reply }
         ensures after { self.new ≡ (block_arrives self.old seq flags bytes.now).after }
         ensures outs { outs.new ≡ outs_of (block_arrives self.old seq flags bytes.now) }
+        ensures told { ToldBy result self.old self.new }
     {
         if bytes.is_empty() || bytes.len() > self.receiving.payload() as usize {
             self.counters.stale = risen(self.counters.stale);
@@ -226,6 +228,7 @@ impl<C: Control> Socket<C> {
         ensures reply { DidHear result ≡ (drop_arrives self.old first last).reply }
         ensures after { self.new ≡ (drop_arrives self.old first last).after }
         ensures outs { outs.new ≡ outs_of (drop_arrives self.old first last) }
+        ensures told { ToldBy result self.old self.new }
     {
         match self.kind {
             Kind::Stream => self.on_stale(),
@@ -239,6 +242,7 @@ impl<C: Control> Socket<C> {
         ensures reply { DidHear result ≡ (drop_as self.old first last Message).reply }
         ensures after { self.new ≡ (drop_as self.old first last Message).after }
         ensures outs { outs.new ≡ outs_of (drop_as self.old first last Message) }
+        ensures told { ToldBy result self.old self.new }
     {
         match self.receiving.on_drop(self.last, first, last) {
             Dropped::Stale => self.on_stale(),
@@ -315,10 +319,12 @@ impl<C: Control> Socket<C> {
     // An ACK. One of blocks that were never sent, or are no longer kept, is stale. Any other is
     // answered by an ACK2, unless it is light.
     fn on_ack(&mut self, number: u32, body: &AckBody, outs: &mut Outs) -> Heard
+        requires connected { self.old.phase ≡ phase.Connected }
         requires empty { outs.old ≡ [] }
         ensures reply { DidHear result ≡ (ack_arrives C.ways self.old number body.now).reply }
         ensures after { self.new ≡ (ack_arrives C.ways self.old number body.now).after }
         ensures outs { outs.new ≡ outs_of (ack_arrives C.ways self.old number body.now) }
+        ensures told { ToldBy result self.old self.new }
     {
         if !self.sending.on_ack(body, &mut self.rtt) {
             return self.on_stale();
@@ -352,6 +358,7 @@ impl<C: Control> Socket<C> {
         ensures reply { DidHear result ≡ (nak_arrives C.ways self.old ranges.entry).reply }
         ensures after { self.new ≡ (nak_arrives C.ways self.old ranges.entry).after }
         ensures outs { outs_of (nak_arrives C.ways self.old ranges.entry) ≡ [] }
+        ensures told { ToldBy result self.old self.new }
     {
         if self.sending.on_nak(ranges, &self.rtt) {
             self.on_control(Heard::Nak)
@@ -366,6 +373,7 @@ impl<C: Control> Socket<C> {
         ensures reply { DidHear result ≡ (ack2_arrives self.old number).reply }
         ensures after { self.new ≡ (ack2_arrives self.old number).after }
         ensures outs { outs_of (ack2_arrives self.old number) ≡ [] }
+        ensures told { ToldBy result self.old self.new }
     {
         if self.receiving.on_ack2(self.last, number, &mut self.rtt) {
             self.on_control(Heard::Ack2)

@@ -1,7 +1,8 @@
 // The calls of the application, and what the owner of the port asks.
 
-ghost use Rattle.std.specs.Prelude.{◌≡◌, ◌+◌, ◌<◌, ◌≤◌, [], length, drop, Ok, IfOk, OnErr};
+ghost use Rattle.std.specs.Prelude.{◌≡◌, ◌+◌, ◌-◌, ◌^◌, ◌<◌, ◌≤◌, [], length, drop, Ok, IfOk, OnErr};
 ghost use Rattle.udt_model.specs.Step.{step};
+ghost use Rattle.udt_model.specs.declared.limits.TheConstants.{LAST_MOMENT};
 ghost use Rattle.udt_model.specs.Events.{Send, Recv, SendMessage, RecvMessage, Pack, Close, Measure, Sent, Received, SentMessage, ReceivedMessage, DidPack, DidMeasure, at_moment, event, outs_of};
 ghost use Rattle.udt_model.specs.Calls.{packed_so, gives, gives_message, perf_of, refusal_of as why_of};
 ghost use Rattle.udt_model.specs.Moments as moments;
@@ -9,13 +10,14 @@ ghost use Rattle.udt_model.specs.Readiness.{ready_bits, has_readable};
 ghost use Rattle.udt_model.specs.SendHalf.{packing, pack_moment};
 ghost use Rattle.udt_model.specs.Wire.{bit as one_if};
 ghost use Rattle.udt_core.specs.Received.{received_in};
+ghost use Rattle.udt_core.specs.Peers.{pair_by};
 
 use super::Socket;
 use crate::counts::risen;
 use crate::outs::Outs;
 use crate::phase::Phase;
 use std::marker::Model;
-use udt_model::{Kind, LAST_MOMENT, Packed, Perf, Refusal, SHAKE_LIMIT, SendNo};
+use udt_model::{Addr, Kind, LAST_MOMENT, Origin, Packed, Perf, Refusal, SHAKE_LIMIT, SendNo};
 use udt_rate::Control;
 use udt_receiver::Got;
 
@@ -247,10 +249,18 @@ impl<C: Control> Socket<C> {
 
     /// The first moment, not before the last one, at which `tick` or `pack` would do something, in
     /// microseconds. None comes where there is none.
-    #[tactic(auto, unfolding(udt_model::specs::Moments::next_moment))]
     pub fn next_moment(&self) -> Option<u64>
         ensures value { result ≡ moments.next_moment C.ways self.now }
         ensures is { moments.IsNextMoment C.ways self.now result }
+    {
+        self.moment()
+    }
+
+    // The same, as it is found.
+    #[tactic(auto, unfolding(udt_model::specs::Moments::next_moment))]
+    fn moment(&self) -> Option<u64>
+        ensures value { result ≡ moments.next_moment C.ways self.now }
+        ensures within { self.now.last ≤ LAST_MOMENT }
     {
         match &self.phase {
             Phase::Connected => {
@@ -273,10 +283,9 @@ impl<C: Control> Socket<C> {
     // The first moment, not before the last one, at which a socket that asks or meets emits its
     // handshake again, or gives up.
     fn shaking_moment(&self, began: u64, again: u64) -> Option<u64>
-        requires { began + SHAKE_LIMIT < 2 ^ 64 }
-        ensures { result ≡ moments.shaking_moment self.now began again }
+        ensures { result ≡ moments.shaking_moment C.ways self.now began again }
     {
-        not_before(self.last, again.min(began + SHAKE_LIMIT))
+        not_before(self.last, again.min(began.saturating_add(SHAKE_LIMIT)))
     }
 
     // The first moment, not before the last one, at which packing sends a block.
@@ -285,6 +294,33 @@ impl<C: Control> Socket<C> {
             ≡ moments.not_before_any self.now.last (pack_moment C.ways self.now.sending) }
     {
         not_before(self.last, self.sending.pack_moment()?)
+    }
+
+    /// The address and the socket ID of its peer. None before it has one.
+    pub fn peer(&self) -> Option<(Addr, u32)>
+        ensures { result ≡ pair_by self.now.origin self.now.peer }
+    {
+        match self.origin {
+            Origin::Nobody => None,
+            _ => Some((self.peer.addr, self.peer.id)),
+        }
+    }
+
+    /// Its own socket ID.
+    pub fn own(&self) -> u32
+        ensures { result ≡ self.now.own }
+    {
+        self.own
+    }
+
+    /// The socket with this many events counted, in place of those that it had. Tests of the last
+    /// count begin with it.
+    pub fn counted(mut self, count: u64) -> Socket<C>
+        requires { count ≤ 2 ^ 55 - 1 }
+        ensures { result ≡ record self { count = count } }
+    {
+        self.count = count;
+        self
     }
 
     /// How many events there were.

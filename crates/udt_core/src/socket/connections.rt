@@ -4,6 +4,7 @@ ghost use Rattle.std.specs.Prelude.{◌≡◌, ◌≢◌, ◌<◌, ◌≤◌, Ok
 ghost use Rattle.udt_model.specs.Connections as model;
 ghost use Rattle.udt_model.specs.Events.{Listen, Connect, Meet, Accept, Shake, Offer, Withdraw, PortDown, DidListen, DidConnect, DidMeet, Accepted, DidShake, DidOffer, at_moment, event};
 ghost use Rattle.udt_model.specs.Step.{step};
+ghost use Rattle.udt_model.specs.declared.limits.TheConstants.{MOST_PAYLOAD};
 
 use super::Socket;
 use crate::phase::{Backlog, Phase};
@@ -15,7 +16,9 @@ use udt_rate::Control;
 impl<C: Control> Socket<C> {
     // What the socket was opened with.
     pub(super) fn config(&self) -> Config
-        ensures { result ≡ model.config_of self.now }
+        ensures value { result ≡ model.config_of self.now }
+        ensures some { 0 < result.payload }
+        ensures most { result.payload ≤ MOST_PAYLOAD }
     {
         Config {
             kind: self.kind,

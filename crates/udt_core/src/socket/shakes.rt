@@ -1,6 +1,7 @@
 // What handshakes do, as they arrive and as time passes.
 
-ghost use Rattle.std.specs.Prelude.{◌≡◌, ◌<◌, ◌≤◌, ◌^◌, [], ◌++◌, ◌∷◌, length};
+ghost use Rattle.std.specs.Prelude.{◌≡◌, ◌+◌, ◌<◌, ◌≤◌, ◌^◌, [], ◌++◌, ◌∷◌, length, nat_le};
+ghost use Rattle.udt_model.specs.declared.limits.TheConstants.{SHAKE_LIMIT};
 ghost use Rattle.udt_model.specs.Arrivals.{packet_in};
 ghost use Rattle.udt_model.specs.Connections.{shake_emission};
 ghost use Rattle.udt_model.specs.Counted.{count_control};
@@ -8,6 +9,7 @@ ghost use Rattle.udt_model.specs.Events.{DidHear, outs_of};
 ghost use Rattle.udt_model.specs.Shaking as model;
 ghost use Rattle.udt_model.specs.Ticks.{tick_in};
 ghost use Rattle.udt_model.specs.Wire.{Handshake};
+ghost use Rattle.udt_core.specs.Changes.{ToldBy};
 ghost use Rattle.udt_core.specs.Emitted.{datagrams_of};
 ghost use Rattle.udt_core.specs.Waiting.{Listens, Asks, Meets, HasNumber, heard_as, emitted_by_verdict};
 
@@ -59,6 +61,7 @@ impl<C: Control> Socket<C> {
             ≡ (packet_in C.ways self.old from (Handshake _stamp dest shake.now) self.old.phase).after }
         ensures outs { outs.new
             ≡ outs_of (packet_in C.ways self.old from (Handshake _stamp dest shake.now) self.old.phase) }
+        ensures told { ToldBy result self.old self.new }
     {
         let Phase::Listening(backlog) = &mut self.phase else {
             return self.on_stale();
@@ -112,6 +115,7 @@ impl<C: Control> Socket<C> {
             ≡ (packet_in C.ways self.old from (Handshake _stamp dest shake.now) self.old.phase).after }
         ensures outs { outs.new
             ≡ outs_of (packet_in C.ways self.old from (Handshake _stamp dest shake.now) self.old.phase) }
+        ensures told { ToldBy result self.old self.new }
     {
         let Phase::Connecting { client, again } = &mut self.phase else {
             return self.on_stale();
@@ -155,6 +159,7 @@ impl<C: Control> Socket<C> {
             ≡ (packet_in C.ways self.old from (Handshake _stamp dest shake.now) self.old.phase).after }
         ensures outs { outs.new
             ≡ outs_of (packet_in C.ways self.old from (Handshake _stamp dest shake.now) self.old.phase) }
+        ensures told { ToldBy result self.old self.new }
     {
         let Phase::Meeting { meeting, .. } = &mut self.phase else {
             return self.on_stale();
@@ -209,6 +214,7 @@ impl<C: Control> Socket<C> {
         ensures reply { DidHear result ≡ (model.on_shake_again self.old shake.now).reply }
         ensures after { self.new ≡ (model.on_shake_again self.old shake.now).after }
         ensures outs { outs.new ≡ outs_of (model.on_shake_again self.old shake.now) }
+        ensures told { ToldBy result self.old self.new }
     {
         if shake.id != self.peer.id {
             return self.on_stale();
@@ -235,7 +241,7 @@ impl<C: Control> Socket<C> {
             return;
         };
         let caller = client.caller();
-        if self.last >= caller.began + SHAKE_LIMIT {
+        if has_waited(caller.began, self.last) {
             self.phase = Phase::Failed(Failure::TimedOut);
         } else if self.last >= *again {
             *again = self.last + SHAKE_INTERVAL;
@@ -255,7 +261,7 @@ impl<C: Control> Socket<C> {
             return;
         };
         let caller = meeting.caller();
-        if self.last >= caller.began + SHAKE_LIMIT {
+        if has_waited(caller.began, self.last) {
             self.phase = Phase::Failed(Failure::TimedOut);
         } else if self.last >= *again {
             *again = self.last + SHAKE_INTERVAL;
@@ -280,4 +286,11 @@ fn answer_again(origin: Origin, asked: Asked) -> Option<Asked>
         (Origin::Rendezvous, Asked::Answers) => Some(Asked::Agrees),
         _ => None,
     }
+}
+
+// A socket that waits since a moment has waited for as long as it may.
+fn has_waited(since: u64, now: u64) -> bool
+    ensures { result ≡ nat_le (since + SHAKE_LIMIT) now }
+{
+    now.saturating_sub(since) >= SHAKE_LIMIT
 }

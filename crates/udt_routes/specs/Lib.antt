@@ -1,0 +1,12 @@
+pub mod Sorted
+pub mod Keys
+pub mod Drawers
+pub mod Drawing
+pub mod Pairs
+pub mod PairMaps
+pub mod Meets
+pub mod MeetingMaps
+pub mod Tables
+pub mod Inside
+pub mod Routing
+pub mod Lookups
