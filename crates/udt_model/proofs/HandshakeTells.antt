@@ -46,8 +46,10 @@ module _ {C : Type 0} where
     pub addr : emission.datagram.addr ≡ s.peer.addr
     pub dest : destination packet ≡ s.peer.id
 
-  to_peer-by : (s : State C) (act : Act) (emission : Emission) (packet : Packet) (offsets : List ℕ) → IsPlain packet → speaks s.phase ≡ true
-      → destination packet ≡ s.peer.id → emission ≡ emits s packet offsets → IsToPeer s emission ⊎ IsShakeEmission s act emission
+  to_peer-by : (s : State C) (act : Act) (emission : Emission) (packet : Packet) (offsets : List ℕ) → IsPlain packet
+      → speaks s.phase ≡ true
+      → destination packet ≡ s.peer.id → emission ≡ emits s packet offsets → IsToPeer s emission ⊎ IsShakeEmission s act
+      emission
   to_peer-by s act emission packet offsets plain spoken dest is = inl (record {
     packet = packet;
     plain = plain;
@@ -61,20 +63,30 @@ module _ {C : Type 0} (w : Ways C) where
   -- each emission goes to the peer, or is a handshake
   pub emitting-cases : (s : State C) (act : Act) (reply : Reply) (emission : Emission) → Emitting w s act reply emission
       → IsToPeer s emission ⊎ IsShakeEmission s act emission
-  emitting-cases s act reply emission (NewBlock block connected packs is) = to_peer-by s act emission _ _ (omega arith) (rw connected refl) refl is
-  emitting-cases s act reply emission (LostBlock offset block connected packs is) = to_peer-by s act emission _ _ (omega arith) (rw connected refl) refl is
-  emitting-cases s act reply emission (DropRequest message connected packs is) = to_peer-by s act emission _ _ tt (rw connected refl) refl is
-  emitting-cases s act reply emission (FullAck ack connected tells is) = to_peer-by s act emission _ _ tt (rw connected refl) refl is
-  emitting-cases s act reply emission (LightAck from raw number flags stamp bytes connected arrives carries sender replies is) =
+  emitting-cases s act reply emission (NewBlock block connected packs is) = to_peer-by s act emission _ _ (omega arith)
+      (rw connected refl) refl is
+  emitting-cases s act reply emission (LostBlock offset block connected packs is) =
+      to_peer-by s act emission _ _ (omega arith) (rw connected refl) refl is
+  emitting-cases s act reply emission (DropRequest message connected packs is) =
       to_peer-by s act emission _ _ tt (rw connected refl) refl is
-  emitting-cases s act reply emission (Reports range ranges connected reports is) = to_peer-by s act emission _ _ tt (rw connected refl) refl is
-  emitting-cases s act reply emission (ReportsGap from raw number flags stamp bytes ends connected arrives carries sender gap is) =
+  emitting-cases s act reply emission (FullAck ack connected tells is) =
+      to_peer-by s act emission _ _ tt (rw connected refl) refl is
+  emitting-cases s act reply emission (LightAck from raw number flags stamp bytes connected arrives carries sender
+      replies is) =
+      to_peer-by s act emission _ _ tt (rw connected refl) refl is
+  emitting-cases s act reply emission (Reports range ranges connected reports is) =
+      to_peer-by s act emission _ _ tt (rw connected refl) refl is
+  emitting-cases s act reply emission (ReportsGap from raw number flags stamp bytes ends connected arrives carries
+      sender gap is) =
       to_peer-by s act emission _ _ tt (rw connected refl) refl is
   emitting-cases s act reply emission
-      (ReportsDropGap from raw message stamp first last range ends connected arrives asks sender messages taken gap is) =
+      (ReportsDropGap from raw message stamp first last range ends connected arrives asks sender messages taken gap
+      is) =
       to_peer-by s act emission _ _ tt (rw connected refl) refl is
-  emitting-cases s act reply emission (AnswersAck number connected is) = to_peer-by s act emission _ _ tt (rw connected refl) refl is
-  emitting-cases s act reply emission (SendsKeepAlive connected is) = to_peer-by s act emission _ _ tt (rw connected refl) refl is
+  emitting-cases s act reply emission (AnswersAck number connected is) =
+      to_peer-by s act emission _ _ tt (rw connected refl) refl is
+  emitting-cases s act reply emission (SendsKeepAlive connected is) =
+      to_peer-by s act emission _ _ tt (rw connected refl) refl is
   emitting-cases s act reply emission (TheEnd closing is) = to_peer-by s act emission _ _ tt (rw closing refl) refl is
   emitting-cases s act reply emission (SendsHandshake to dest shake sends is) =
       inr (record { to = to; dest = dest; shake = shake; sends = sends; is = is })
@@ -82,13 +94,15 @@ module _ {C : Type 0} (w : Ways C) where
 -- ---- a listener's answers
 
 cookie-by : (known fits : Bool) (refusal cookie answer : Shake)
-    → (if known then (if fits then verdict.Request else verdict.Reject refusal) else verdict.Cookie cookie) ≡ verdict.Cookie answer → cookie ≡ answer
+    → (if known then (if fits then verdict.Request else verdict.Reject refusal) else verdict.Cookie cookie)
+    ≡ verdict.Cookie answer → cookie ≡ answer
 cookie-by true true refusal cookie answer is = absurd (cc)
 cookie-by true false refusal cookie answer is = absurd (cc)
 cookie-by false fits refusal cookie answer is = cc
 
 refusal-by : (known fits : Bool) (refusal cookie answer : Shake)
-    → (if known then (if fits then verdict.Request else verdict.Reject refusal) else verdict.Cookie cookie) ≡ verdict.Reject answer → refusal ≡ answer
+    → (if known then (if fits then verdict.Request else verdict.Reject refusal) else verdict.Cookie cookie)
+    ≡ verdict.Reject answer → refusal ≡ answer
 refusal-by true true refusal cookie answer is = absurd (cc)
 refusal-by true false refusal cookie answer is = cc
 refusal-by false fits refusal cookie answer is = absurd (cc)
@@ -98,13 +112,15 @@ cookie-asks : (l : Listening) (shake : Shake) (from : Addr) (now : ℕ) (room : 
     → judged l shake from now room ≡ verdict.Cookie answer → answer.ask ≡ shake.ask
 unfolding judged
 cookie-asks l shake from now room answer is =
-    ap (λ (s : Shake). s.ask) (sym (cookie-by (has_cookie l shake from (minute_of now)) (suits l.config shake && room) _ _ answer is))
+    ap (λ (s : Shake). s.ask)
+    (sym (cookie-by (has_cookie l shake from (minute_of now)) (suits l.config shake && room) _ _ answer is))
 
 refusal-asks : (l : Listening) (shake : Shake) (from : Addr) (now : ℕ) (room : Bool) (answer : Shake)
     → judged l shake from now room ≡ verdict.Reject answer → answer.ask ≡ type_of asks.Refuses
 unfolding judged
 refusal-asks l shake from now room answer is =
-    ap (λ (s : Shake). s.ask) (sym (refusal-by (has_cookie l shake from (minute_of now)) (suits l.config shake && room) _ _ answer is))
+    ap (λ (s : Shake). s.ask)
+    (sym (refusal-by (has_cookie l shake from (minute_of now)) (suits l.config shake && room) _ _ answer is))
 
 -- ---- what a handshake tells
 
@@ -134,18 +150,23 @@ again-answers origin.Rendezvous asks.Answers told is = ap is_answer (sym (same_S
 again-answers _ _ told is = absurd (cc)
 
 module _ {C : Type 0} where
-  -- what a handshake tells that a socket in this state emits with an event after which it is in that state: of itself, as a request or
-  -- to a socket that it wants to meet; of itself, as an answer to its peer; or, of a listener, what a request told, or a refusal
+  -- what a handshake tells that a socket in this state emits with an event after which it is in that state: of itself,
+  -- as a request or to a socket that it wants to meet; of itself, as an answer to its peer; or, of a listener, what a
+  -- request told, or a refusal
   pub data Tells (s t : State C) (to : Addr) (dest : ℕ) (shake : Shake) : Type 0 where
-    OfItself : (a : Asked) → shake.ask ≡ type_of a → is_answer a ≡ false → shake.id ≡ s.own → shake.isn ≡ s.isn → Tells s t to dest shake
+    OfItself : (a : Asked) → shake.ask ≡ type_of a → is_answer a ≡ false → shake.id ≡ s.own → shake.isn ≡ s.isn
+        → Tells s t to dest shake
     ToPeer : (a : Asked) → shake.ask ≡ type_of a → is_answer a ≡ true → shake.id ≡ s.own → shake.isn ≡ s.isn
         → has_peer t.origin ≡ true → to ≡ t.peer.addr → dest ≡ t.peer.id → Tells s t to dest shake
-    OfRequest : FitsSigned w32 shake.ask → asked shake.ask ≡ asks.Requests → dest < 2 ^ 32 → (dest == 0) ≡ false → Tells s t to dest shake
+    OfRequest : FitsSigned w32 shake.ask → asked shake.ask ≡ asks.Requests → dest < 2 ^ 32 → (dest == 0) ≡ false
+        → Tells s t to dest shake
     OfRefusal : shake.ask ≡ type_of asks.Refuses → Tells s t to dest shake
 
   -- an answer to a peer that was known before
-  answer-tells : (s t : State C) (to : Addr) (peer : Peer) (dest : ℕ) (shake : Shake) (a : Asked) → shake.ask ≡ type_of a → is_answer a ≡ true
-      → shake.id ≡ s.own → shake.isn ≡ s.isn → s.peer ≡ peer → to ≡ peer.addr → dest ≡ peer.id → has_peer s.origin ≡ true
+  answer-tells : (s t : State C) (to : Addr) (peer : Peer) (dest : ℕ) (shake : Shake) (a : Asked)
+      → shake.ask ≡ type_of a → is_answer a ≡ true
+      → shake.id ≡ s.own → shake.isn ≡ s.isn → s.peer ≡ peer → to ≡ peer.addr → dest ≡ peer.id
+      → has_peer s.origin ≡ true
       → (has_peer s.origin ≡ true → KeepsPeer s t) → Tells s t to dest shake
   answer-tells s t to peer dest shake a ask answers id isn is addr same has keeps =
       let kept = keeps has in
@@ -153,17 +174,21 @@ module _ {C : Type 0} where
       ToPeer a ask answers id isn (ap has_peer kept.origin ∙ has) (addr ∙ ap (λ (p : Peer). p.addr) (sym last))
       (same ∙ ap (λ (p : Peer). p.id) (sym last))
 
-  meets-tells : (s t : State C) (m : Meeting) (adopted : Option Peer) → m.adopted ≡ adopted → KnowsPeer (standing_of s) (phase.Meeting m 0)
-      → (has_peer s.origin ≡ true → KeepsPeer s t) → Tells s t m.caller.to (adopted_id adopted) (meet_says m.caller adopted)
+  meets-tells : (s t : State C) (m : Meeting) (adopted : Option Peer) → m.adopted ≡ adopted
+      → KnowsPeer (standing_of s) (phase.Meeting m 0)
+      → (has_peer s.origin ≡ true → KeepsPeer s t) → Tells s t m.caller.to (adopted_id adopted)
+      (meet_says m.caller adopted)
   meets-tells s t m None adopts knows keeps = OfItself asks.Meets refl refl knows.0.own knows.0.isn
   meets-tells s t m (Some peer) adopts knows keeps =
       let has = subst (Adoption (standing_of s) m.caller.to) adopts knows.1 in
-      answer-tells s t m.caller.to peer peer.id _ asks.Answers refl refl knows.0.own knows.0.isn has.peer (sym has.addr) refl
+      answer-tells s t m.caller.to peer peer.id _ asks.Answers refl refl knows.0.own knows.0.isn has.peer (sym has.addr)
+      refl
       (ap has_peer has.origin) keeps
 
 module _ {C : Type 0} (w : Ways C) where
   -- the peer after a handshake that makes one known
-  adopted-after : (s : State C) (m : Meeting) (again : ℕ) (shake : Shake) (saw : MeetSaw) (peer : Peer) → saw ≡ meet.Adopted peer
+  adopted-after : (s : State C) (m : Meeting) (again : ℕ) (shake : Shake) (saw : MeetSaw) (peer : Peer)
+      → saw ≡ meet.Adopted peer
       → HasAdopted (standing_of (meeter_hears w s m again shake saw).after) peer.addr peer
   adopted-after s m again shake (meet.Adopted other) peer same =
       record { origin = refl; peer = cc; addr = refl }
@@ -171,7 +196,8 @@ module _ {C : Type 0} (w : Ways C) where
   adopted-after s m again shake (meet.Connected other) peer same = absurd (cc)
   adopted-after s m again shake meet.Stale peer same = absurd (cc)
 
-  connected-after : (s : State C) (m : Meeting) (again : ℕ) (shake : Shake) (saw : MeetSaw) (peer : Peer) → saw ≡ meet.Connected peer
+  connected-after : (s : State C) (m : Meeting) (again : ℕ) (shake : Shake) (saw : MeetSaw) (peer : Peer)
+      → saw ≡ meet.Connected peer
       → HasAdopted (standing_of (meeter_hears w s m again shake saw).after) peer.addr peer
   connected-after s m again shake (meet.Adopted other) peer same = absurd (cc)
   connected-after s m again shake meet.Answered peer same = absurd (cc)
@@ -186,10 +212,12 @@ module _ {C : Type 0} (w : Ways C) where
       ap (on_read w s from) reads ∙ ap (packet_in w s from (Handshake stamp dest shake)) is
 
   -- a handshake to a peer that becomes known with it
-  new-tells : (s t : State C) (peer : Peer) (shake : Shake) (a : Asked) → shake.ask ≡ type_of a → is_answer a ≡ true → shake.id ≡ s.own
+  new-tells : (s t : State C) (peer : Peer) (shake : Shake) (a : Asked) → shake.ask ≡ type_of a → is_answer a ≡ true
+      → shake.id ≡ s.own
       → shake.isn ≡ s.isn → HasAdopted (standing_of t) peer.addr peer → Tells s t peer.addr peer.id shake
   new-tells s t peer shake a ask answers id isn has =
-      ToPeer a ask answers id isn (ap has_peer has.origin) (ap (λ (p : Peer). p.addr) (sym has.peer)) (ap (λ (p : Peer). p.id) (sym has.peer))
+      ToPeer a ask answers id isn (ap has_peer has.origin) (ap (λ (p : Peer). p.addr) (sym has.peer))
+      (ap (λ (p : Peer). p.id) (sym has.peer))
 
   -- what each handshake tells
   pub sends-tells : (s : State C) (act : Act) (to : Addr) (dest : ℕ) (shake : Shake) → SendsShake s act to dest shake
@@ -204,7 +232,8 @@ module _ {C : Type 0} (w : Ways C) where
       let known = subst (KnowsPeer (standing_of s)) is knows in
       let has = subst (Adoption (standing_of s) m.caller.to) adopts known.1 in
       rw adopts
-      (answer-tells s (on_act w s act).after peer.addr peer peer.id (meet_says m.caller (Some peer)) asks.Answers refl refl known.0.own known.0.isn
+      (answer-tells s (on_act w s act).after peer.addr peer peer.id (meet_says m.caller (Some peer)) asks.Answers refl
+      refl known.0.own known.0.isn
       has.peer refl refl (ap has_peer has.origin) keeps)
   sends-tells s act _ _ _ (AnswersNew m again from raw stamp dest shake peer is arrives reads sees) knows keeps =
       let known = subst (KnowsPeer (standing_of s)) is knows in
@@ -216,7 +245,8 @@ module _ {C : Type 0} (w : Ways C) where
       new-tells s (on_act w s act).after peer _ asks.Agrees refl refl refl refl
       (rw (arrives, hears-meeting s from raw m again stamp dest shake is reads) after)
   sends-tells s act _ _ _ (AnswersAgain again answer is answers) knows keeps =
-      answer-tells s (on_act w s act).after s.peer.addr s.peer s.peer.id _ answer refl (again-answers s.origin again answer answers) refl refl refl refl refl
+      answer-tells s (on_act w s act).after s.peer.addr s.peer s.peer.id _ answer refl
+      (again-answers s.origin again answer answers) refl refl refl refl refl
       (subst (KnowsPeer (standing_of s)) is knows) keeps
   sends-tells s act _ _ _ (GivesCookie b from raw stamp shake answer is arrives reads asks named judges) knows keeps =
       let same = cookie-asks b.listening shake from s.last (has_place b) answer judges in
@@ -234,7 +264,8 @@ read-asked stamp dest shake packet told a is =
     ap asked (told.same_ask (subst (FitsSigned w32) (sym is) (type-fits a)) ∙ is) ∙ asked-type a
 
 -- a handshake is bound where it is an answer
-bound-answers : (stamp dest : ℕ) (shake : Shake) (packet : Packet) (told : IsReadShake stamp dest shake packet) (a : Asked)
+bound-answers : (stamp dest : ℕ) (shake : Shake) (packet : Packet) (told : IsReadShake stamp dest shake packet)
+    (a : Asked)
     → asked told.read_shake.ask ≡ a → is_bound packet ≡ true → is_answer a ≡ true
 bound-answers stamp dest shake packet told a is bound = ap is_answer (sym is) ∙ ap is_bound (sym told.is) ∙ bound
 
@@ -243,18 +274,21 @@ pub record NamesOwn (own isn : ℕ) (shake : Shake) : Type 0 where
   pub id : shake.id ≡ own
   pub number : shake.isn ≡ isn
 
-named-own : (stamp dest : ℕ) (shake : Shake) (packet : Packet) (own isn : ℕ) (told : IsReadShake stamp dest shake packet) → shake.id ≡ own
+named-own : (stamp dest : ℕ) (shake : Shake) (packet : Packet) (own isn : ℕ)
+    (told : IsReadShake stamp dest shake packet) → shake.id ≡ own
     → shake.isn ≡ isn → own < 2 ^ 32 → isn < 2 ^ 31 → NamesOwn own isn told.read_shake
 named-own stamp dest shake packet own isn told id number own_fits isn_fits = record {
   id = told.same_id (subst (λ (n : ℕ). n < 2 ^ 32) (sym id) own_fits) ∙ id;
   number = told.same_isn (subst (λ (n : ℕ). n < 2 ^ 31) (sym number) isn_fits) ∙ number;
 }
 
-same-shake : (a b c d : ℕ) (shake read_as : Shake) → Handshake a b shake ≡ Handshake c d read_as → (b ≡ d) × (shake ≡ read_as)
+same-shake : (a b c d : ℕ) (shake read_as : Shake) → Handshake a b shake ≡ Handshake c d read_as
+    → (b ≡ d) × (shake ≡ read_as)
 same-shake a b c d shake read_as is = (cc, cc)
 
 -- a handshake that is read from what was emitted, with what it tells
-record IsReadEmission {C : Type 0} (s : State C) (to : Addr) (dest : ℕ) (shake : Shake) (emission : Emission) (packet : Packet) : Type 0 where
+record IsReadEmission {C : Type 0} (s : State C) (to : Addr) (dest : ℕ) (shake : Shake) (emission : Emission)
+    (packet : Packet) : Type 0 where
   sent_to : emission.datagram.addr ≡ to
   told : IsReadShake (stamp_of s) dest shake packet
 
@@ -266,56 +300,72 @@ pub record GoesToPeer {C : Type 0} (t : State C) (emission : Emission) (packet :
 
 module _ {C : Type 0} where
   read-emission : (s : State C) (to : Addr) (dest : ℕ) (shake : Shake) (emission : Emission) (packet : Packet)
-      → emission ≡ shake_emission s to dest shake → read emission.datagram.bytes ≡ Ok packet → IsReadEmission s to dest shake emission packet
+      → emission ≡ shake_emission s to dest shake → read emission.datagram.bytes ≡ Ok packet
+      → IsReadEmission s to dest shake emission packet
   read-emission s to dest shake emission packet is reads = record {
     sent_to = ap (λ (e : Emission). e.datagram.addr) is;
-    told = read-shake_spelling (stamp_of s) dest shake packet (ap (λ (e : Emission). read e.datagram.bytes) (sym is) ∙ reads);
+    told = read-shake_spelling (stamp_of s) dest shake packet (ap (λ (e : Emission). read e.datagram.bytes) (sym is)
+        ∙ reads);
   }
 
   -- what is bound goes to the peer
-  pub tells-bound : (s t : State C) (to : Addr) (dest : ℕ) (shake : Shake) (emission : Emission) (packet : Packet) → Tells s t to dest shake
+  pub tells-bound : (s t : State C) (to : Addr) (dest : ℕ) (shake : Shake) (emission : Emission) (packet : Packet)
+      → Tells s t to dest shake
       → emission ≡ shake_emission s to dest shake → read emission.datagram.bytes ≡ Ok packet → is_bound packet ≡ true
       → (has_peer t.origin ≡ true → t.peer.id < 2 ^ 32) → GoesToPeer t emission packet
   tells-bound s t to dest shake emission packet (OfItself a ask no_answer id isn) is reads bound fits =
       let read_so = read-emission s to dest shake emission packet is reads in
-      let answers = bound-answers (stamp_of s) dest shake packet read_so.told a (read-asked (stamp_of s) dest shake packet read_so.told a ask) bound in
+      let answers = bound-answers (stamp_of s) dest shake packet read_so.told a
+      (read-asked (stamp_of s) dest shake packet read_so.told a ask) bound in
       absurd (cc)
   tells-bound s t to dest shake emission packet (ToPeer a ask answers id isn has addr same) is reads bound fits =
       let read_so = read-emission s to dest shake emission packet is reads in
       record {
         has = has;
         addr = read_so.sent_to ∙ addr;
-        id = ap destination read_so.told.is ∙ read_so.told.same_dest (subst (λ (n : ℕ). n < 2 ^ 32) (sym same) (fits has)) ∙ same;
+        id = ap destination read_so.told.is
+            ∙ read_so.told.same_dest (subst (λ (n : ℕ). n < 2 ^ 32) (sym same) (fits has)) ∙ same;
       }
   tells-bound s t to dest shake emission packet (OfRequest ask_fits requests dest_fits named) is reads bound fits =
       let read_so = read-emission s to dest shake emission packet is reads in
       let answers =
-      bound-answers (stamp_of s) dest shake packet read_so.told asks.Requests (ap asked (read_so.told.same_ask ask_fits) ∙ requests) bound in
+      bound-answers (stamp_of s) dest shake packet read_so.told asks.Requests (ap asked (read_so.told.same_ask ask_fits)
+      ∙ requests) bound in
       absurd (cc)
   tells-bound s t to dest shake emission packet (OfRefusal ask) is reads bound fits =
       let read_so = read-emission s to dest shake emission packet is reads in
       let answers =
-      bound-answers (stamp_of s) dest shake packet read_so.told asks.Refuses (read-asked (stamp_of s) dest shake packet read_so.told asks.Refuses ask)
+      bound-answers (stamp_of s) dest shake packet read_so.told asks.Refuses
+      (read-asked (stamp_of s) dest shake packet read_so.told asks.Refuses ask)
       bound in
       absurd (cc)
 
   -- what tells whose it is tells the own ID and initial sequence number
-  pub tells-named : (s t : State C) (to : Addr) (dest : ℕ) (shake : Shake) (emission : Emission) (stamp read_dest : ℕ) (read_as : Shake)
-      → Tells s t to dest shake → emission ≡ shake_emission s to dest shake → read emission.datagram.bytes ≡ Ok (Handshake stamp read_dest read_as)
-      → names_sender read_dest (asked read_as.ask) ≡ true → s.own < 2 ^ 32 → s.isn < 2 ^ 31 → NamesOwn s.own s.isn read_as
-  tells-named s t to dest shake emission stamp read_dest read_as (OfItself a ask no_answer id isn) is reads names own_fits isn_fits =
+  pub tells-named : (s t : State C) (to : Addr) (dest : ℕ) (shake : Shake) (emission : Emission) (stamp read_dest : ℕ)
+      (read_as : Shake)
+      → Tells s t to dest shake → emission ≡ shake_emission s to dest shake → read emission.datagram.bytes
+      ≡ Ok (Handshake stamp read_dest read_as)
+      → names_sender read_dest (asked read_as.ask) ≡ true → s.own < 2 ^ 32 → s.isn < 2 ^ 31
+      → NamesOwn s.own s.isn read_as
+  tells-named s t to dest shake emission stamp read_dest read_as (OfItself a ask no_answer id isn) is reads names
+      own_fits isn_fits =
       let told = (read-emission s to dest shake emission (Handshake stamp read_dest read_as) is reads).told in
       let same = same-shake _ _ _ _ _ _ told.is in
-      subst (NamesOwn s.own s.isn) (sym same.1) (named-own (stamp_of s) dest shake _ s.own s.isn told id isn own_fits isn_fits)
-  tells-named s t to dest shake emission stamp read_dest read_as (ToPeer a ask answers id isn has addr goes) is reads names own_fits isn_fits =
+      subst (NamesOwn s.own s.isn) (sym same.1) (named-own (stamp_of s) dest shake _ s.own s.isn told id isn own_fits
+      isn_fits)
+  tells-named s t to dest shake emission stamp read_dest read_as (ToPeer a ask answers id isn has addr goes) is reads
+      names own_fits isn_fits =
       let told = (read-emission s to dest shake emission (Handshake stamp read_dest read_as) is reads).told in
       let same = same-shake _ _ _ _ _ _ told.is in
-      subst (NamesOwn s.own s.isn) (sym same.1) (named-own (stamp_of s) dest shake _ s.own s.isn told id isn own_fits isn_fits)
-  tells-named s t to dest shake emission stamp read_dest read_as (OfRequest ask_fits requests dest_fits named) is reads names own_fits isn_fits =
+      subst (NamesOwn s.own s.isn) (sym same.1) (named-own (stamp_of s) dest shake _ s.own s.isn told id isn own_fits
+      isn_fits)
+  tells-named s t to dest shake emission stamp read_dest read_as (OfRequest ask_fits requests dest_fits named) is reads
+      names own_fits isn_fits =
       let told = (read-emission s to dest shake emission (Handshake stamp read_dest read_as) is reads).told in
       let same = same-shake _ _ _ _ _ _ told.is in
       let dest_is : read_dest ≡ dest = same.0 ∙ told.same_dest dest_fits in
-      let asks_is : asked read_as.ask ≡ asks.Requests = ap (λ (x : Shake). asked x.ask) same.1 ∙ ap asked (told.same_ask ask_fits) ∙ requests in
+      let asks_is : asked read_as.ask ≡ asks.Requests = ap (λ (x : Shake). asked x.ask) same.1
+      ∙ ap asked (told.same_ask ask_fits) ∙ requests in
       let tells : names_sender dest asks.Requests ≡ true =
       ap (λ (n : ℕ). names_sender n asks.Requests) (sym dest_is) ∙ ap (names_sender read_dest) (sym asks_is) ∙ names in
       absurd (cc)

@@ -1,4 +1,5 @@
 mod Examples
+mod ShakeExamples
 pub mod NearLemmas
 pub mod RangeLemmas
 pub mod WireLemmas

@@ -10,6 +10,7 @@ use Rattle.udt_model.specs.Phases.{Phase, Stands, link_of}
 use Rattle.udt_model.specs.Phases as phase
 use Rattle.udt_model.specs.State.{State, Emission}
 
+-- the four phases from which a connection may come are not
 abbrev pub is_settled : Phase → Bool
 is_settled phase.Opened = false
 is_settled (phase.Listening b) = false
@@ -45,6 +46,7 @@ unsettled-mute _ unsettled = refl
 abbrev pub Follows : Phase → Phase → Type 0
 Follows p next = is_settled p ≡ true → (is_settled next ≡ true) × (speaks next ≡ true → speaks p ≡ true)
 
+-- an end follows any phase
 pub follows-ended : (p next : Phase) → is_settled next ≡ true → speaks next ≡ false → Follows p next
 follows-ended p next settled mute before = (settled, λ spoken. absurd (cc))
 
@@ -54,6 +56,7 @@ begun-follows false p next settled = (settled, λ spoken. spoken)
 begun-follows true phase.Opened next settled = absurd (cc)
 begun-follows true _ next settled = (settled, λ spoken. spoken)
 
+-- and so do the calls of a listener, the loss of the port, and a close
 pub accept-follows : (p : Phase) → Follows p (phase_after_accept p)
 accept-follows (phase.Listening b) settled = absurd (cc)
 accept-follows _ settled = (settled, λ spoken. spoken)
@@ -85,6 +88,7 @@ module _ {C : Type 0} where
     pub again : P (record { after = record s { phase = next }; reply = DidTick; emissions = emission ∷ [] })
     pub waits : P (answered s DidTick)
 
+  -- what holds of all these outcomes holds of the tick
   pub repeats-show : (s : State C) (began again : ℕ) (next : Phase) (emission : Emission) (P : Outcome C → Type 0)
       → OfRepeats s next emission P → P (repeats s began again next emission)
   repeats-show s began again next emission P cases =

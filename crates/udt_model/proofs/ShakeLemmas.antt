@@ -1,4 +1,5 @@
--- What a socket emits for its peer goes to its own peer, and what tells of itself carries its own ID and initial sequence number.
+-- What a socket emits for its peer goes to its own peer, and what tells of itself carries its own ID and initial
+-- sequence number.
 use Rattle.std.proofs.Common.{◌≡◌, ℕ, ◌^◌, ◌<◌, true, List, ◌∷◌, ◌++◌, Some, Ok, refl, ap, ◌∙◌, sym, subst, inl, inr, ◌⊎◌}
 use Rattle.std.specs.List.{Contains}
 use Rattle.udt_model.specs.declared.addresses.Addr.{Addr}
@@ -27,12 +28,33 @@ use Rattle.udt_model.proofs.HandshakeTells.{IsToPeer, Tells, emitting-cases, sen
 
 -- ---- histories
 
-module _ {C : Type 0} (w : Ways C) (own : ℕ) (way : Way) (s : State C) (in_range : IsWay own way) (opened_so : s ≡ opened_by w own way) where
-  -- the state after some items is known
-  pub known-after : (items : List Item) → IsKnown w (config_by w way) (start_by w way) (after_items w s items)
-  known-after items =
-      items-known w (config_by w way) (start_by w way) s items
-      (subst (IsKnown w (config_by w way) (start_by w way)) (sym opened_so) (way-known w own way))
+module _ {C : Type 0} (w : Ways C) where
+  after-front : (s : State C) (front : List Item) (item : Item) (rest : List Item)
+      → after_items w s (front ++ item ∷ rest) ≡ after_items w (step w (after_items w s front) item.event).after rest
+  unfolding after_items
+  after-front s front item rest = after_items-append w s front (item ∷ rest)
+
+  module _ (own : ℕ) (way : Way) (s : State C) (opened_so : s ≡ opened_by w own way) where
+    -- the state after some items is known
+    pub known-after : (items : List Item) → IsKnown w (config_by w way) (start_by w way) (after_items w s items)
+    known-after items =
+        items-known w (config_by w way) (start_by w way) s items
+        (subst (IsKnown w (config_by w way) (start_by w way)) (sym opened_so) (way-known w own way))
+
+    -- the peer after one of some items stays
+    pub last-keeps : (front : List Item) (item : Item) (rest items : List Item) → items ≡ front ++ item ∷ rest
+        → has_peer (step w (after_items w s front) item.event).after.origin ≡ true
+        → KeepsPeer (step w (after_items w s front) item.event).after (after_items w s items)
+    last-keeps front item rest items joined has =
+        let t = (step w (after_items w s front) item.event).after in
+        let known = (step-known w (config_by w way) (start_by w way) _ item.event (known-after front)).known in
+        let kept = items-keep_peer w (config_by w way) (start_by w way) t rest known has in
+        let last : after_items w s items ≡ after_items w t rest =
+        ap (after_items w s) joined ∙ after-front s front item rest in
+        record {
+          peer = ap (λ (u : State C). u.peer) last ∙ kept.peer;
+          origin = ap (λ (u : State C). u.origin) last ∙ kept.origin;
+        }
 
 -- the ID and the initial sequence number of a peer fit their places
 pub record PeerFits (peer : Peer) : Type 0 where
@@ -48,7 +70,8 @@ module _ {C : Type 0} (w : Ways C) where
         isn = subst (λ (n : ℕ). n < 2 ^ 31) introduced.isn fits.isn;
       }
 
-  opened-fits : (own isn : ℕ) (config : Config) (now : ℕ) (items : List Item) (s : State C) → s ≡ opened w own isn config now
+  opened-fits : (own isn : ℕ) (config : Config) (now : ℕ) (items : List Item) (s : State C)
+      → s ≡ opened w own isn config now
       → has_peer (after_items w s items).origin ≡ true → PeerFits (after_items w s items).peer
   unfolding opened
   opened-fits own isn config now items s is has =
@@ -56,7 +79,8 @@ module _ {C : Type 0} (w : Ways C) where
       let at = peer-introduced w config 0 s items known (ap (λ (u : State C). has_peer u.origin) is) has in
       subst PeerFits (sym at.stays.peer) (introduced-fits _ _ _ at.introduced)
 
-  opening-fits : (own : ℕ) (config : Config) (peer : Peer) (now start : ℕ) (items : List Item) (s : State C) → IsOpening own config peer start
+  opening-fits : (own : ℕ) (config : Config) (peer : Peer) (now start : ℕ) (items : List Item) (s : State C)
+      → IsOpening own config peer start
       → s ≡ opening w own config peer now start → PeerFits (after_items w s items).peer
   unfolding opening
   opening-fits own config peer now start items s range is =
@@ -70,7 +94,8 @@ module _ {C : Type 0} (w : Ways C) where
       → has_peer (after_items w s items).origin ≡ true → PeerFits (after_items w s items).peer
   peer-fits own (Opened isn config now) items s range is has = opened-fits own isn config now items s is has
   peer-fits own (Paired config peer now) items s range is has = opening-fits own config peer now 0 items s range is
-  peer-fits own (PairedAt config peer now start) items s range is has = opening-fits own config peer now start items s range is
+  peer-fits own (PairedAt config peer now start) items s range is has = opening-fits own config peer now start items s
+      range is
 
 module _ {C : Type 0} (w : Ways C) where
   -- a socket has the ID with which it was opened
@@ -81,7 +106,8 @@ module _ {C : Type 0} (w : Ways C) where
   way-own own (PairedAt config peer now start) = refl
 
   -- which fits its place, and so does the initial sequence number
-  way-fits : (own : ℕ) (way : Way) → IsWay own way → ((opened_by w own way).own < 2 ^ 32) × ((opened_by w own way).isn < 2 ^ 31)
+  way-fits : (own : ℕ) (way : Way) → IsWay own way → ((opened_by w own way).own < 2 ^ 32)
+      × ((opened_by w own way).isn < 2 ^ 31)
   unfolding opened opening
   way-fits own (Opened isn config now) range = (range.own_fits, range.isn_fits)
   way-fits own (Paired config peer now) range = (range.own_fits, range.isn_fits)
@@ -94,7 +120,8 @@ pair_from-same : (a b : Addr) (m n : ℕ) → a ≡ b → m ≡ n → pair_from 
 pair_from-same a b m n addr id = cc
 
 -- a socket that has a peer names it
-has-names : (from : Origin) (peer : Peer) → has_peer from ≡ true → peer_by from peer ≡ Some (record { addr = peer.addr; id = peer.id })
+has-names : (from : Origin) (peer : Peer) → has_peer from ≡ true → peer_by from peer
+    ≡ Some (record { addr = peer.addr; id = peer.id })
 has-names origin.Nobody peer has = absurd (cc)
 has-names _ peer has = refl
 
@@ -108,27 +135,24 @@ module _ {C : Type 0} (w : Ways C) where
       (pair_from-same t.peer.addr emission.datagram.addr t.peer.id (destination packet) (sym goes.addr) (sym goes.id))
 
   -- where a peer stays, what went to it goes to the last one
-  goes-kept : (t u : State C) (emission : Emission) (packet : Packet) → KeepsPeer t u → GoesToPeer t emission packet → GoesToPeer u emission packet
+  goes-kept : (t u : State C) (emission : Emission) (packet : Packet) → KeepsPeer t u → GoesToPeer t emission packet
+      → GoesToPeer u emission packet
   goes-kept t u emission packet kept goes = record {
     has = ap has_peer kept.origin ∙ goes.has;
     addr = goes.addr ∙ ap (λ (p : Peer). p.addr) (sym kept.peer);
     id = goes.id ∙ ap (λ (p : Peer). p.id) (sym kept.peer);
   }
 
-  after-front : (s : State C) (front : List Item) (item : Item) (rest : List Item)
-      → after_items w s (front ++ item ∷ rest) ≡ after_items w (step w (after_items w s front) item.event).after rest
-  unfolding after_items
-  after-front s front item rest = after_items-append w s front (item ∷ rest)
-
   module _ (own : ℕ) (way : Way) (s : State C) (in_range : IsWay own way) (opened_so : s ≡ opened_by w own way) where
     -- what a handshake tells that was emitted with an item
     shake-at : (front : List Item) (item : Item) (emission : Emission)
         → (sent : IsShakeEmission (at_moment (after_items w s front) item.event.now) item.event.act emission)
-        → Tells (at_moment (after_items w s front) item.event.now) (step w (after_items w s front) item.event).after sent.to sent.dest sent.shake
+        → Tells (at_moment (after_items w s front) item.event.now) (step w (after_items w s front) item.event).after
+        sent.to sent.dest sent.shake
     unfolding step
     shake-at front item emission sent =
         let t = after_items w s front in
-        let known = known-after w own way s in_range opened_so front in
+        let known = known-after w own way s opened_so front in
         sends-tells w (at_moment t item.event.now) item.event.act sent.to sent.dest sent.shake sent.sends known.knows
         (λ has.
         let kept = step-keeps_peer w (config_by w way) (start_by w way) t item.event known has in
@@ -144,7 +168,7 @@ module _ {C : Type 0} (w : Ways C) where
         → GoesToPeer (step w (after_items w s front) item.event).after emission packet
     bound-at front item emission packet (inl sent) reads bound fits =
         let t = after_items w s front in
-        let known = known-after w own way s in_range opened_so front in
+        let known = known-after w own way s opened_so front in
         let has = knows-speaks (standing_of t) t.phase known.knows sent.spoken in
         let kept = step-keeps_peer w (config_by w way) (start_by w way) t item.event known has in
         let t_fits = (peer-fits w own way front s in_range opened_so has).id in
@@ -155,25 +179,13 @@ module _ {C : Type 0} (w : Ways C) where
               (ap read (sym sent.bytes) ∙ reads) ∙ sent.dest;
         })
     bound-at front item emission packet (inr sent) reads bound fits =
-        tells-bound (at_moment (after_items w s front) item.event.now) (step w (after_items w s front) item.event).after sent.to sent.dest sent.shake
+        tells-bound (at_moment (after_items w s front) item.event.now) (step w (after_items w s front) item.event).after
+        sent.to sent.dest sent.shake
         emission packet (shake-at front item emission sent) sent.is reads bound fits
 
-    -- the peer after one of some items stays
-    pub last-keeps : (front : List Item) (item : Item) (rest items : List Item) → items ≡ front ++ item ∷ rest
-        → has_peer (step w (after_items w s front) item.event).after.origin ≡ true
-        → KeepsPeer (step w (after_items w s front) item.event).after (after_items w s items)
-    last-keeps front item rest items joined has =
-        let t = (step w (after_items w s front) item.event).after in
-        let known = (step-known w (config_by w way) (start_by w way) _ item.event (known-after w own way s in_range opened_so front)).known in
-        let kept = items-keep_peer w (config_by w way) (start_by w way) t rest known has in
-        let last : after_items w s items ≡ after_items w t rest = ap (after_items w s) joined ∙ after-front s front item rest in
-        record {
-          peer = ap (λ (u : State C). u.peer) last ∙ kept.peer;
-          origin = ap (λ (u : State C). u.origin) last ∙ kept.origin;
-        }
-
     -- what some items emitted that is bound for the peer goes to the own peer
-    pub bound-goes : (items : List Item) (emission : Emission) (packet : Packet) → Contains (emitted_by w s items) emission
+    pub bound-goes : (items : List Item) (emission : Emission) (packet : Packet)
+        → Contains (emitted_by w s items) emission
         → read emission.datagram.bytes ≡ Ok packet → is_bound packet ≡ true
         → peer_by (after_items w s items).origin (after_items w s items).peer
         ≡ Some (record { addr = emission.datagram.addr; id = destination packet })
@@ -182,13 +194,17 @@ module _ {C : Type 0} (w : Ways C) where
         let t = (step w (after_items w s at.front) at.item.event).after in
         let fits : has_peer t.origin ≡ true → t.peer.id < 2 ^ 32 =
         λ has.
-        let kept = last-keeps at.front at.item at.rest items at.joined has in
-        subst (λ (p : Peer). p.id < 2 ^ 32) kept.peer (peer-fits w own way items s in_range opened_so (ap has_peer kept.origin ∙ has)).id in
+        let kept = last-keeps w own way s opened_so at.front at.item at.rest items at.joined has in
+        subst (λ (p : Peer). p.id < 2 ^ 32) kept.peer
+        (peer-fits w own way items s in_range opened_so (ap has_peer kept.origin ∙ has)).id in
         let goes =
         bound-at at.front at.item emission packet
-        (emitting-cases w (at_moment (after_items w s at.front) at.item.event.now) at.item.event.act _ emission at.emitting) reads bound fits in
+        (emitting-cases w (at_moment (after_items w s at.front) at.item.event.now) at.item.event.act _ emission
+        at.emitting) reads bound fits in
         goes-named (after_items w s items) emission packet
-        (goes-kept t (after_items w s items) emission packet (last-keeps at.front at.item at.rest items at.joined goes.has) goes)
+        (goes-kept t (after_items w s items) emission packet (last-keeps w own way s opened_so at.front at.item at.rest
+        items at.joined
+        goes.has) goes)
 
     -- a handshake that some items emitted and that tells whose it is carries the own ID and initial sequence number
     named-at : (front : List Item) (item : Item) (emission : Emission) (stamp dest : ℕ) (shake : Shake)
@@ -202,18 +218,22 @@ module _ {C : Type 0} (w : Ways C) where
         let t = after_items w s front in
         let name = after_items-keeps_name w s front in
         let fits = way-fits w own way in_range in
-        tells-named (at_moment t item.event.now) (step w t item.event).after sent.to sent.dest sent.shake emission stamp dest shake
+        tells-named (at_moment t item.event.now) (step w t item.event).after sent.to sent.dest sent.shake emission stamp
+        dest shake
         (shake-at front item emission sent) sent.is reads names
         (subst (λ (n : ℕ). n < 2 ^ 32) (sym (name.own ∙ ap (λ (u : State C). u.own) opened_so)) fits.0)
         (subst (λ (n : ℕ). n < 2 ^ 31) (sym (name.isn ∙ ap (λ (u : State C). u.isn) opened_so)) fits.1)
 
-    pub shake-names : (items : List Item) (emission : Emission) (stamp dest : ℕ) (shake : Shake) → Contains (emitted_by w s items) emission
+    -- of all that they emitted
+    pub shake-names : (items : List Item) (emission : Emission) (stamp dest : ℕ) (shake : Shake)
+        → Contains (emitted_by w s items) emission
         → read emission.datagram.bytes ≡ Ok (Handshake stamp dest shake) → names_sender dest (asked shake.ask) ≡ true
         → (shake.id ≡ own) × (shake.isn ≡ s.isn)
     shake-names items emission stamp dest shake among reads names =
         let at = emitted-at w s items emission among in
         let named =
         named-at at.front at.item emission stamp dest shake
-        (emitting-cases w (at_moment (after_items w s at.front) at.item.event.now) at.item.event.act _ emission at.emitting) reads names in
+        (emitting-cases w (at_moment (after_items w s at.front) at.item.event.now) at.item.event.act _ emission
+        at.emitting) reads names in
         let name = after_items-keeps_name w s at.front in
         (named.id ∙ name.own ∙ ap (λ (u : State C). u.own) opened_so ∙ way-own w own way, named.number ∙ name.isn)

@@ -150,7 +150,7 @@ module _ {C : Type 0} (w : Ways C) where
   abbrev pub on_nak : State C → List WireRange → Outcome C
   on_nak s ranges = reported_so s ranges (entering s.sending ranges)
 
-  -- a packet from the peer. No use is made of handshakes yet
+  -- a packet from the peer
   abbrev pub on_own : State C → Packet → Outcome C
   on_own s (Block number flags stamp dest bytes) = on_block s number flags bytes
   on_own s (Handshake stamp dest shake) = on_shake_again s shake

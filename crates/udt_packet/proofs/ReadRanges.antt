@@ -71,7 +71,9 @@ module _ (info stamp dest : ℕ) (field : List ℕ) (are : AreBytes field) (info
 pub in_range : (packet : Packet) → IsReadInRange packet
 in_range packet bytes are reads =
     by_way (IsInRange packet) bytes (λ short is. cc)
-    (λ long low is. let same : block_of bytes ≡ packet = cc in subst IsInRange same (low, omega arith, word_at-below 8 bytes, word_at-below 12 bytes))
+    (λ long low is.
+    let same : block_of bytes ≡ packet = cc in
+    subst IsInRange same (low, omega arith, word_at-below 8 bytes, word_at-below 12 bytes))
     (λ long high is. control-in_range (word_at 4 bytes) (word_at 8 bytes) (word_at 12 bytes) (drop 16 bytes) (following-bytes bytes are)
     (word_at-below 4 bytes) (word_at-below 8 bytes) (word_at-below 12 bytes) _ packet (sym is ∙ reads))
 

@@ -35,7 +35,9 @@ part_at place bytes are i =
 -- a word that was read spells the four bytes that it was read from
 word_at-spells : (place : ℕ) (bytes : List ℕ) → AreBytes bytes → place + 4 ≤ length bytes → word (word_at place bytes) ≡ take 4 (drop place bytes)
 word_at-spells place bytes are long =
-    word-mod _ ∙ be_bytes_4 (take 4 (drop place bytes)) _ (omega (arith, length-take 4 (drop place bytes), length-drop place bytes)) (part_at place bytes are) refl
+    word-mod _
+    ∙ be_bytes_4 (take 4 (drop place bytes)) _
+    (omega (arith, length-take 4 (drop place bytes), length-drop place bytes)) (part_at place bytes are) refl
 
 -- four bytes from a place on, and all after them
 next_four : (place : ℕ) (bytes : List ℕ) → take 4 (drop place bytes) ++ drop (place + 4) bytes ≡ drop place bytes
