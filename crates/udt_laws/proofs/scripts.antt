@@ -1,0 +1,9 @@
+-- The law of scripts.
+pub mod ReplacedOne
+pub mod FirstFound
+pub mod RouteFinds
+pub mod RequestHeard
+pub mod WhoAdopted
+pub mod UnadoptedPair
+pub mod EachSocket
+pub mod StandsThere
