@@ -7,3 +7,6 @@ pub mod WhoAdopted
 pub mod UnadoptedPair
 pub mod EachSocket
 pub mod StandsThere
+pub mod HostReached
+pub mod EventPeer
+pub mod KeptPeers

@@ -43,7 +43,7 @@ module _ {X : Type 0} (p : X → Bool) where
   pub found-passes : (xs : List X) (k : ℕ) (x : X) → position p xs ≡ Some k → slice_get xs k ≡ Some x → p x ≡ true
   found-passes xs k x is found =
       elim (nat_lt (prefix_len (λ y. not (p y)) xs) (length xs))
-          as (λ few. cond few (Some (prefix_len (λ y. not (p y)) xs)) None ≡ Some k → p x ≡ true) [
+      as (λ few. cond few (Some (prefix_len (λ y. not (p y)) xs)) None ≡ Some k → p x ≡ true) [
         | true ↦ λ e.
             let same : prefix_len (λ y. not (p y)) xs ≡ k = cc in
             stands-passes xs x (ap (slice_get xs) same ∙ found)

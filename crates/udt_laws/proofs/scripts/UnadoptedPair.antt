@@ -51,14 +51,14 @@ module _ {C : Type 0} where
       (k : ℕ) (socket : ScriptSocket C) → slice_get sockets k ≡ Some socket → socket.host ≡ host
       → own_peer w socket.history ≡ Some (record { addr = addr; id = id }) → ⊥
 
-  none-first : (is_so : ScriptSocket C → Bool) (sockets : List (ScriptSocket C)) → first_id is_so sockets ≡ None → position is_so sockets ≡ None
+  pub none-first : (is_so : ScriptSocket C → Bool) (sockets : List (ScriptSocket C)) → first_id is_so sockets ≡ None → position is_so sockets ≡ None
   none-first is_so sockets none = no-place (position is_so sockets) none
     where
       no-place : (found : Option ℕ) → option_map (λ place. place + 1) found ≡ None → found ≡ None
       no-place None is = refl
       no-place (Some place) is = absurd (cc)
 
-  some-first : (is_so : ScriptSocket C → Bool) (sockets : List (ScriptSocket C)) (id : ℕ) → first_id is_so sockets ≡ Some id
+  pub some-first : (is_so : ScriptSocket C → Bool) (sockets : List (ScriptSocket C)) (id : ℕ) → first_id is_so sockets ≡ Some id
       → position is_so sockets ≡ Some (id - 1)
   some-first is_so sockets id is = a-place (position is_so sockets) id is
     where
