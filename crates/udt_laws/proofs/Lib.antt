@@ -6,3 +6,4 @@ pub mod delivered_prefix
 pub mod acked_has_arrived
 pub mod pairs
 pub mod laid_messages
+pub mod scripts
