@@ -17,5 +17,5 @@ pub use adoptions::Adoptions;
 pub use drawer::{Drawer, draws_once};
 pub use errors::{ListenTwice, MeetTaken, OutOfMemory, Taken};
 pub use routes::Routes;
-pub use routing::{Lookup, Want};
+pub use routing::{Lookup, Want, handshake};
 pub use udt_model::Routed;
