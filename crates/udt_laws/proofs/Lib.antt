@@ -4,5 +4,4 @@ pub mod sent_blocks
 pub mod delivered_prefix
 pub mod acked_has_arrived
 pub mod pairs
-pub mod scripts
 pub mod laid_messages

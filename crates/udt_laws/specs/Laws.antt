@@ -3,19 +3,21 @@ use Rattle.std.specs.Prelude.{◌≡◌, ℕ, ◌+◌, ◌-◌, ◌%◌, ◌^◌
 use Rattle.std.specs.List.{Contains, concat}
 use Rattle.udt_model.specs.declared.packets.Flags.{Flags}
 use Rattle.udt_model.specs.declared.packets.Kind.TheVariants.{Stream, Message}
+use Rattle.udt_model.specs.declared.packets.Shake.{Shake}
 use Rattle.udt_model.specs.declared.addresses.Addr.{Addr}
 use Rattle.udt_model.specs.Emissions.{IsPrefix, emitted, sent, arrivals, IsMadeOf}
+use Rattle.udt_model.specs.Handshakes.{asked as asks}
 use Rattle.udt_model.specs.History.{AskedMessage, ShownMessage, History, IsLegal, state_of, start_of, accepted, delivered, acked, arrived, asked, shown, placed_offsets, dropped_offsets}
 use Rattle.udt_model.specs.Honest.{IsHonest}
 use Rattle.udt_model.specs.Lines.{AreEmitted}
 use Rattle.udt_model.specs.Network.{ScriptSocket}
 use Rattle.udt_model.specs.Numbers.{sequence_number}
 use Rattle.udt_model.specs.Rate.{Ways}
-use Rattle.udt_model.specs.Records.{Enrolled, IsSocket, EndpointRecord, StandsAt, PeerPair, own_peer, ArePaired, AreLawful}
+use Rattle.udt_model.specs.Records.{Enrolled, IsSocket, EndpointRecord, StandsAt, PeerPair, is_bound, names_sender, own_peer, ArePaired, AreLawful}
 use Rattle.udt_model.specs.Script.{size_of, network_after}
 use Rattle.udt_model.specs.SendBlocks.{KeptBlock}
 use Rattle.udt_model.specs.State.{Datagram, Emission}
-use Rattle.udt_model.specs.Wire.{Packet, Block, is_handshake, destination, read, target}
+use Rattle.udt_model.specs.Wire.{Packet, Block, Handshake, destination, read, target}
 
 module _ {C : Type 0} where
   -- the socket carries a stream of bytes
@@ -91,12 +93,20 @@ module _ {C : Type 0} (w : Ways C) where
   abbrev pub AllNamed : Type 0
   AllNamed = (h : History C) → IsLegal w h → map (λ (emission : Emission). emission.datagram) (emitted w h) ≡ sent h
 
-  -- Addressed: what a socket emits that isn't a handshake goes to its own peer
+  -- Addressed: what a socket emits for its peer, answers and all that isn't a handshake, goes to its own peer
   abbrev pub Addressed : Type 0
   Addressed =
       (socket : Enrolled C) (emission : Emission) (packet : Packet) → IsSocket w socket
-      → Contains (emitted w socket.history) emission → read emission.datagram.bytes ≡ Ok packet → is_handshake packet ≡ false
+      → Contains (emitted w socket.history) emission → read emission.datagram.bytes ≡ Ok packet → is_bound packet ≡ true
       → own_peer w socket.history ≡ Some (record { addr = emission.datagram.addr; id = destination packet })
+
+  -- Named: a handshake that tells whose it is carries the ID and the initial sequence number of the socket that emits it
+  abbrev pub Named : Type 0
+  Named =
+      (socket : Enrolled C) (emission : Emission) (stamp dest : ℕ) (shake : Shake) → IsSocket w socket
+      → Contains (emitted w socket.history) emission → read emission.datagram.bytes ≡ Ok (Handshake stamp dest shake)
+      → names_sender dest (asks shake.ask) ≡ true
+      → (shake.id ≡ socket.own) × (shake.isn ≡ socket.history.opening.isn)
 
   -- what is promised of a socket's history and that of its own peer: what the one delivered is a prefix of what the other
   -- accepted, and no more blocks of the one are acknowledged than have arrived at the other

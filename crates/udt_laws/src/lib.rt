@@ -1,9 +1,9 @@
 //! The main theorems of the protocol, each the contract of an empty function.
 #![tactic(auto)]
 
-ghost use Rattle.udt_laws.specs.Laws.{OneHistory, EmittedBlocks, AllNamed, Addressed};
-ghost use Rattle.udt_laws.specs.Laws.{Prefix, PairPrefix, PairArrived, PairHonest, ScriptPrefix};
-ghost use Rattle.udt_laws.specs.Laws.{Messages, ScriptMessages};
+ghost use Rattle.udt_laws.specs.Laws.{OneHistory, EmittedBlocks, AllNamed, Addressed, Named};
+ghost use Rattle.udt_laws.specs.Laws.{Prefix, PairPrefix, PairArrived, PairHonest};
+ghost use Rattle.udt_laws.specs.Laws.{Messages};
 
 use udt_rate::Control;
 
@@ -24,9 +24,15 @@ pub fn all_named<C: Control>()
     ensures { AllNamed C.ways }
 {}
 
-/// What a socket emits once it has a peer goes to that peer.
+/// What a socket emits for its peer, answers and all that isn't a handshake, goes to its own peer.
 pub fn addressed<C: Control>()
     ensures { Addressed C.ways }
+{}
+
+/// A handshake that tells whose it is carries the ID and the initial sequence number of the socket
+/// that emits it.
+pub fn named<C: Control>()
+    ensures { Named C.ways }
 {}
 
 /// Where no datagram is forged and none outlives 2^30 packets, what a stream socket delivers is a
@@ -54,21 +60,9 @@ pub fn pair_honest<C: Control>()
     ensures { PairHonest C.ways }
 {}
 
-/// Whatever the lines of a script deliver, both hold of each stream socket of it and its own peer,
-/// where no line gives bytes of its own.
-pub fn script_prefix<C: Control>()
-    ensures { ScriptPrefix C.ways }
-{}
-
 /// Where no datagram is forged and none outlives 2^30 packets, a message socket shows messages that
 /// its own peer accepted, each whole and at most once, and those that must be delivered in order in
 /// their order. What is acknowledged of the peer has arrived, or was dropped.
 pub fn messages<C: Control>()
     ensures { Messages C.ways }
-{}
-
-/// Whatever the lines of a script deliver, this holds of each message socket of it and its own peer,
-/// where no line gives bytes of its own.
-pub fn script_messages<C: Control>()
-    ensures { ScriptMessages C.ways }
 {}

@@ -1,6 +1,6 @@
 -- What an arrival may do: either it passes by, or it is an arrival from the peer, which may carry a block, a message drop
--- request, an ACK, a NAK, an ACK2, a handshake that is answered again or the end, or it is a handshake that comes to a socket
--- which isn't settled.
+-- request, an ACK, a NAK, an ACK2, a handshake that is answered again or the end, or it is a handshake that comes to a
+-- socket which isn't settled.
 use Rattle.std.proofs.Common.{◌≡◌, ℕ, true, false, List, [], ◌∷◌, Ok, Err, refl, subst}
 use Rattle.std.specs.Prelude.{◌+◌, Bool, Result, Option, Some, None, not, ◌&&◌, ◌==◌, if◌then◌else◌}
 use Rattle.std.proofs.lemmas.Bool.{and_parts, eqb-true}
@@ -51,9 +51,10 @@ use Rattle.udt_model.proofs.AddressLemmas.{same_addr-is}
 use Rattle.udt_model.proofs.PhaseLemmas.{is_settled}
 
 module _ {C : Type 0} where
-  -- what a handshake does to a socket that isn't settled and gets no connection by it: the phase, the peer and the origin that it
-  -- leaves, what is answered and what is emitted
-  pub data Shakes (s : State C) (from : Addr) (result : Result Packet Malformed) : Phase → Peer → Origin → Heard → List Emission → Type 0 where
+  -- what a handshake does to a socket that isn't settled and gets no connection by it: the phase, the peer and the
+  -- origin that it leaves, what is answered and what is emitted
+  pub data Shakes (s : State C) (from : Addr) (result : Result Packet Malformed) : Phase → Peer → Origin → Heard
+      → List Emission → Type 0 where
     GivesCookie : (b : Backlog) → (stamp : ℕ) → (shake answer : Shake) → s.phase ≡ phase.Listening b
         → result ≡ Ok (Handshake stamp 0 shake) → asked shake.ask ≡ asks.Requests → (shake.id == 0) ≡ false
         → judged b.listening shake from s.last (has_place b) ≡ verdict.Cookie answer
@@ -61,7 +62,8 @@ module _ {C : Type 0} where
     Promises : (b : Backlog) → (stamp : ℕ) → (shake : Shake) → s.phase ≡ phase.Listening b
         → result ≡ Ok (Handshake stamp 0 shake) → asked shake.ask ≡ asks.Requests → (shake.id == 0) ≡ false
         → judged b.listening shake from s.last (has_place b) ≡ verdict.Request
-        → Shakes s from result (phase.Listening (record b { promised = b.promised + 1 })) s.peer s.origin heard.Request []
+        → Shakes s from result (phase.Listening (record b { promised = b.promised + 1 })) s.peer s.origin heard.Request
+        []
     Refuses : (b : Backlog) → (stamp : ℕ) → (shake answer : Shake) → s.phase ≡ phase.Listening b
         → result ≡ Ok (Handshake stamp 0 shake) → asked shake.ask ≡ asks.Requests → (shake.id == 0) ≡ false
         → judged b.listening shake from s.last (has_place b) ≡ verdict.Reject answer
@@ -87,16 +89,21 @@ module _ {C : Type 0} where
 
 module _ {C : Type 0} (w : Ways C) where
   -- a handshake that connects a socket: with this peer, by this origin, and what is emitted
-  pub data Links (s : State C) (from : Addr) (result : Result Packet Malformed) : Peer → Origin → List Emission → Type 0 where
-    ByListener : (c : Connecting) → (again stamp dest : ℕ) → (shake : Shake) → (peer : Peer) → s.phase ≡ phase.Connecting c again
+  pub data Links (s : State C) (from : Addr) (result : Result Packet Malformed) : Peer → Origin → List Emission
+      → Type 0 where
+    ByListener : (c : Connecting) → (again stamp dest : ℕ) → (shake : Shake) → (peer : Peer)
+        → s.phase ≡ phase.Connecting c again
         → result ≡ Ok (Handshake stamp dest shake) → client_saw c dest shake from ≡ client.Connected peer
         → Links s from result peer origin.Listener []
-    ByMeeting : (m : Meeting) → (again stamp dest : ℕ) → (shake : Shake) → (peer : Peer) → s.phase ≡ phase.Meeting m again
+    ByMeeting : (m : Meeting) → (again stamp dest : ℕ) → (shake : Shake) → (peer : Peer)
+        → s.phase ≡ phase.Meeting m again
         → result ≡ Ok (Handshake stamp dest shake) → meet_saw m dest shake from ≡ meet.Connected peer
-        → Links s from result peer origin.Rendezvous (agreement_to (connected w s peer origin.Rendezvous) (asked shake.ask))
+        → Links s from result peer origin.Rendezvous (agreement_to (connected w s peer origin.Rendezvous)
+        (asked shake.ask))
 
   -- what has to be shown of the outcomes that a readable packet may have where no connection stands
-  pub record OfHandshakes (s : State C) (from : Addr) (result : Result Packet Malformed) (P : Outcome C → Type 0) : Type 0 where
+  pub record OfHandshakes (s : State C) (from : Addr) (result : Result Packet Malformed) (P : Outcome C → Type 0)
+      : Type 0 where
     -- no use is made of it
     pub stale : P (on_stale s)
     -- it is a handshake that comes to a socket which isn't settled, and gets no connection by it: the halves stay
@@ -153,7 +160,8 @@ module _ {C : Type 0} (w : Ways C) where
         → P (on_control (record (heard_now s) { phase = phase.Broken cause.PeerShutdown }) heard.Shutdown [])
     -- it is a handshake of the peer, which is answered again
     pub again : (stamp dest : ℕ) (shake : Shake) (answer : Asked) → s.phase ≡ phase.Connected → from ≡ s.peer.addr
-        → result ≡ Ok (Handshake stamp dest shake) → shake.id ≡ s.peer.id → answer_again s.origin (asked shake.ask) ≡ Some answer
+        → result ≡ Ok (Handshake stamp dest shake) → shake.id ≡ s.peer.id → answer_again s.origin (asked shake.ask)
+        ≡ Some answer
         → P (on_control (heard_now s) heard.Answered (answer_to s answer ∷ []))
     -- it is a handshake that comes to a socket which isn't settled, and gets no connection by it: the halves stay
     pub shaken : (next : Phase) (peer : Peer) (from_whom : Origin) (answer : Heard) (emissions : List Emission)
@@ -165,7 +173,8 @@ module _ {C : Type 0} (w : Ways C) where
         → Links s from result peer from_whom emissions
         → P (on_control (connected w s peer from_whom) heard.Connected emissions)
 
-  module _ (s : State C) (from : Addr) (result : Result Packet Malformed) (P : Outcome C → Type 0) (cases : OfArrivals s from result P)
+  module _ (s : State C) (from : Addr) (result : Result Packet Malformed) (P : Outcome C → Type 0)
+      (cases : OfArrivals s from result P)
       (connected : s.phase ≡ phase.Connected) where
     block-shows : (number : ℕ) (flags : Flags) (stamp dest : ℕ) (bytes : List ℕ) → from ≡ s.peer.addr → dest ≡ s.own
         → result ≡ Ok (Block number flags stamp dest bytes) → P (on_block (heard_now s) number flags bytes)
@@ -216,9 +225,11 @@ module _ {C : Type 0} (w : Ways C) where
     ack2-shows number (Some ack) is = cases.confirmed number ack connected is
 
     again-shows : (stamp dest : ℕ) (shake : Shake) (answer : Option Asked) → from ≡ s.peer.addr
-        → result ≡ Ok (Handshake stamp dest shake) → shake.id ≡ s.peer.id → answer_again s.origin (asked shake.ask) ≡ answer
+        → result ≡ Ok (Handshake stamp dest shake) → shake.id ≡ s.peer.id → answer_again s.origin (asked shake.ask)
+        ≡ answer
         → P (answers_again (heard_now s) answer)
-    again-shows stamp dest shake None sender is same answers = cases.noticed (count_stale s.counters) heard.Stale (λ same. cc) connected
+    again-shows stamp dest shake None sender is same answers = cases.noticed (count_stale s.counters) heard.Stale
+        (λ same. cc) connected
     again-shows stamp dest shake (Some answer) sender is same answers =
         cases.again stamp dest shake answer connected sender is same answers
 
@@ -263,18 +274,22 @@ module _ {C : Type 0} (w : Ways C) where
           | false ↦ λ own. cases.passed (count_foreign s.counters) heard.Foreign (λ same. cc)
         ] refl
 
-  module _ (s : State C) (from : Addr) (result : Result Packet Malformed) (P : Outcome C → Type 0) (cases : OfHandshakes s from result P) where
+  module _ (s : State C) (from : Addr) (result : Result Packet Malformed) (P : Outcome C → Type 0)
+      (cases : OfHandshakes s from result P) where
     -- ---- a listener
 
     judged-shows : (b : Backlog) (stamp : ℕ) (shake : Shake) (v : Verdict) → s.phase ≡ phase.Listening b
         → result ≡ Ok (Handshake stamp 0 shake) → asked shake.ask ≡ asks.Requests → (shake.id == 0) ≡ false
         → judged b.listening shake from s.last (has_place b) ≡ v → P (judged_so s b from shake.id v)
     judged-shows b stamp shake (verdict.Cookie answer) is reads asks named judges =
-        cases.shaken _ _ _ _ _ (λ same. cc) (λ same. cc) (rw is refl) (GivesCookie b stamp shake answer is reads asks named judges)
+        cases.shaken _ _ _ _ _ (λ same. cc) (λ same. cc) (rw is refl)
+        (GivesCookie b stamp shake answer is reads asks named judges)
     judged-shows b stamp shake verdict.Request is reads asks named judges =
-        cases.shaken _ _ _ _ _ (λ same. cc) (λ same. cc) (rw is refl) (Promises b stamp shake is reads asks named judges)
+        cases.shaken _ _ _ _ _ (λ same. cc) (λ same. cc) (rw is refl)
+        (Promises b stamp shake is reads asks named judges)
     judged-shows b stamp shake (verdict.Reject answer) is reads asks named judges =
-        cases.shaken _ _ _ _ _ (λ same. cc) (λ same. cc) (rw is refl) (Refuses b stamp shake answer is reads asks named judges)
+        cases.shaken _ _ _ _ _ (λ same. cc) (λ same. cc) (rw is refl)
+        (Refuses b stamp shake answer is reads asks named judges)
 
     not_true : (x : Bool) → not x ≡ true → x ≡ false
     not_true true is = cc
@@ -303,10 +318,13 @@ module _ {C : Type 0} (w : Ways C) where
 
     -- ---- a client
 
-    client-shows : (c : Connecting) (again stamp dest : ℕ) (shake : Shake) (saw : ClientSaw) → s.phase ≡ phase.Connecting c again
-        → result ≡ Ok (Handshake stamp dest shake) → client_saw c dest shake from ≡ saw → P (client_hears w s c shake saw)
+    client-shows : (c : Connecting) (again stamp dest : ℕ) (shake : Shake) (saw : ClientSaw)
+        → s.phase ≡ phase.Connecting c again
+        → result ≡ Ok (Handshake stamp dest shake) → client_saw c dest shake from ≡ saw
+        → P (client_hears w s c shake saw)
     client-shows c again stamp dest shake client.Cookie is reads sees =
-        cases.shaken _ _ _ _ _ (λ same. cc) (λ same. cc) (rw is refl) (TakesCookie c again stamp dest shake is reads sees)
+        cases.shaken _ _ _ _ _ (λ same. cc) (λ same. cc) (rw is refl)
+        (TakesCookie c again stamp dest shake is reads sees)
     client-shows c again stamp dest shake (client.Connected peer) is reads sees =
         cases.linked peer origin.Listener [] (rw is refl) (ByListener c again stamp dest shake peer is reads sees)
     client-shows c again stamp dest shake client.Rejected is reads sees =
@@ -315,23 +333,30 @@ module _ {C : Type 0} (w : Ways C) where
 
     -- ---- a rendezvous
 
-    meeter-shows : (m : Meeting) (again stamp dest : ℕ) (shake : Shake) (saw : MeetSaw) → s.phase ≡ phase.Meeting m again
-        → result ≡ Ok (Handshake stamp dest shake) → meet_saw m dest shake from ≡ saw → P (meeter_hears w s m again shake saw)
+    meeter-shows : (m : Meeting) (again stamp dest : ℕ) (shake : Shake) (saw : MeetSaw)
+        → s.phase ≡ phase.Meeting m again
+        → result ≡ Ok (Handshake stamp dest shake) → meet_saw m dest shake from ≡ saw
+        → P (meeter_hears w s m again shake saw)
     meeter-shows m again stamp dest shake (meet.Adopted peer) is reads sees =
-        cases.shaken _ _ _ _ _ (λ same. cc) (λ same. cc) (rw is refl) (Adopts m again stamp dest shake peer is reads sees)
+        cases.shaken _ _ _ _ _ (λ same. cc) (λ same. cc) (rw is refl)
+        (Adopts m again stamp dest shake peer is reads sees)
     meeter-shows m again stamp dest shake meet.Answered is reads sees =
-        cases.shaken _ _ _ _ _ (λ same. cc) (λ same. cc) (rw is refl) (AnswersAdopted m again stamp dest shake is reads sees)
+        cases.shaken _ _ _ _ _ (λ same. cc) (λ same. cc) (rw is refl)
+        (AnswersAdopted m again stamp dest shake is reads sees)
     meeter-shows m again stamp dest shake (meet.Connected peer) is reads sees =
         cases.linked peer origin.Rendezvous _ (rw is refl) (ByMeeting m again stamp dest shake peer is reads sees)
     meeter-shows m again stamp dest shake meet.Stale is reads sees = cases.stale
 
     -- ---- packets to a socket that isn't settled
 
-    listening-shows : (b : Backlog) (packet : Packet) → s.phase ≡ phase.Listening b → result ≡ Ok packet → P (on_listening s b from packet)
-    listening-shows b (Handshake stamp dest shake) is reads = listener-shows b stamp dest shake (asked shake.ask) is reads refl
+    listening-shows : (b : Backlog) (packet : Packet) → s.phase ≡ phase.Listening b → result ≡ Ok packet
+        → P (on_listening s b from packet)
+    listening-shows b (Handshake stamp dest shake) is reads = listener-shows b stamp dest shake (asked shake.ask) is
+        reads refl
     listening-shows b _ is reads = cases.stale
 
-    connecting-shows : (c : Connecting) (again : ℕ) (packet : Packet) → s.phase ≡ phase.Connecting c again → result ≡ Ok packet
+    connecting-shows : (c : Connecting) (again : ℕ) (packet : Packet) → s.phase ≡ phase.Connecting c again
+        → result ≡ Ok packet
         → P (on_connecting w s c from packet)
     connecting-shows c again (Handshake stamp dest shake) is reads =
         client-shows c again stamp dest shake (client_saw c dest shake from) is reads refl
@@ -344,7 +369,8 @@ module _ {C : Type 0} (w : Ways C) where
     meeting-shows m again _ is reads = cases.stale
 
     -- what holds of all these outcomes holds of each packet where no connection stands
-    pub packet-shows : (packet : Packet) (p : Phase) → result ≡ Ok packet → s.phase ≡ p → (p ≡ phase.Connected → P (on_connected w s from packet))
+    pub packet-shows : (packet : Packet) (p : Phase) → result ≡ Ok packet → s.phase ≡ p
+        → (p ≡ phase.Connected → P (on_connected w s from packet))
         → P (packet_in w s from packet p)
     packet-shows packet phase.Connected reads is stands = stands refl
     packet-shows packet (phase.Listening b) reads is stands = listening-shows b packet is reads
@@ -353,7 +379,8 @@ module _ {C : Type 0} (w : Ways C) where
     packet-shows packet _ reads is stands = cases.stale
 
   -- what holds of all these outcomes holds of each arrival
-  pub arrival-shows : (s : State C) (from : Addr) (P : Outcome C → Type 0) (result : Result Packet Malformed) → OfArrivals s from result P
+  pub arrival-shows : (s : State C) (from : Addr) (P : Outcome C → Type 0) (result : Result Packet Malformed)
+      → OfArrivals s from result P
       → P (on_read w s from result)
   arrival-shows s from P (Err why) cases = cases.passed _ (heard.Malformed why) (λ same. cc)
   arrival-shows s from P (Ok packet) cases =

@@ -1,5 +1,5 @@
--- What a socket emits: blocks, message drop requests, ACKs, NAKs, ACK2s, keep-alives, handshakes and a shutdown, each at a moment of
--- its history.
+-- What a socket emits: blocks, message drop requests, ACKs, NAKs, ACK2s, keep-alives, handshakes and a shutdown, each
+-- at a moment of its history.
 use Rattle.std.proofs.Common.{◌≡◌, ℕ, true, false, List, [], ◌∷◌, ◌++◌, Ok, refl, ap, sym, inl, inr, arith}
 use Rattle.std.specs.Prelude.{Bool, Option, Some, None, ◌==◌, map, min}
 use Rattle.std.specs.List.{Contains, concat}
@@ -48,7 +48,8 @@ use Rattle.udt_model.proofs.ArrivalLemmas as arrives
 use Rattle.udt_model.proofs.PhaseLemmas.{stands-connected, repeats-show}
 
 module _ {C : Type 0} where
-  -- the handshakes that a socket in this state emits with an act: where each goes, the ID that it names there, and what it says
+  -- the handshakes that a socket in this state emits with an act: where each goes, the ID that it names there, and what
+  -- it says
   pub data SendsShake (s : State C) (act : Act) : Addr → ℕ → Shake → Type 0 where
     -- a client's request, with the cookie that it has or was just given
     Requests : (c : Connecting) → (again cookie : ℕ) → s.phase ≡ phase.Connecting c again
@@ -60,12 +61,14 @@ module _ {C : Type 0} where
     AnswersPeer : (m : Meeting) → (again : ℕ) → (peer : Peer) → s.phase ≡ phase.Meeting m again → m.adopted ≡ Some peer
         → SendsShake s act peer.addr peer.id (meet_request m)
     -- its answer to the peer that it adopts
-    AnswersNew : (m : Meeting) → (again : ℕ) → (from : Addr) → (raw : List ℕ) → (stamp dest : ℕ) → (shake : Shake) → (peer : Peer)
+    AnswersNew : (m : Meeting) → (again : ℕ) → (from : Addr) → (raw : List ℕ) → (stamp dest : ℕ) → (shake : Shake)
+        → (peer : Peer)
         → s.phase ≡ phase.Meeting m again → act ≡ Arrive from raw → read raw ≡ Ok (Handshake stamp dest shake)
         → meet_saw m dest shake from ≡ meet.Adopted peer
         → SendsShake s act peer.addr peer.id (meet_request (record m { adopted = Some peer }))
     -- its answer to the answer that connects it
-    Agrees : (m : Meeting) → (again : ℕ) → (from : Addr) → (raw : List ℕ) → (stamp dest : ℕ) → (shake : Shake) → (peer : Peer)
+    Agrees : (m : Meeting) → (again : ℕ) → (from : Addr) → (raw : List ℕ) → (stamp dest : ℕ) → (shake : Shake)
+        → (peer : Peer)
         → s.phase ≡ phase.Meeting m again → act ≡ Arrive from raw → read raw ≡ Ok (Handshake stamp dest shake)
         → meet_saw m dest shake from ≡ meet.Connected peer
         → SendsShake s act peer.addr peer.id
@@ -77,11 +80,13 @@ module _ {C : Type 0} where
     GivesCookie : (b : Backlog) → (from : Addr) → (raw : List ℕ) → (stamp : ℕ) → (shake answer : Shake)
         → s.phase ≡ phase.Listening b → act ≡ Arrive from raw → read raw ≡ Ok (Handshake stamp 0 shake)
         → asked shake.ask ≡ asks.Requests → (shake.id == 0) ≡ false
-        → judged b.listening shake from s.last (has_place b) ≡ verdict.Cookie answer → SendsShake s act from shake.id answer
+        → judged b.listening shake from s.last (has_place b) ≡ verdict.Cookie answer
+        → SendsShake s act from shake.id answer
     Refuses : (b : Backlog) → (from : Addr) → (raw : List ℕ) → (stamp : ℕ) → (shake answer : Shake)
         → s.phase ≡ phase.Listening b → act ≡ Arrive from raw → read raw ≡ Ok (Handshake stamp 0 shake)
         → asked shake.ask ≡ asks.Requests → (shake.id == 0) ≡ false
-        → judged b.listening shake from s.last (has_place b) ≡ verdict.Reject answer → SendsShake s act from shake.id answer
+        → judged b.listening shake from s.last (has_place b) ≡ verdict.Reject answer
+        → SendsShake s act from shake.id answer
 
 module _ {C : Type 0} (w : Ways C) where
   -- what a socket in this state emits: a new block, a lost one again, a message drop request, a full or a light ACK, a NAK of
@@ -196,9 +201,11 @@ module _ {C : Type 0} (w : Ways C) where
         (ack-emitting (ack_outcome s.receiving s.last s.rtt) is refl) (nak-emitting (nak_report s.receiving s.last s.rtt) is refl))
         (exp-emitting (exp_outcome s) is)
     tick-emitting (phase.Connecting c again) is =
-        repeats-emitting c.caller.began again _ _ (one-emitting _ (λ emission same. SendsHandshake _ _ _ (Requests c again c.cookie is) same))
+        repeats-emitting c.caller.began again _ _
+        (one-emitting _ (λ emission same. SendsHandshake _ _ _ (Requests c again c.cookie is) same))
     tick-emitting (phase.Meeting m again) is =
-        repeats-emitting m.caller.began again _ _ (one-emitting _ (λ emission same. SendsHandshake _ _ _ (Meets m again is) same))
+        repeats-emitting m.caller.began again _ _
+        (one-emitting _ (λ emission same. SendsHandshake _ _ _ (Meets m again is) same))
     tick-emitting phase.Closing is = one-emitting _ (λ emission same. TheEnd is same)
     tick-emitting _ is = none-emitting
 
@@ -274,41 +281,50 @@ module _ {C : Type 0} (w : Ways C) where
         one-emitting s (Arrive from raw) reply _ (λ emission same.
         ReportsDropGap from raw message stamp first last range ends connected refl asks sender messages taken is same)
 
-    answer-emitting : (reply : Reply) (m : Meeting) (again : ℕ) (adopted : Option Peer) → s.phase ≡ phase.Meeting m again
+    answer-emitting : (reply : Reply) (m : Meeting) (again : ℕ) (adopted : Option Peer)
+        → s.phase ≡ phase.Meeting m again
         → m.adopted ≡ adopted → AllEmitting s (Arrive from raw) reply (meet_answer s m adopted)
     answer-emitting reply m again None is adopts = none-emitting s (Arrive from raw) reply
     answer-emitting reply m again (Some peer) is adopts =
-        one-emitting s (Arrive from raw) reply _ (λ emission same. SendsHandshake _ _ _ (AnswersPeer m again peer is adopts) same)
+        one-emitting s (Arrive from raw) reply _
+        (λ emission same. SendsHandshake _ _ _ (AnswersPeer m again peer is adopts) same)
 
     agreement-emitting : (reply : Reply) (m : Meeting) (again stamp dest : ℕ) (shake : Shake) (peer : Peer) (a : Asked)
-        → s.phase ≡ phase.Meeting m again → read raw ≡ Ok (Handshake stamp dest shake) → meet_saw m dest shake from ≡ meet.Connected peer
+        → s.phase ≡ phase.Meeting m again → read raw ≡ Ok (Handshake stamp dest shake) → meet_saw m dest shake from
+        ≡ meet.Connected peer
         → AllEmitting s (Arrive from raw) reply (agreement_to (connected w s peer origin.Rendezvous) a)
     agreement-emitting reply m again stamp dest shake peer asks.Answers is reads sees =
         one-emitting s (Arrive from raw) reply _ (λ emission same.
         SendsHandshake _ _ _ (Agrees m again from raw stamp dest shake peer is refl reads sees) same)
     agreement-emitting reply m again stamp dest shake peer _ is reads sees = none-emitting s (Arrive from raw) reply
 
-    shakes-emitting : (reply : Reply) (next : Phase) (peer : Peer) (origin : Origin) (answer : Heard) (emissions : List Emission)
+    shakes-emitting : (reply : Reply) (next : Phase) (peer : Peer) (origin : Origin) (answer : Heard)
+        (emissions : List Emission)
         → Shakes s from (read raw) next peer origin answer emissions → AllEmitting s (Arrive from raw) reply emissions
     shakes-emitting reply _ _ _ _ _ (arrives.GivesCookie b stamp shake answer is reads asks named judges) =
         one-emitting s (Arrive from raw) reply _ (λ emission same.
         SendsHandshake _ _ _ (GivesCookie b from raw stamp shake answer is refl reads asks named judges) same)
-    shakes-emitting reply _ _ _ _ _ (arrives.Promises b stamp shake is reads asks named judges) = none-emitting s (Arrive from raw) reply
+    shakes-emitting reply _ _ _ _ _ (arrives.Promises b stamp shake is reads asks named judges) =
+        none-emitting s (Arrive from raw) reply
     shakes-emitting reply _ _ _ _ _ (arrives.Refuses b stamp shake answer is reads asks named judges) =
         one-emitting s (Arrive from raw) reply _ (λ emission same.
         SendsHandshake _ _ _ (Refuses b from raw stamp shake answer is refl reads asks named judges) same)
     shakes-emitting reply _ _ _ _ _ (arrives.TakesCookie c again stamp dest shake is reads sees) =
-        one-emitting s (Arrive from raw) reply _ (λ emission same. SendsHandshake _ _ _ (Requests c again shake.cookie is) same)
-    shakes-emitting reply _ _ _ _ _ (arrives.IsRefused c again stamp dest shake is reads sees) = none-emitting s (Arrive from raw) reply
+        one-emitting s (Arrive from raw) reply _
+        (λ emission same. SendsHandshake _ _ _ (Requests c again shake.cookie is) same)
+    shakes-emitting reply _ _ _ _ _ (arrives.IsRefused c again stamp dest shake is reads sees) =
+        none-emitting s (Arrive from raw) reply
     shakes-emitting reply _ _ _ _ _ (arrives.Adopts m again stamp dest shake peer is reads sees) =
         one-emitting s (Arrive from raw) reply _ (λ emission same.
         SendsHandshake _ _ _ (AnswersNew m again from raw stamp dest shake peer is refl reads sees) same)
     shakes-emitting reply _ _ _ _ _ (arrives.AnswersAdopted m again stamp dest shake is reads sees) =
         answer-emitting reply m again m.adopted is refl
 
-    links-emitting : (reply : Reply) (peer : Peer) (origin : Origin) (emissions : List Emission) → Links w s from (read raw) peer origin emissions
+    links-emitting : (reply : Reply) (peer : Peer) (origin : Origin) (emissions : List Emission)
+        → Links w s from (read raw) peer origin emissions
         → AllEmitting s (Arrive from raw) reply emissions
-    links-emitting reply _ _ _ (arrives.ByListener c again stamp dest shake peer is reads sees) = none-emitting s (Arrive from raw) reply
+    links-emitting reply _ _ _ (arrives.ByListener c again stamp dest shake peer is reads sees) =
+        none-emitting s (Arrive from raw) reply
     links-emitting reply _ _ _ (arrives.ByMeeting m again stamp dest shake peer is reads sees) =
         agreement-emitting reply m again stamp dest shake peer (asked shake.ask) is reads sees
 
@@ -327,8 +343,10 @@ module _ {C : Type 0} (w : Ways C) where
       confirmed = λ number ack connected found. none-emitting s (Arrive from raw) _;
       ended = λ connected. none-emitting s (Arrive from raw) _;
       again = λ stamp dest shake answer connected sender is same answers.
-          one-emitting s (Arrive from raw) _ _ (λ emission is. SendsHandshake _ _ _ (AnswersAgain (asked shake.ask) answer connected answers) is);
-      shaken = λ next peer origin answer emissions differs drops unsettled is. shakes-emitting _ next peer origin answer emissions is;
+          one-emitting s (Arrive from raw) _ _
+          (λ emission is. SendsHandshake _ _ _ (AnswersAgain (asked shake.ask) answer connected answers) is);
+      shaken = λ next peer origin answer emissions differs drops unsettled is. shakes-emitting _ next peer origin answer
+          emissions is;
       linked = λ peer origin emissions unsettled is. links-emitting _ peer origin emissions is;
     })
 

@@ -2,6 +2,7 @@ mod Examples
 pub mod NearLemmas
 pub mod RangeLemmas
 pub mod WireLemmas
+pub mod SpellingLemmas
 pub mod AddressLemmas
 pub mod OffsetLemmas
 pub mod SendingLemmas
@@ -21,6 +22,9 @@ pub mod StreamLemmas
 pub mod EmissionLemmas
 pub mod SettlingLemmas
 pub mod PeerLemmas
+pub mod HandshakeTells
+pub mod ShakeLemmas
+pub mod ConnectedBy
 pub mod RecordLemmas
 pub mod TakenOffsets
 pub mod MissingOffsets

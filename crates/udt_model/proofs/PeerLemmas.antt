@@ -78,7 +78,8 @@ KnowsPeer x phase.Closing = has_peer x.origin ≡ true
 KnowsPeer x other = Unit {0}
 
 -- of a settled socket no more is known
-settled-knows : (x : Standing) (p : Phase) → is_settled p ≡ true → (speaks p ≡ true → has_peer x.origin ≡ true) → KnowsPeer x p
+settled-knows : (x : Standing) (p : Phase) → is_settled p ≡ true → (speaks p ≡ true → has_peer x.origin ≡ true)
+    → KnowsPeer x p
 settled-knows x phase.Opened settled spoken = absurd (cc)
 settled-knows x (phase.Listening b) settled spoken = absurd (cc)
 settled-knows x (phase.Connecting c again) settled spoken = absurd (cc)
@@ -99,8 +100,8 @@ mute-knows x p settled mute = settled-knows x p settled (λ spoken. absurd (cc))
 module _ {C : Type 0} where
   -- ---- what an event does to the peer
 
-  -- an event keeps the peer, or it is the arrival of a handshake that tells of one where there was none: of one that wants to meet, or
-  -- an answer for the own ID
+  -- an event keeps the peer, or it is the arrival of a handshake that tells of one where there was none: of one that
+  -- wants to meet, or an answer for the own ID
   pub record IsIntroduced (s : State C) (act : Act) (t : State C) : Type 0 where
     pub from : Addr
     pub raw : List ℕ
@@ -125,7 +126,8 @@ module _ {C : Type 0} where
 
   -- ---- calls and the time
 
-  turns-know : (s : State C) (next : Phase) → Turns s next → KnowsPeer (standing_of s) s.phase → KnowsPeer (standing_of s) next
+  turns-know : (s : State C) (next : Phase) → Turns s next → KnowsPeer (standing_of s) s.phase
+      → KnowsPeer (standing_of s) next
   turns-know s _ (Listens most secret is) knows = subst (KnowsPeer (standing_of s)) is knows
   turns-know s _ (Asks to is) knows =
       (subst (KnowsPeer (standing_of s)) is knows, record { config = refl; own = refl; isn = refl })
@@ -140,15 +142,21 @@ module _ {C : Type 0} where
   -- ---- handshakes that give no connection
 
   -- what is shown of them
-  record ShakesRight (s : State C) (from : Addr) (raw : List ℕ) (next : Phase) (peer : Peer) (from_whom : Origin) : Type 0 where
+  record ShakesRight (s : State C) (from : Addr) (raw : List ℕ) (next : Phase) (peer : Peer) (from_whom : Origin)
+      : Type 0 where
     knows : KnowsPeer (standing_of (record s { phase = next; peer = peer; origin = from_whom })) next
-    sets : (counters : Counters) → SetsPeer s (Arrive from raw) (record s { phase = next; peer = peer; origin = from_whom; counters = counters })
+    sets : (counters : Counters)
+        → SetsPeer s (Arrive from raw) (record s { phase = next; peer = peer; origin = from_whom; counters = counters })
 
-  keeps-right : (s : State C) (from : Addr) (raw : List ℕ) (next : Phase) → KnowsPeer (standing_of s) next → ShakesRight s from raw next s.peer s.origin
-  keeps-right s from raw next knows = record { knows = knows; sets = λ counters. inl (record { peer = refl; origin = refl }) }
+  keeps-right : (s : State C) (from : Addr) (raw : List ℕ) (next : Phase) → KnowsPeer (standing_of s) next
+      → ShakesRight s from raw next s.peer s.origin
+  keeps-right s from raw next knows =
+      record { knows = knows; sets = λ counters. inl (record { peer = refl; origin = refl }) }
 
-  adopts-right : (s : State C) (from : Addr) (raw : List ℕ) (m : Meeting) (again stamp dest : ℕ) (shake : Shake) (peer : Peer)
-      → s.phase ≡ phase.Meeting m again → read raw ≡ Ok (Handshake stamp dest shake) → SeesAsMeeting m dest shake from (meet.Adopted peer)
+  adopts-right : (s : State C) (from : Addr) (raw : List ℕ) (m : Meeting) (again stamp dest : ℕ) (shake : Shake)
+      (peer : Peer)
+      → s.phase ≡ phase.Meeting m again → read raw ≡ Ok (Handshake stamp dest shake)
+      → SeesAsMeeting m dest shake from (meet.Adopted peer)
       → KnowsPeer (standing_of s) (phase.Meeting m again)
       → ShakesRight s from raw (phase.Meeting (record m { adopted = Some peer }) again) peer origin.Rendezvous
   adopts-right s from raw m again stamp dest shake _ is reads (SeesFirst sender fits asks none) knows =
@@ -175,21 +183,28 @@ module _ {C : Type 0} where
         });
       }
 
-  shakes-right : (s : State C) (from : Addr) (raw : List ℕ) (next : Phase) (peer : Peer) (from_whom : Origin) (answer : Heard)
-      (emissions : List Emission) → KnowsPeer (standing_of s) s.phase → Shakes s from (read raw) next peer from_whom answer emissions
+  shakes-right : (s : State C) (from : Addr) (raw : List ℕ) (next : Phase) (peer : Peer) (from_whom : Origin)
+      (answer : Heard)
+      (emissions : List Emission) → KnowsPeer (standing_of s) s.phase → Shakes s from (read raw) next peer from_whom
+      answer emissions
       → ShakesRight s from raw next peer from_whom
-  shakes-right s from raw _ _ _ _ _ knows (arrives.GivesCookie b stamp shake reply is reads asks named judges) = keeps-right s from raw s.phase knows
+  shakes-right s from raw _ _ _ _ _ knows (arrives.GivesCookie b stamp shake reply is reads asks named judges) =
+      keeps-right s from raw s.phase knows
   shakes-right s from raw _ _ _ _ _ knows (arrives.Promises b stamp shake is reads asks named judges) =
       keeps-right s from raw _ (subst (KnowsPeer (standing_of s)) is knows)
-  shakes-right s from raw _ _ _ _ _ knows (arrives.Refuses b stamp shake reply is reads asks named judges) = keeps-right s from raw s.phase knows
+  shakes-right s from raw _ _ _ _ _ knows (arrives.Refuses b stamp shake reply is reads asks named judges) =
+      keeps-right s from raw s.phase knows
   shakes-right s from raw _ _ _ _ _ knows (arrives.TakesCookie c again stamp dest shake is reads sees) =
       let known = subst (KnowsPeer (standing_of s)) is knows in
       keeps-right s from raw _ (known.0, record { config = known.1.config; own = known.1.own; isn = known.1.isn })
-  shakes-right s from raw _ _ _ _ _ knows (arrives.IsRefused c again stamp dest shake is reads sees) = keeps-right s from raw _ tt
+  shakes-right s from raw _ _ _ _ _ knows (arrives.IsRefused c again stamp dest shake is reads sees) =
+      keeps-right s from raw _ tt
   shakes-right s from raw _ _ _ _ _ knows (arrives.Adopts m again stamp dest shake peer is reads sees) =
       adopts-right s from raw m again stamp dest shake peer is reads
-      (subst (SeesAsMeeting m dest shake from) sees (meet_saw-sees m dest shake from)) (subst (KnowsPeer (standing_of s)) is knows)
-  shakes-right s from raw _ _ _ _ _ knows (arrives.AnswersAdopted m again stamp dest shake is reads sees) = keeps-right s from raw s.phase knows
+      (subst (SeesAsMeeting m dest shake from) sees (meet_saw-sees m dest shake from))
+      (subst (KnowsPeer (standing_of s)) is knows)
+  shakes-right s from raw _ _ _ _ _ knows (arrives.AnswersAdopted m again stamp dest shake is reads sees) =
+      keeps-right s from raw s.phase knows
 
 module _ {C : Type 0} (w : Ways C) where
   -- ---- handshakes that connect
@@ -197,9 +212,11 @@ module _ {C : Type 0} (w : Ways C) where
   -- what is shown of them, whatever else the state after them has
   record LinksRight (s : State C) (from : Addr) (raw : List ℕ) (peer : Peer) (from_whom : Origin) : Type 0 where
     has : has_peer from_whom ≡ true
-    sets : (counters : Counters) → SetsPeer s (Arrive from raw) (record (connected w s peer from_whom) { counters = counters })
+    sets : (counters : Counters)
+        → SetsPeer s (Arrive from raw) (record (connected w s peer from_whom) { counters = counters })
 
-  offer-right : (s : State C) (from : Addr) (raw : List ℕ) (c : Connecting) (again stamp dest : ℕ) (shake : Shake) (peer : Peer)
+  offer-right : (s : State C) (from : Addr) (raw : List ℕ) (c : Connecting) (again stamp dest : ℕ) (shake : Shake)
+      (peer : Peer)
       → read raw ≡ Ok (Handshake stamp dest shake) → SeesAsClient c dest shake from (client.Connected peer)
       → KnowsPeer (standing_of s) (phase.Connecting c again) → LinksRight s from raw peer origin.Listener
   offer-right s from raw c again stamp dest shake _ reads (SeesOffer sender own asks fits) knows = record {
@@ -221,7 +238,8 @@ module _ {C : Type 0} (w : Ways C) where
     });
   }
 
-  answer-right : (s : State C) (from : Addr) (raw : List ℕ) (m : Meeting) (again stamp dest : ℕ) (shake : Shake) (peer : Peer)
+  answer-right : (s : State C) (from : Addr) (raw : List ℕ) (m : Meeting) (again stamp dest : ℕ) (shake : Shake)
+      (peer : Peer)
       → read raw ≡ Ok (Handshake stamp dest shake) → SeesAsMeeting m dest shake from (meet.Connected peer)
       → KnowsPeer (standing_of s) (phase.Meeting m again) → LinksRight s from raw peer origin.Rendezvous
   answer-right s from raw m again stamp dest shake _ reads (SeesAnswer sender fits asks own none) knows =
@@ -248,18 +266,23 @@ module _ {C : Type 0} (w : Ways C) where
       let has = subst (Adoption (standing_of s) m.caller.to) adopts knows.1 in
       record { has = refl; sets = λ counters. inl (record { peer = sym has.peer; origin = sym has.origin }) }
 
-  links-right : (s : State C) (from : Addr) (raw : List ℕ) (peer : Peer) (from_whom : Origin) (emissions : List Emission)
-      → KnowsPeer (standing_of s) s.phase → Links w s from (read raw) peer from_whom emissions → LinksRight s from raw peer from_whom
+  links-right : (s : State C) (from : Addr) (raw : List ℕ) (peer : Peer) (from_whom : Origin)
+      (emissions : List Emission)
+      → KnowsPeer (standing_of s) s.phase → Links w s from (read raw) peer from_whom emissions
+      → LinksRight s from raw peer from_whom
   links-right s from raw _ _ _ knows (arrives.ByListener c again stamp dest shake peer is reads sees) =
       offer-right s from raw c again stamp dest shake peer reads
-      (subst (SeesAsClient c dest shake from) sees (client_saw-sees c dest shake from)) (subst (KnowsPeer (standing_of s)) is knows)
+      (subst (SeesAsClient c dest shake from) sees (client_saw-sees c dest shake from))
+      (subst (KnowsPeer (standing_of s)) is knows)
   links-right s from raw _ _ _ knows (arrives.ByMeeting m again stamp dest shake peer is reads sees) =
       answer-right s from raw m again stamp dest shake peer reads
-      (subst (SeesAsMeeting m dest shake from) sees (meet_saw-sees m dest shake from)) (subst (KnowsPeer (standing_of s)) is knows)
+      (subst (SeesAsMeeting m dest shake from) sees (meet_saw-sees m dest shake from))
+      (subst (KnowsPeer (standing_of s)) is knows)
 
   -- ---- events
 
-  -- what is known of a socket that was opened with these values at this offset: its peer, and that it was never connected, or is settled
+  -- what is known of a socket that was opened with these values at this offset: its peer, and that it was never
+  -- connected, or is settled
   pub record IsKnown (config : Config) (start : ℕ) (s : State C) : Type 0 where
     pub knows : KnowsPeer (standing_of s) s.phase
     pub begins : IsUnlinked w config start s ⊎ (is_settled s.phase ≡ true)
@@ -289,7 +312,9 @@ module _ {C : Type 0} (w : Ways C) where
           record {
             known = record {
               knows = right.knows;
-              begins = inl (unlinked-as w s _ unlinked (shakes-mute s from raw next peer origin answer emissions unlinked.mute shakes) refl refl refl);
+              begins = inl
+                  (unlinked-as w s _ unlinked (shakes-mute s from raw next peer origin answer emissions unlinked.mute
+                  shakes) refl refl refl);
             };
             sets = rw is (right.sets (count_control s.counters));
           };
@@ -310,7 +335,8 @@ module _ {C : Type 0} (w : Ways C) where
         record {
           known = record {
             knows = settled-knows (standing_of t) t.phase (kept.settled settled)
-                (λ spoken. ap has_peer kept.origin ∙ knows-speaks (standing_of s) s.phase knows (kept.speaks settled spoken));
+                (λ spoken. ap has_peer kept.origin ∙ knows-speaks (standing_of s) s.phase knows
+                (kept.speaks settled spoken));
             begins = inr (kept.settled settled);
           };
           sets = inl (record { peer = kept.peer; origin = kept.origin });
@@ -331,10 +357,12 @@ module _ {C : Type 0} (w : Ways C) where
 
     -- ---- histories
 
-    pub items-known : (s : State C) (items : List Item) → IsKnown config start s → IsKnown config start (after_items w s items)
+    pub items-known : (s : State C) (items : List Item) → IsKnown config start s
+        → IsKnown config start (after_items w s items)
     unfolding after_items
     items-known s [] known = known
-    items-known s (item ∷ items) known = items-known (step w s item.event).after items (step-known s item.event known).known
+    items-known s (item ∷ items) known = items-known (step w s item.event).after items
+        (step-known s item.event known).known
 
     -- a peer that is known stays
     pub step-keeps_peer : (s : State C) (event : Event) → IsKnown config start s → has_peer s.origin ≡ true
@@ -351,7 +379,8 @@ module _ {C : Type 0} (w : Ways C) where
     items-keep_peer s (item ∷ items) known has =
         let first = step-keeps_peer s item.event known has in
         let others =
-        items-keep_peer (step w s item.event).after items (step-known s item.event known).known (ap has_peer first.origin ∙ has) in
+        items-keep_peer (step w s item.event).after items (step-known s item.event known).known
+        (ap has_peer first.origin ∙ has) in
         record { peer = others.peer ∙ first.peer; origin = others.origin ∙ first.origin }
 
   -- with one of these items the last peer was told of
@@ -360,7 +389,8 @@ module _ {C : Type 0} (w : Ways C) where
     pub item : Item
     pub rest : List Item
     pub joined : items ≡ front ++ item ∷ rest
-    pub introduced : IsIntroduced (at_moment (after_items w s front) item.event.now) item.event.act (step w (after_items w s front) item.event).after
+    pub introduced : IsIntroduced (at_moment (after_items w s front) item.event.now) item.event.act
+        (step w (after_items w s front) item.event).after
     pub stays : KeepsPeer (step w (after_items w s front) item.event).after (after_items w s items)
 
   module _ (config : Config) (start : ℕ) where
@@ -406,7 +436,8 @@ module _ {C : Type 0} (w : Ways C) where
   start_by (Paired config peer now) = 0
   start_by (PairedAt config peer now start) = start
 
-  opening-known : (own : ℕ) (config : Config) (peer : Peer) (now start : ℕ) → IsKnown config start (opening w own config peer now start)
+  opening-known : (own : ℕ) (config : Config) (peer : Peer) (now start : ℕ)
+      → IsKnown config start (opening w own config peer now start)
   unfolding opening
   opening-known own config peer now start = record { knows = refl; begins = inr refl }
 
@@ -425,8 +456,10 @@ module _ {C : Type 0} (w : Ways C) where
   peer_by-has _ peer pair is = refl
 
   -- the own peer never changes once it is set
-  pub own_peer-stays : (own : ℕ) (way : Way) (s : State C) (front rest : List Item) (pair : PeerPair) → s ≡ opened_by w own way
-      → own_peer w (record { opening = s; items = front }) ≡ Some pair → own_peer w (record { opening = s; items = front ++ rest }) ≡ Some pair
+  pub own_peer-stays : (own : ℕ) (way : Way) (s : State C) (front rest : List Item) (pair : PeerPair)
+      → s ≡ opened_by w own way
+      → own_peer w (record { opening = s; items = front }) ≡ Some pair
+      → own_peer w (record { opening = s; items = front ++ rest }) ≡ Some pair
   own_peer-stays own way s front rest pair opened is =
       let begun = subst (IsKnown (config_by way) (start_by way)) (sym opened) (way-known own way) in
       let known = items-known (config_by way) (start_by way) s front begun in

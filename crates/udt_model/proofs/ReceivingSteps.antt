@@ -48,7 +48,8 @@ module _ {C : Type 0} where
     send-shows bytes (Lost why) stays = stays
     send-shows bytes Absent stays = stays
 
-    recv-shows : (room : ℕ) (link : Link) → Q s.receiving → Q (after_receive s.receiving (length (received_by s.receiving room)))
+    recv-shows : (room : ℕ) (link : Link) → Q s.receiving
+        → Q (after_receive s.receiving (length (received_by s.receiving room)))
         → Q (recv_in s room link).after.receiving
     recv-shows room Stands stays reads = reads
     recv-shows room (Lost why) stays reads = reads
@@ -73,7 +74,8 @@ module _ {C : Type 0} where
     send_message_as-shows : (ttl : Option ℕ) (order : Bool) (bytes : List ℕ) (k : Kind) → Q s.receiving
         → Q (send_message_as s ttl order bytes k).after.receiving
     send_message_as-shows ttl order bytes kind.Stream stays = stays
-    send_message_as-shows ttl order bytes kind.Message stays = send_message-shows ttl order bytes (link_of s.phase) stays
+    send_message_as-shows ttl order bytes kind.Message stays = send_message-shows ttl order bytes (link_of s.phase)
+        stays
 
     recv_message-shows : (room : ℕ) (link : Link) → Q s.receiving → Q (after_receive_message s.receiving room)
         → Q (recv_message_in s room link).after.receiving
@@ -99,9 +101,11 @@ module _ {C : Type 0} (w : Ways C) (s : State C) (Q : Receiving → Type 0) wher
   exp-shows exp.LosesAll reported = reported
   exp-shows exp.KeepsAlive reported = reported
 
-  repeats-shows : (began again : ℕ) (next : Phase) (emission : Emission) → Q s.receiving → Q (repeats s began again next emission).after.receiving
+  repeats-shows : (began again : ℕ) (next : Phase) (emission : Emission) → Q s.receiving
+      → Q (repeats s began again next emission).after.receiving
   repeats-shows began again next emission stays =
-      repeats-show s began again next emission (λ outcome. Q outcome.after.receiving) (record { fails = stays; again = stays; waits = stays })
+      repeats-show s began again next emission (λ outcome. Q outcome.after.receiving)
+      (record { fails = stays; again = stays; waits = stays })
 
   tick-shows : (phase : Phase) → Q s.receiving → Q (after_reports s).receiving → Q (tick_in w s phase).after.receiving
   tick-shows phase.Connected stays tells = exp-shows (exp_outcome s) tells

@@ -52,7 +52,8 @@ module _ {C : Type 0} (w : Ways C) where
     send_as-shows bytes kind.Stream is stays sends = send-shows bytes (link_of s.phase) refl stays (sends is)
     send_as-shows bytes kind.Message is stays sends = stays
 
-    send_message-shows : (ttl : Option ℕ) (order : Bool) (bytes : List ℕ) (link : Link) → link_of s.phase ≡ link → Q s.sending
+    send_message-shows : (ttl : Option ℕ) (order : Bool) (bytes : List ℕ) (link : Link) → link_of s.phase ≡ link
+        → Q s.sending
         → (s.phase ≡ phase.Connected → Q (after_send_message s.sending s.last ttl order bytes))
         → Q (send_message_in s ttl order bytes link).after.sending
     send_message-shows ttl order bytes Stands is stays asks = asks (stands-connected s.phase is)
@@ -63,7 +64,8 @@ module _ {C : Type 0} (w : Ways C) where
         → (s.kind ≡ kind.Message → s.phase ≡ phase.Connected → Q (after_send_message s.sending s.last ttl order bytes))
         → Q (send_message_as s ttl order bytes k).after.sending
     send_message_as-shows ttl order bytes kind.Stream is stays asks = stays
-    send_message_as-shows ttl order bytes kind.Message is stays asks = send_message-shows ttl order bytes (link_of s.phase) refl stays (asks is)
+    send_message_as-shows ttl order bytes kind.Message is stays asks =
+        send_message-shows ttl order bytes (link_of s.phase) refl stays (asks is)
 
     recv-shows : (room : ℕ) (link : Link) → Q s.sending → Q (recv_in s room link).after.sending
     recv-shows room Stands stays = stays
@@ -83,7 +85,8 @@ module _ {C : Type 0} (w : Ways C) where
     recv_message_as-shows room kind.Stream stays = stays
     recv_message_as-shows room kind.Message stays = recv_message-shows room (link_of s.phase) stays
 
-    pack-shows : (link : Link) → Q s.sending → ((p : Packing) → packing w s.sending s.last ≡ p → Q (after_packing w s.sending s.last p))
+    pack-shows : (link : Link) → Q s.sending
+        → ((p : Packing) → packing w s.sending s.last ≡ p → Q (after_packing w s.sending s.last p))
         → Q (pack_in w s link).after.sending
     pack-shows Stands stays packs = packs (packing w s.sending s.last) refl
     pack-shows (Lost why) stays packs = stays
@@ -95,9 +98,11 @@ module _ {C : Type 0} (w : Ways C) where
     exp-shows exp.LosesAll stays times_out = times_out
     exp-shows exp.KeepsAlive stays times_out = stays
 
-    repeats-shows : (began again : ℕ) (next : Phase) (emission : Emission) → Q s.sending → Q (repeats s began again next emission).after.sending
+    repeats-shows : (began again : ℕ) (next : Phase) (emission : Emission) → Q s.sending
+        → Q (repeats s began again next emission).after.sending
     repeats-shows began again next emission stays =
-        repeats-show s began again next emission (λ outcome. Q outcome.after.sending) (record { fails = stays; again = stays; waits = stays })
+        repeats-show s began again next emission (λ outcome. Q outcome.after.sending)
+        (record { fails = stays; again = stays; waits = stays })
 
     tick-shows : (phase : Phase) → Q s.sending → Q (after_timeout w s.sending s.rtt) → Q (tick_in w s phase).after.sending
     tick-shows phase.Connected stays times_out = exp-shows (exp_outcome s) stays times_out

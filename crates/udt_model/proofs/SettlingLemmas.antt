@@ -1,5 +1,5 @@
--- How a socket begins that is opened without a connection: until a handshake connects it it emits no more than handshakes, and neither
--- takes nor gives anything. From then on it is as one that is connected from its opening on.
+-- How a socket begins that is opened without a connection: until a handshake connects it it emits no more than
+-- handshakes, and neither takes nor gives anything. From then on it is as one that is connected from its opening on.
 use Rattle.std.proofs.Common.{◌≡◌, ℕ, false, List, [], ◌∷◌, ◌++◌, refl, ap, ◌∙◌, sym, subst, inl, inr, ◌⊎◌, arith}
 use Rattle.std.specs.Prelude.{min}
 use Rattle.std.specs.List.{Contains}
@@ -17,10 +17,12 @@ use Rattle.udt_model.specs.Counted.{on_control}
 use Rattle.udt_model.specs.Emissions.{emitted_by, arrived_by_act, arrived_by}
 use Rattle.udt_model.specs.Events.{Act, Arrive, Event, Reply, Outcome, at_moment}
 use Rattle.udt_model.specs.History.{Item, after_items, AreLegal, accepted_by, delivered_by, placed_from, asked_from, shown_from, dropped_from}
+use Rattle.udt_model.specs.Honest.{AreHonest}
 use Rattle.udt_model.specs.Opening.{connected, opened, opening}
 use Rattle.udt_model.specs.Phases.{Phase}
 use Rattle.udt_model.specs.Phases as phase
 use Rattle.udt_model.specs.Rate.{Ways}
+use Rattle.udt_model.specs.Records.{EndpointRecord}
 use Rattle.udt_model.specs.ReceiveHalf.{idle_receiving, linked_receiving}
 use Rattle.udt_model.specs.SendHalf.{Sending, idle_sending, linked_sending}
 use Rattle.udt_model.specs.State.{State, Datagram, Emission}
@@ -37,7 +39,8 @@ use Rattle.udt_model.proofs.UnlinkedLemmas.{IsUnlinked, OfUnlinked, TellsNothing
 
 module _ {C : Type 0} where
   -- a handshake that gives no connection leaves none
-  pub shakes-mute : (s : State C) (from : Addr) (raw : List ℕ) (next : Phase) (peer : Peer) (origin : Origin) (answer : Heard)
+  pub shakes-mute : (s : State C) (from : Addr) (raw : List ℕ) (next : Phase) (peer : Peer) (origin : Origin)
+      (answer : Heard)
       (emissions : List Emission) → speaks s.phase ≡ false → Shakes s from (read raw) next peer origin answer emissions
       → speaks next ≡ false
   shakes-mute s from raw _ _ _ _ _ mute (arrives.GivesCookie b stamp shake reply is reads asks named judges) = mute
@@ -58,16 +61,20 @@ module _ {C : Type 0} where
 
 module _ {C : Type 0} (w : Ways C) where
   -- a socket without a connection emits no more than handshakes
-  mute-emits : (s : State C) (act : Act) (reply : Reply) (emission : Emission) → speaks s.phase ≡ false → Emitting w s act reply emission
+  mute-emits : (s : State C) (act : Act) (reply : Reply) (emission : Emission) → speaks s.phase ≡ false
+      → Emitting w s act reply emission
       → IsShakeEmission s act emission
   mute-emits s act reply emission mute (NewBlock block connected is same) = absurd (cc)
   mute-emits s act reply emission mute (LostBlock offset block connected is same) = absurd (cc)
   mute-emits s act reply emission mute (DropRequest message connected is same) = absurd (cc)
   mute-emits s act reply emission mute (FullAck ack connected is same) = absurd (cc)
-  mute-emits s act reply emission mute (LightAck from raw number flags stamp bytes connected is reads sender answers same) = absurd (cc)
+  mute-emits s act reply emission mute (LightAck from raw number flags stamp bytes connected is reads sender answers
+      same) = absurd (cc)
   mute-emits s act reply emission mute (Reports range ranges connected is same) = absurd (cc)
-  mute-emits s act reply emission mute (ReportsGap from raw number flags stamp bytes ends connected is reads sender gap same) = absurd (cc)
-  mute-emits s act reply emission mute (ReportsDropGap from raw message stamp first last range ends connected is reads sender kind taken gap same) =
+  mute-emits s act reply emission mute (ReportsGap from raw number flags stamp bytes ends connected is reads sender gap
+      same) = absurd (cc)
+  mute-emits s act reply emission mute (ReportsDropGap from raw message stamp first last range ends connected is reads
+      sender kind taken gap same) =
       absurd (cc)
   mute-emits s act reply emission mute (AnswersAck number connected same) = absurd (cc)
   mute-emits s act reply emission mute (SendsKeepAlive connected same) = absurd (cc)
@@ -89,12 +96,14 @@ module _ {C : Type 0} (w : Ways C) where
   -- what an event does to a socket that was never connected: it stays so or is connected, and nothing is taken or given
   pub record Begins (config : Config) (start : ℕ) (s : State C) (event : Event) : Type 0 where
     pub nothing : TellsNothing C event.act (step w s event).reply
-    pub leads : IsUnlinked w config start (step w s event).after ⊎ IsLinked (at_moment s event.now) event.act (step w s event)
+    pub leads : IsUnlinked w config start (step w s event).after ⊎ IsLinked (at_moment s event.now) event.act
+        (step w s event)
     pub emits : (emission : Emission) → Contains (step w s event).emissions emission
         → IsShakeEmission (at_moment s event.now) event.act emission
 
   module _ (config : Config) (start : ℕ) where
-    pub at_moment-unlinked : (s : State C) (now : ℕ) → IsUnlinked w config start s → IsUnlinked w config start (at_moment s now)
+    pub at_moment-unlinked : (s : State C) (now : ℕ) → IsUnlinked w config start s
+        → IsUnlinked w config start (at_moment s now)
     at_moment-unlinked s now unlinked = record {
       mute = unlinked.mute;
       sending = unlinked.sending;
@@ -162,7 +171,8 @@ module _ {C : Type 0} (w : Ways C) where
           nothing = does.nothing;
           leads = does.leads;
           emits = λ emission among.
-              mute-emits (at_moment s event.now) event.act (step w s event).reply emission unlinked.mute (step-emitting w s event emission among);
+              mute-emits (at_moment s event.now) event.act (step w s event).reply emission unlinked.mute
+              (step-emitting w s event emission among);
         }
 
 -- ---- histories
@@ -173,10 +183,15 @@ pub record IsHandshake (emission : Emission) : Type 0 where
   pub stamp : ℕ
   pub dest : ℕ
   pub shake : Shake
-  pub is : emission ≡ record { datagram = record { addr = to; bytes = spelling (Handshake stamp dest shake) }; offsets = [] }
+  pub is : emission ≡ record {
+    datagram = record { addr = to; bytes = spelling (Handshake stamp dest shake) };
+    offsets =
+        [];
+  }
 
 module _ {C : Type 0} where
-  emission-handshake : (s : State C) (act : Act) (emission : Emission) → IsShakeEmission s act emission → IsHandshake emission
+  emission-handshake : (s : State C) (act : Act) (emission : Emission) → IsShakeEmission s act emission
+      → IsHandshake emission
   emission-handshake s act emission sent =
       record { to = sent.to; stamp = stamp_of s; dest = sent.dest; shake = sent.shake; is = sent.is }
 
@@ -211,7 +226,8 @@ module _ {C : Type 0} (w : Ways C) where
   both-empty : {A : Type 0} (first second : List A) → first ≡ [] → second ≡ [] → first ++ second ≡ []
   both-empty first second one two = rw (one, two) refl
 
-  quiet-before : (s : State C) (item : Item) (items : List Item) → IsQuietItem s item → AreQuiet (step w s item.event).after items
+  quiet-before : (s : State C) (item : Item) (items : List Item) → IsQuietItem s item
+      → AreQuiet (step w s item.event).after items
       → AreQuiet s (item ∷ items)
   unfolding accepted_by delivered_by placed_from asked_from shown_from dropped_from emitted_by
   quiet-before s item items first others = record {
@@ -237,12 +253,15 @@ module _ {C : Type 0} (w : Ways C) where
     pub dropped : dropped_from w s items ≡ dropped_from w t rest
     pub emitted : (emission : Emission) → Contains (emitted_by w s items) emission
         → IsHandshake emission ⊎ Contains (emitted_by w t rest) emission
-    pub emits : (emission : Emission) → Contains (emitted_by w t rest) emission → Contains (emitted_by w s items) emission
+    pub emits : (emission : Emission) → Contains (emitted_by w t rest) emission
+        → Contains (emitted_by w s items) emission
     pub arrived : (datagram : Datagram) → Contains (arrived_by rest) datagram → Contains (arrived_by items) datagram
+    pub honest : (net : List (EndpointRecord C)) (addr : Addr) → AreHonest w net addr s items
+        → AreHonest w net addr t rest
     pub ends : after_items w s items ≡ after_items w t rest
     pub legal : AreLegal w t rest
 
-  goes_on : (s : State C) (items : List Item) → AreLegal w s items → GoesOnAs s items s items
+  pub goes_on : (s : State C) (items : List Item) → AreLegal w s items → GoesOnAs s items s items
   goes_on s items legal = record {
     accepted = refl;
     delivered = refl;
@@ -253,6 +272,7 @@ module _ {C : Type 0} (w : Ways C) where
     emitted = λ emission among. inr among;
     emits = λ emission among. among;
     arrived = λ datagram among. among;
+    honest = λ net addr honest. honest;
     ends = refl;
     legal = legal;
   }
@@ -262,7 +282,7 @@ module _ {C : Type 0} (w : Ways C) where
 
   goes-before : (s : State C) (item : Item) (items : List Item) (t : State C) (rest : List Item) → IsQuietItem s item
       → GoesOnAs (step w s item.event).after items t rest → GoesOnAs s (item ∷ items) t rest
-  unfolding accepted_by delivered_by placed_from asked_from shown_from dropped_from emitted_by arrived_by after_items
+  unfolding accepted_by delivered_by placed_from asked_from shown_from dropped_from emitted_by arrived_by after_items AreHonest
   goes-before s item items t rest first others = record {
     accepted = empty-first _ _ first.nothing.taken ∙ others.accepted;
     delivered = empty-first _ _ first.nothing.given ∙ others.delivered;
@@ -274,8 +294,11 @@ module _ {C : Type 0} (w : Ways C) where
       | inl here ↦ inl (first.emitted emission here)
       | inr later ↦ others.emitted emission later
     ];
-    emits = λ emission among. Contains-append_right (step w s item.event).emissions _ emission (others.emits emission among);
-    arrived = λ datagram among. Contains-append_right (arrived_by_act item.event.act) _ datagram (others.arrived datagram among);
+    emits = λ emission among. Contains-append_right (step w s item.event).emissions _ emission
+        (others.emits emission among);
+    arrived = λ datagram among. Contains-append_right (arrived_by_act item.event.act) _ datagram
+        (others.arrived datagram among);
+    honest = λ net addr honest. others.honest net addr honest.1;
     ends = others.ends;
     legal = others.legal;
   }
@@ -283,9 +306,11 @@ module _ {C : Type 0} (w : Ways C) where
   -- a state that was just connected by a handshake, of a socket that was opened with these values at this offset
   pub record IsFresh (config : Config) (start : ℕ) (t : State C) : Type 0 where
     pub connected : t.phase ≡ phase.Connected
-    pub sending : t.sending ≡ linked_sending w (idle_sending w config start) t.isn (min config.payload t.peer.payload) t.peer.flow
+    pub sending : t.sending ≡ linked_sending w (idle_sending w config start) t.isn (min config.payload t.peer.payload)
+        t.peer.flow
     pub receiving : t.receiving
-        ≡ linked_receiving (idle_receiving config start) t.last t.peer.isn (min config.payload t.peer.payload) unmeasured
+        ≡ linked_receiving (idle_receiving config start) t.last t.peer.isn (min config.payload t.peer.payload)
+        unmeasured
     pub unmeasured : t.rtt ≡ unmeasured
 
   -- with one of these items the socket is connected
@@ -295,7 +320,8 @@ module _ {C : Type 0} (w : Ways C) where
     pub rest : List Item
     pub joined : items ≡ front ++ item ∷ rest
     pub unlinked : IsUnlinked w config start (after_items w s front)
-    pub linked : IsLinked w (at_moment (after_items w s front) item.event.now) item.event.act (step w (after_items w s front) item.event)
+    pub linked : IsLinked w (at_moment (after_items w s front) item.event.now) item.event.act
+        (step w (after_items w s front) item.event)
     pub fresh : IsFresh config start (step w (after_items w s front) item.event).after
     pub goes_on : GoesOnAs s items (step w (after_items w s front) item.event).after rest
 
@@ -303,7 +329,8 @@ module _ {C : Type 0} (w : Ways C) where
     unlinked-room : (s : State C) → IsUnlinked w config start s → s.sending.blocks.room ≡ config.payload
     unlinked-room s unlinked = ap (λ (sending : Sending C). sending.blocks.room) unlinked.sending
 
-    connected-fresh : (s : State C) (peer : Peer) (origin : Origin) (emissions : List Emission) → IsUnlinked w config start s
+    connected-fresh : (s : State C) (peer : Peer) (origin : Origin) (emissions : List Emission)
+        → IsUnlinked w config start s
         → IsFresh config start (on_control (connected w s peer origin) heard.Connected emissions).after
     connected-fresh s peer origin emissions unlinked = record {
       connected = refl;
@@ -312,18 +339,21 @@ module _ {C : Type 0} (w : Ways C) where
       unmeasured = unlinked.unmeasured;
     }
 
-    linked-fresh : (s : State C) (act : Act) (outcome : Outcome C) → IsUnlinked w config start s → IsLinked w s act outcome
+    linked-fresh : (s : State C) (act : Act) (outcome : Outcome C) → IsUnlinked w config start s
+        → IsLinked w s act outcome
         → IsFresh config start outcome.after
     linked-fresh s act outcome unlinked linked =
         subst (λ (o : Outcome C). IsFresh config start o.after) (sym linked.outcome_is)
         (connected-fresh s linked.peer linked.from_whom linked.emissions unlinked)
 
-    quiet-item : (s : State C) (item : Item) (items : List Item) → AreLegal w s (item ∷ items) → Begins w config start s item.event
+    quiet-item : (s : State C) (item : Item) (items : List Item) → AreLegal w s (item ∷ items)
+        → Begins w config start s item.event
         → IsQuietItem s item
     unfolding AreLegal
     quiet-item s item items legal begins = record {
       nothing = subst (TellsNothing C item.event.act) (sym legal.0) begins.nothing;
-      emitted = λ emission among. emission-handshake (at_moment s item.event.now) item.event.act emission (begins.emits emission among);
+      emitted = λ emission among. emission-handshake (at_moment s item.event.now) item.event.act emission
+          (begins.emits emission among);
     }
 
     -- a socket that was never connected before some items was either connected with none of them, or with one
@@ -370,6 +400,13 @@ module _ {C : Type 0} (w : Ways C) where
   opened-unlinked own isn config now = record { mute = refl; sending = refl; receiving = refl; unmeasured = refl }
 
   -- and one that is opened as connected is as if a handshake had just connected it
-  pub opening-fresh : (own : ℕ) (config : Config) (peer : Peer) (now start : ℕ) → IsFresh config start (opening w own config peer now start)
+  pub opening-fresh : (own : ℕ) (config : Config) (peer : Peer) (now start : ℕ)
+      → IsFresh config start (opening w own config peer now start)
   unfolding opening
-  opening-fresh own config peer now start = record { connected = refl; sending = refl; receiving = refl; unmeasured = refl }
+  opening-fresh own config peer now start = record {
+    connected = refl;
+    sending = refl;
+    receiving = refl;
+    unmeasured =
+        refl;
+  }

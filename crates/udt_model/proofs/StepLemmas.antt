@@ -1,4 +1,5 @@
--- What events of a socket don't change: who it is, and from a settled phase on who its peer is, and the initial sequence numbers.
+-- What events of a socket don't change: who it is, and from a settled phase on who its peer is, and the initial
+-- sequence numbers.
 use Rattle.std.proofs.Common.{◌≡◌, ℕ, Bool, true, false, List, [], ◌∷◌, refl, ◌∙◌}
 use Rattle.std.specs.Prelude.{Option, Result, length}
 use Rattle.udt_model.specs.declared.addresses.Addr.{Addr}
@@ -67,7 +68,7 @@ module _ {C : Type 0} where
   pub same_name : (s : State C) → KeepsName s s
   same_name s = record { own = refl; kind = refl; isn = refl; opened = refl }
 
-  name_on : (s t u : State C) → KeepsName s t → KeepsName t u → KeepsName s u
+  pub name_on : (s t u : State C) → KeepsName s t → KeepsName t u → KeepsName s u
   name_on s t u first second = record {
     own = second.own ∙ first.own;
     kind = second.kind ∙ first.kind;
@@ -134,8 +135,16 @@ module _ {C : Type 0} where
   }
 
   -- nor do other fields tell who it is
-  others-keep : (s t : State C) (heard exp_from exp_count : ℕ) (rtt : RoundTrip) (counters : Counters) → KeepsIdentity s t
-      → KeepsIdentity s (record t { heard = heard; exp_from = exp_from; exp_count = exp_count; rtt = rtt; counters = counters })
+  others-keep : (s t : State C) (heard exp_from exp_count : ℕ) (rtt : RoundTrip) (counters : Counters)
+      → KeepsIdentity s t
+      → KeepsIdentity s (record t {
+        heard = heard;
+        exp_from = exp_from;
+        exp_count = exp_count;
+        rtt = rtt;
+        counters =
+            counters;
+      })
   others-keep s t heard exp_from exp_count rtt counters kept = record {
     own = kept.own;
     kind = kept.kind;
@@ -170,8 +179,10 @@ module _ {C : Type 0} where
   send-keeps s bytes Absent = same_identity s
 
   recv-keeps : (s : State C) (room : ℕ) (link : Link) → KeepsIdentity s (recv_in s room link).after
-  recv-keeps s room Stands = receiving-keeps s _ (after_receive-keeps s.receiving (length (received_by s.receiving room)))
-  recv-keeps s room (Lost why) = receiving-keeps s _ (after_receive-keeps s.receiving (length (received_by s.receiving room)))
+  recv-keeps s room Stands =
+      receiving-keeps s _ (after_receive-keeps s.receiving (length (received_by s.receiving room)))
+  recv-keeps s room (Lost why) =
+      receiving-keeps s _ (after_receive-keeps s.receiving (length (received_by s.receiving room)))
   recv-keeps s room Absent = same_identity s
 
   send_as-keeps : (s : State C) (bytes : List ℕ) (k : Kind) → KeepsIdentity s (send_as s bytes k).after
@@ -223,7 +234,8 @@ module _ {C : Type 0} (w : Ways C) where
 
   exp-keeps : (s : State C) (what : ExpOutcome) → KeepsIdentity s (after_exp w s what)
   exp-keeps s exp.NotDue = same_identity s
-  exp-keeps s exp.Breaks = phase-keeps s (phase.Broken cause.Expired) (follows-ended s.phase (phase.Broken cause.Expired) refl refl)
+  exp-keeps s exp.Breaks = phase-keeps s (phase.Broken cause.Expired)
+      (follows-ended s.phase (phase.Broken cause.Expired) refl refl)
   exp-keeps s exp.LosesAll =
       others-keep s (record s { sending = _ }) _ _ _ _ _ (sending-keeps s _ (after_timeout-keeps w s.sending s.rtt))
   exp-keeps s exp.KeepsAlive = others-keep s s _ _ _ _ _ (same_identity s)
@@ -233,38 +245,59 @@ module _ {C : Type 0} (w : Ways C) where
       → KeepsIdentity s (repeats s began again next emission).after
   repeats-keep s began again next emission unsettled =
       repeats-show s began again next emission (λ outcome. KeepsIdentity s outcome.after) (record {
-        fails = phase-keeps s (phase.Failed failure.TimedOut) (follows-ended s.phase (phase.Failed failure.TimedOut) refl refl);
+        fails = phase-keeps s (phase.Failed failure.TimedOut) (follows-ended s.phase (phase.Failed failure.TimedOut)
+            refl refl);
         again = phase-keeps s _ (λ settled. absurd (cc));
         waits = same_identity s;
       })
 
   tick-keeps : (s : State C) (phase : Phase) → s.phase ≡ phase → KeepsIdentity s (tick_in w s phase).after
-  tick-keeps s phase.Connected is = identity_on s (after_reports s) _ (reports-keep s) (exp-keeps (after_reports s) (exp_outcome s))
+  tick-keeps s phase.Connected is = identity_on s (after_reports s) _ (reports-keep s)
+      (exp-keeps (after_reports s) (exp_outcome s))
   tick-keeps s (phase.Connecting c again) is = repeats-keep s c.caller.began again _ _ (rw is refl)
   tick-keeps s (phase.Meeting m again) is = repeats-keep s m.caller.began again _ _ (rw is refl)
   tick-keeps s phase.Closing is = phase-keeps s phase.Closed (follows-ended s.phase phase.Closed refl refl)
   tick-keeps s _ is = same_identity s
 
-  on_read-keeps : (s : State C) (from : Addr) (result : Result Packet Malformed) → Keeps s (on_read w s from result).after
+  on_read-keeps : (s : State C) (from : Addr) (result : Result Packet Malformed)
+      → Keeps s (on_read w s from result).after
   on_read-keeps s from result = arrival-shows w s from (λ outcome. Keeps s outcome.after) result (record {
     passed = λ counters answer differs. all-kept s _ (others-keep s s _ _ _ _ _ (same_identity s));
     noticed = λ counters answer differs connected. all-kept s _ (others-keep s s _ _ _ _ _ (same_identity s));
     brought = λ number flags stamp bytes connected sender is.
-        all-kept s _ (others-keep s (record s { receiving = _ }) _ _ _ _ _ (receiving-keeps s _ (after_block-keeps s.receiving s.last number flags bytes)));
+        all-kept s _ (others-keep s (record s { receiving = _ }) _ _ _ _ _
+        (receiving-keeps s _ (after_block-keeps s.receiving s.last number flags bytes)));
     dropped = λ message stamp first last range connected sender is messages taken.
-        all-kept s _ (others-keep s (record s { receiving = _ }) _ _ _ _ _ (receiving-keeps s _ (with_taken-keeps s.receiving s.last range)));
+        all-kept s _ (others-keep s (record s { receiving = _ }) _ _ _ _ _
+        (receiving-keeps s _ (with_taken-keeps s.receiving s.last range)));
     acknowledged = λ number stamp body offset connected sender is acks.
-        all-kept s _ (others-keep s (record s { sending = _ }) _ _ _ _ _ (sending-keeps s _ (after_ack-keeps w s.sending s.rtt body)));
+        all-kept s _ (others-keep s (record s { sending = _ }) _ _ _ _ _
+        (sending-keeps s _ (after_ack-keeps w s.sending s.rtt body)));
     reported = λ stamp ranges connected sender is.
-        all-kept s _ (others-keep s (record s { sending = _ }) _ _ _ _ _ (sending-keeps s _ (after_nak-keeps w s.sending s.rtt ranges)));
+        all-kept s _ (others-keep s (record s { sending = _ }) _ _ _ _ _
+        (sending-keeps s _ (after_nak-keeps w s.sending s.rtt ranges)));
     confirmed = λ number ack connected found.
-        all-kept s _ (others-keep s (record s { receiving = _ }) _ _ _ _ _ (receiving-keeps s _ (after_ack2-keeps s.receiving number)));
-    ended = λ connected. all-kept s _ (others-keep s (record s { phase = _ }) _ _ _ _ _ (phase-keeps s (phase.Broken cause.PeerShutdown) (follows-ended s.phase (phase.Broken cause.PeerShutdown) refl refl)));
-    again = λ stamp dest shake answer connected sender is same answers. all-kept s _ (others-keep s s _ _ _ _ _ (same_identity s));
+        all-kept s _ (others-keep s (record s { receiving = _ }) _ _ _ _ _
+        (receiving-keeps s _ (after_ack2-keeps s.receiving number)));
+    ended = λ connected.
+        all-kept s _
+        (others-keep s (record s { phase = _ }) _ _ _ _ _
+        (phase-keeps s (phase.Broken cause.PeerShutdown) (follows-ended s.phase (phase.Broken cause.PeerShutdown)
+        refl refl)));
+    again = λ stamp dest shake answer connected sender is same answers.
+        all-kept s _ (others-keep s s _ _ _ _ _ (same_identity s));
     shaken = λ next peer origin answer emissions differs drops unsettled is.
-        record { name = record { own = refl; kind = refl; isn = refl; opened = refl }; identity = λ settled. absurd (cc) };
+        record {
+          name = record { own = refl; kind = refl; isn = refl; opened = refl };
+          identity =
+              λ settled. absurd (cc);
+        };
     linked = λ peer origin emissions unsettled is.
-        record { name = record { own = refl; kind = refl; isn = refl; opened = refl }; identity = λ settled. absurd (cc) };
+        record {
+          name = record { own = refl; kind = refl; isn = refl; opened = refl };
+          identity =
+              λ settled. absurd (cc);
+        };
   })
 
   on_act-keeps : (s : State C) (act : Act) → Keeps s (on_act w s act).after
@@ -313,20 +346,25 @@ module _ {C : Type 0} (w : Ways C) where
   unfolding after_items
   after_items-keeps_name s [] = same_name s
   after_items-keeps_name s (item ∷ items) =
-      name_on s (step w s item.event).after _ (step-keeps_name s item.event) (after_items-keeps_name (step w s item.event).after items)
+      name_on s (step w s item.event).after _ (step-keeps_name s item.event)
+      (after_items-keeps_name (step w s item.event).after items)
 
-  pub after_items-keeps : (s : State C) (items : List Item) → is_settled s.phase ≡ true → KeepsIdentity s (after_items w s items)
+  pub after_items-keeps : (s : State C) (items : List Item) → is_settled s.phase ≡ true
+      → KeepsIdentity s (after_items w s items)
   unfolding after_items
   after_items-keeps s [] settled = same_identity s
   after_items-keeps s (item ∷ items) settled =
       let kept = step-keeps s item.event settled in
-      identity_on s (step w s item.event).after _ kept (after_items-keeps (step w s item.event).after items (kept.settled settled))
+      identity_on s (step w s item.event).after _ kept (after_items-keeps (step w s item.event).after items
+      (kept.settled settled))
 
   -- a settled phase stays settled
-  pub after_items-settled : (s : State C) (items : List Item) → is_settled s.phase ≡ true → is_settled (after_items w s items).phase ≡ true
+  pub after_items-settled : (s : State C) (items : List Item) → is_settled s.phase ≡ true
+      → is_settled (after_items w s items).phase ≡ true
   after_items-settled s items settled = (after_items-keeps s items settled).settled settled
 
   -- a socket that is connected from its opening on is settled
-  pub opening-settled : (own : ℕ) (config : Config) (peer : Peer) (now start : ℕ) → is_settled (opening w own config peer now start).phase ≡ true
+  pub opening-settled : (own : ℕ) (config : Config) (peer : Peer) (now start : ℕ)
+      → is_settled (opening w own config peer now start).phase ≡ true
   unfolding opening
   opening-settled own config peer now start = refl

@@ -1,5 +1,5 @@
--- What a socket does that was never connected: it turns from phase to phase, emits handshakes and gives nothing, until a handshake
--- connects it.
+-- What a socket does that was never connected: it turns from phase to phase, emits handshakes and gives nothing, until
+-- a handshake connects it.
 use Rattle.std.proofs.Common.{◌≡◌, ℕ, zero, suc, Bool, true, false, List, [], ◌∷◌, Ok, Err, refl, ap, ◌∙◌, arith}
 use Rattle.std.specs.Prelude.{Option, None, Result, ◌==◌, length, take, if◌then◌else◌}
 use Rattle.std.proofs.lemmas.Bool.{ne_eqb}
@@ -66,7 +66,8 @@ given-silent : (reply : Reply) → is_silent reply ≡ true → given_by reply �
 given-silent (Received (Ok bytes)) silent = absurd (cc)
 given-silent _ silent = refl
 
-heard-silent : (answer : Heard) → (answer ≡ heard.Placed → ⊥) → (answer ≡ heard.Dropped → ⊥) → is_silent (DidHear answer) ≡ true
+heard-silent : (answer : Heard) → (answer ≡ heard.Placed → ⊥) → (answer ≡ heard.Dropped → ⊥)
+    → is_silent (DidHear answer) ≡ true
 heard-silent heard.Placed placed dropped = absurd (placed refl)
 heard-silent heard.Dropped placed dropped = absurd (dropped refl)
 heard-silent _ placed dropped = refl
@@ -115,7 +116,8 @@ unfolding bytes_from
 idle-received config start room = received-none room
 
 -- a byte that doesn't wait leaves no trace, nor does a message
-pub idle-after_receive : (config : Config) (start : ℕ) → after_receive (idle_receiving config start) 0 ≡ idle_receiving config start
+pub idle-after_receive : (config : Config) (start : ℕ) → after_receive (idle_receiving config start) 0
+    ≡ idle_receiving config start
 unfolding beginning
 idle-after_receive config start = refl
 
@@ -123,17 +125,20 @@ pub idle-next : (config : Config) (start : ℕ) → next_message (idle_receiving
 unfolding message_from
 idle-next config start = refl
 
-pub idle-after_message : (config : Config) (start room : ℕ) → after_receive_message (idle_receiving config start) room ≡ idle_receiving config start
+pub idle-after_message : (config : Config) (start room : ℕ) → after_receive_message (idle_receiving config start) room
+    ≡ idle_receiving config start
 unfolding message_from
 idle-after_message config start room =
-    elim (room == 0) as (λ empty. (if empty then idle_receiving config start else idle_receiving config start) ≡ idle_receiving config start) [
+    elim (room == 0) as (λ empty. (if empty then idle_receiving config start else idle_receiving config start)
+    ≡ idle_receiving config start) [
       | true ↦ refl
       | false ↦ refl
     ]
 
 given-none : (why : Refusal) (room : ℕ) → given_by (Received (answer_with why room [])) ≡ []
 given-none why room =
-    elim (room == 0) as (λ empty. given_by (Received (if empty then Ok [] else (if length none == 0 then Err why else Ok []))) ≡ []) [
+    elim (room == 0) as
+    (λ empty. given_by (Received (if empty then Ok [] else (if length none == 0 then Err why else Ok []))) ≡ []) [
       | true ↦ refl
       | false ↦ refl
     ]
@@ -148,7 +153,8 @@ module _ {C : Type 0} where
     Meets : (to : Addr) → s.phase ≡ phase.Opened → Turns s (meets s to)
     ListensOn : (b next : Backlog) → s.phase ≡ phase.Listening b → next.listening ≡ b.listening → next.most ≡ b.most
         → Turns s (phase.Listening next)
-    AsksOn : (c : Connecting) → (again next : ℕ) → s.phase ≡ phase.Connecting c again → Turns s (phase.Connecting c next)
+    AsksOn : (c : Connecting) → (again next : ℕ) → s.phase ≡ phase.Connecting c again
+        → Turns s (phase.Connecting c next)
     MeetsOn : (m : Meeting) → (again next : ℕ) → s.phase ≡ phase.Meeting m again → Turns s (phase.Meeting m next)
     Ends : (next : Phase) → is_settled next ≡ true → speaks next ≡ false → Turns s next
     Stays : (next : Phase) → s.phase ≡ next → Turns s next
@@ -163,7 +169,8 @@ module _ {C : Type 0} where
   accept-turns s (phase.Listening b) is = ListensOn b _ is refl refl
   accept-turns s _ is = Stays _ is
 
-  offered-turns : (s : State C) (b : Backlog) (id promised : ℕ) → s.phase ≡ phase.Listening b → Turns s (phase.Listening (with_offer b id promised))
+  offered-turns : (s : State C) (b : Backlog) (id promised : ℕ) → s.phase ≡ phase.Listening b
+      → Turns s (phase.Listening (with_offer b id promised))
   offered-turns s b id zero is = Stays _ is
   offered-turns s b id (suc promised) is = ListensOn b _ is refl refl
 
@@ -227,19 +234,23 @@ module _ {C : Type 0} (w : Ways C) where
     pub counts : (counters : Counters) (answer : Heard) → TellsNothing C act (DidHear answer)
         → P (answered (record s { counters = counters }) (DidHear answer))
     -- a handshake arrives
-    pub shaken : (from : Addr) (raw : List ℕ) (next : Phase) (peer : Peer) (from_whom : Origin) (answer : Heard) (emissions : List Emission)
-        → act ≡ Arrive from raw → Shakes s from (read raw) next peer from_whom answer emissions → TellsNothing C act (DidHear answer)
+    pub shaken : (from : Addr) (raw : List ℕ) (next : Phase) (peer : Peer) (from_whom : Origin) (answer : Heard)
+        (emissions : List Emission)
+        → act ≡ Arrive from raw → Shakes s from (read raw) next peer from_whom answer emissions
+        → TellsNothing C act (DidHear answer)
         → P (on_control (record s { phase = next; peer = peer; origin = from_whom }) answer emissions)
     -- and connects it
     pub linked : (from : Addr) (raw : List ℕ) (peer : Peer) (from_whom : Origin) (emissions : List Emission)
-        → act ≡ Arrive from raw → Links w s from (read raw) peer from_whom emissions → TellsNothing C act (DidHear heard.Connected)
+        → act ≡ Arrive from raw → Links w s from (read raw) peer from_whom emissions
+        → TellsNothing C act (DidHear heard.Connected)
         → P (on_control (connected w s peer from_whom) heard.Connected emissions)
 
   module _ (s : State C) (act : Act) (P : Outcome C → Type 0) (cases : OfUnlinked s act P) where
     stays-shows : (reply : Reply) → is_silent reply ≡ true → P (answered s reply)
     stays-shows reply silent = cases.turns s.phase reply [] (Stays s.phase refl) (silent-tells act reply silent)
 
-    turned-shows : (next : Phase) (reply : Reply) → is_silent reply ≡ true → Turns s next → P (answered (record s { phase = next }) reply)
+    turned-shows : (next : Phase) (reply : Reply) → is_silent reply ≡ true → Turns s next
+        → P (answered (record s { phase = next }) reply)
     turned-shows next reply silent turns = cases.turns next reply [] turns (silent-tells act reply silent)
 
     send-shows : (bytes : List ℕ) (link : Link) → (link ≡ Stands → ⊥) → P (send_in s bytes link)
@@ -267,7 +278,8 @@ module _ {C : Type 0} (w : Ways C) where
     pack-shows (Lost why) mute = stays-shows _ refl
     pack-shows Absent mute = stays-shows _ refl
 
-    repeats-turns : (began again : ℕ) (next : Phase) (emission : Emission) → Turns s next → P (repeats s began again next emission)
+    repeats-turns : (began again : ℕ) (next : Phase) (emission : Emission) → Turns s next
+        → P (repeats s began again next emission)
     repeats-turns began again next emission turns = repeats-show s began again next emission P (record {
       fails = turned-shows _ DidTick refl (Ends _ refl refl);
       again = cases.turns next DidTick (emission ∷ []) turns (silent-tells act DidTick refl);
@@ -293,11 +305,13 @@ module _ {C : Type 0} (w : Ways C) where
     dropped = λ s. refl;
   }
 
-  shown-none : (s : State C) (room : ℕ) (why : Refusal) → shown_by s (RecvMessage room) (ReceivedMessage (answer_message why room None)) ≡ []
+  shown-none : (s : State C) (room : ℕ) (why : Refusal)
+      → shown_by s (RecvMessage room) (ReceivedMessage (answer_message why room None)) ≡ []
   shown-none s zero why = refl
   shown-none s (suc room) why = rw (ne_eqb (suc room) 0 (λ is. omega (arith, is))) refl
 
-  message-tells : (room : ℕ) (why : Refusal) → TellsNothing C (RecvMessage room) (ReceivedMessage (answer_message why room None))
+  message-tells : (room : ℕ) (why : Refusal)
+      → TellsNothing C (RecvMessage room) (ReceivedMessage (answer_message why room None))
   message-tells room why = record {
     taken = refl;
     given = refl;
@@ -307,17 +321,21 @@ module _ {C : Type 0} (w : Ways C) where
     dropped = λ s. refl;
   }
 
-  module _ (config : Config) (start : ℕ) (s : State C) (P : Outcome C → Type 0) (unlinked : IsUnlinked config start s) where
+  module _ (config : Config) (start : ℕ) (s : State C) (P : Outcome C → Type 0)
+      (unlinked : IsUnlinked config start s) where
     -- no byte waits, and no message is readable
     gives-none : (room : ℕ) (why : Refusal) (bytes : List ℕ) (next : Receiving) → bytes ≡ [] → next ≡ s.receiving
-        → P (answered s (Received (answer_with why room []))) → P (answered (record s { receiving = next }) (Received (answer_with why room bytes)))
+        → P (answered s (Received (answer_with why room [])))
+        → P (answered (record s { receiving = next }) (Received (answer_with why room bytes)))
     gives-none room why bytes next is same shows = rw (is, same) shows
 
     gives-shows : (room : ℕ) (why : Refusal) → OfUnlinked s (Recv room) P → P (gives s room why)
     gives-shows room why cases =
         let none_waits : received_by s.receiving room ≡ [] = rw unlinked.receiving (idle-received config start room) in
-        let stays : after_receive s.receiving 0 ≡ s.receiving = rw unlinked.receiving (idle-after_receive config start) in
-        gives-none room why _ _ none_waits (ap (λ (bytes : List ℕ). after_receive s.receiving (length bytes)) none_waits ∙ stays)
+        let stays : after_receive s.receiving 0 ≡ s.receiving = rw unlinked.receiving (idle-after_receive config start)
+        in
+        gives-none room why _ _ none_waits (ap (λ (bytes : List ℕ). after_receive s.receiving (length bytes)) none_waits
+        ∙ stays)
         (cases.turns s.phase (Received (answer_with why room [])) [] (Stays s.phase refl) (recv-tells room why))
 
     recv-shows : (room : ℕ) (link : Link) → (link ≡ Stands → ⊥) → OfUnlinked s (Recv room) P → P (recv_in s room link)
@@ -325,34 +343,42 @@ module _ {C : Type 0} (w : Ways C) where
     recv-shows room (Lost why) mute cases = gives-shows room _ cases
     recv-shows room Absent mute cases = stays-shows s (Recv room) P cases _ refl
 
-    recv_as-shows : (room : ℕ) (k : Kind) → (link_of s.phase ≡ Stands → ⊥) → OfUnlinked s (Recv room) P → P (recv_as s room k)
+    recv_as-shows : (room : ℕ) (k : Kind) → (link_of s.phase ≡ Stands → ⊥) → OfUnlinked s (Recv room) P
+        → P (recv_as s room k)
     recv_as-shows room kind.Stream mute cases = recv-shows room (link_of s.phase) mute cases
     recv_as-shows room kind.Message mute cases = stays-shows s (Recv room) P cases _ refl
 
-    message-none : (room : ℕ) (why : Refusal) (found : Option WholeMessage) (next : Receiving) → found ≡ None → next ≡ s.receiving
+    message-none : (room : ℕ) (why : Refusal) (found : Option WholeMessage) (next : Receiving) → found ≡ None
+        → next ≡ s.receiving
         → P (answered s (ReceivedMessage (answer_message why room None)))
         → P (answered (record s { receiving = next }) (ReceivedMessage (answer_message why room found)))
     message-none room why found next is same shows = rw (is, same) shows
 
     gives_message-shows : (room : ℕ) (why : Refusal) → OfUnlinked s (RecvMessage room) P → P (gives_message s room why)
     gives_message-shows room why cases =
-        message-none room why _ _ (rw unlinked.receiving (idle-next config start)) (rw unlinked.receiving (idle-after_message config start room))
-        (cases.turns s.phase (ReceivedMessage (answer_message why room None)) [] (Stays s.phase refl) (message-tells room why))
+        message-none room why _ _ (rw unlinked.receiving (idle-next config start))
+        (rw unlinked.receiving (idle-after_message config start room))
+        (cases.turns s.phase (ReceivedMessage (answer_message why room None)) [] (Stays s.phase refl)
+        (message-tells room why))
 
-    recv_message-shows : (room : ℕ) (link : Link) → (link ≡ Stands → ⊥) → OfUnlinked s (RecvMessage room) P → P (recv_message_in s room link)
+    recv_message-shows : (room : ℕ) (link : Link) → (link ≡ Stands → ⊥) → OfUnlinked s (RecvMessage room) P
+        → P (recv_message_in s room link)
     recv_message-shows room Stands mute cases = absurd (mute refl)
     recv_message-shows room (Lost why) mute cases = gives_message-shows room _ cases
     recv_message-shows room Absent mute cases = stays-shows s (RecvMessage room) P cases _ refl
 
-    recv_message_as-shows : (room : ℕ) (k : Kind) → (link_of s.phase ≡ Stands → ⊥) → OfUnlinked s (RecvMessage room) P → P (recv_message_as s room k)
+    recv_message_as-shows : (room : ℕ) (k : Kind) → (link_of s.phase ≡ Stands → ⊥) → OfUnlinked s (RecvMessage room) P
+        → P (recv_message_as s room k)
     recv_message_as-shows room kind.Stream mute cases = stays-shows s (RecvMessage room) P cases _ refl
     recv_message_as-shows room kind.Message mute cases = recv_message-shows room (link_of s.phase) mute cases
 
     -- ---- arrivals
 
-    read-shows : (from : Addr) (raw : List ℕ) (result : Result Packet Malformed) → read raw ≡ result → OfUnlinked s (Arrive from raw) P
+    read-shows : (from : Addr) (raw : List ℕ) (result : Result Packet Malformed) → read raw ≡ result
+        → OfUnlinked s (Arrive from raw) P
         → P (on_read w s from result)
-    read-shows from raw (Err why) is cases = cases.counts _ (heard.Malformed why) (silent-tells (Arrive from raw) _ refl)
+    read-shows from raw (Err why) is cases =
+        cases.counts _ (heard.Malformed why) (silent-tells (Arrive from raw) _ refl)
     read-shows from raw (Ok packet) is cases =
         packet-shows w s from (read raw) P (record {
           stale = cases.counts _ heard.Stale (silent-tells (Arrive from raw) _ refl);
@@ -366,7 +392,8 @@ module _ {C : Type 0} (w : Ways C) where
     -- what holds of all these outcomes holds of each act
     pub unlinked-shows : (act : Act) → OfUnlinked s act P → P (on_act w s act)
     unlinked-shows (Listen most secret) cases =
-        turned-shows s (Listen most secret) P cases _ _ refl (begun-turns s (is_backlog most) s.phase _ refl (λ is. Listens most secret is))
+        turned-shows s (Listen most secret) P cases _ _ refl
+        (begun-turns s (is_backlog most) s.phase _ refl (λ is. Listens most secret is))
     unlinked-shows (Connect to) cases =
         turned-shows s (Connect to) P cases _ _ refl (begun-turns s (has_port to) s.phase _ refl (λ is. Asks to is))
     unlinked-shows (Meet to) cases =
@@ -375,11 +402,14 @@ module _ {C : Type 0} (w : Ways C) where
     unlinked-shows Shake cases = stays-shows s Shake P cases _ refl
     unlinked-shows (Offer id) cases = turned-shows s (Offer id) P cases _ _ refl (offer-turns s id s.phase refl)
     unlinked-shows Withdraw cases = turned-shows s Withdraw P cases _ _ refl (withdraw-turns s s.phase refl)
-    unlinked-shows (Send bytes) cases = send_as-shows s (Send bytes) P cases bytes s.kind (mute-absent s.phase unlinked.mute)
+    unlinked-shows (Send bytes) cases = send_as-shows s (Send bytes) P cases bytes s.kind
+        (mute-absent s.phase unlinked.mute)
     unlinked-shows (Recv room) cases = recv_as-shows room s.kind (mute-absent s.phase unlinked.mute) cases
     unlinked-shows (SendMessage ttl order bytes) cases =
-        send_message_as-shows s (SendMessage ttl order bytes) P cases ttl order bytes s.kind (mute-absent s.phase unlinked.mute)
-    unlinked-shows (RecvMessage room) cases = recv_message_as-shows room s.kind (mute-absent s.phase unlinked.mute) cases
+        send_message_as-shows s (SendMessage ttl order bytes) P cases ttl order bytes s.kind
+        (mute-absent s.phase unlinked.mute)
+    unlinked-shows (RecvMessage room) cases = recv_message_as-shows room s.kind (mute-absent s.phase unlinked.mute)
+        cases
     unlinked-shows Pack cases = pack-shows s Pack P cases (link_of s.phase) (mute-absent s.phase unlinked.mute)
     unlinked-shows Tick cases = tick-shows s Tick P cases s.phase refl unlinked.mute
     unlinked-shows Close cases = turned-shows s Close P cases _ _ refl (closed-turns s s.phase unlinked.mute)

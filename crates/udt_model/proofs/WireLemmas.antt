@@ -1,9 +1,9 @@
 -- Each packet whose numbers are in range reads back from its spelling, and bytes are for the destination of the packet
 -- that they are read as.
-use Rattle.std.proofs.Common.{◌≡◌, ℕ, ◌+◌, ◌*◌, ◌%◌, ◌/◌, ◌^◌, ◌<◌, ◌≤◌, Bool, true, false, ℤ, List, [], ◌++◌, drop, Option, Some, None, Result, Ok, Err, refl, sym, ap, subst, ◌∙◌, arith, inl, inr}
-use Rattle.std.specs.Prelude.{FitsSigned, nat_le, nat_lt, length, ◌==◌, if◌then◌else◌, All}
+use Rattle.std.proofs.Common.{◌≡◌, ℕ, ◌+◌, ◌*◌, ◌%◌, ◌/◌, ◌^◌, ◌<◌, ◌≤◌, Bool, true, false, ℤ, List, [], ◌++◌, drop, Option, Some, None, Result, Ok, Err, refl, sym, ap, ◌∙◌, arith, inl, inr}
+use Rattle.std.specs.Prelude.{nat_le, nat_lt, length, ◌==◌, if◌then◌else◌, All}
 use Rattle.std.specs.Int.{w32, cast_signed, cast_unsigned}
-use Rattle.std.proofs.lemmas.Bool.{cases_lt, lt-ltb, le-ltb, ltb-false}
+use Rattle.std.proofs.lemmas.Bool.{cases_lt, lt-ltb, le-ltb}
 use Rattle.std.proofs.lemmas.Bool.Decides.{nat_tests}
 use Rattle.std.proofs.lemmas.List.{take_all, length-take, length-drop}
 use Rattle.std.proofs.Math.Facts.{to_z-of_z, Fits-of_z, sfits_to_z}
@@ -14,7 +14,7 @@ use Rattle.udt_model.specs.declared.packets.AckBody.TheVariants.{Light, Buffer, 
 use Rattle.udt_model.specs.declared.packets.Malformed.{Malformed}
 use Rattle.udt_model.specs.declared.packets.Malformed.TheVariants.{TooShort, BadHandshakeLength, BadDropLength, BadAckLength}
 use Rattle.udt_model.proofs.RangeLemmas.{word_of-word, ranges_of-bytes}
-use Rattle.udt_model.specs.Wire.{Packet, Block, Handshake, KeepAlive, Ack, Nak, Shutdown, Ack2, DropAsk, WireRange, ControlType, HandshakeType, KeepAliveType, AckType, NakType, ShutdownType, Ack2Type, DropAskType, NoType, control_type, bit, flags_word, flags_of, type_word, type_of, word, word_at, number_at, header, shake_bytes, ack_bytes, ranges_bytes, spelling, destination, IsShakeInRange, IsAckInRange, IsRange, IsInRange, block_of, shake_of, ack_of, ranges_of, read_shake, read_losses, read_control, read, target}
+use Rattle.udt_model.specs.Wire.{Packet, Block, Handshake, KeepAlive, Ack, Nak, Shutdown, Ack2, DropAsk, WireRange, ControlType, HandshakeType, KeepAliveType, AckType, NakType, ShutdownType, Ack2Type, DropAskType, NoType, control_type, bit, flags_word, flags_of, type_word, type_of, word, word_at, number_at, header, shake_bytes, ack_bytes, ranges_bytes, spelling, destination, IsShakeInRange, IsAckInRange, IsRange, IsInRange, block_of, shake_of, ack_of, ranges_of, read_losses, read_control, read, target}
 
 -- ---- flags
 
@@ -88,22 +88,22 @@ flags-read flags fits = flags_from-same _ _ _ _ _ _ _ _
 -- ---- headers
 
 module _ (first second third fourth : ℕ) (field : List ℕ) where
-  length-header : length (header first second third fourth ++ field) ≡ 16 + length field
+  pub length-header : length (header first second third fourth ++ field) ≡ 16 + length field
   length-header = omega arith
 
-  first_word : first < 2 ^ 32 → word_at 0 (header first second third fourth ++ field) ≡ first
+  pub first_word : first < 2 ^ 32 → word_at 0 (header first second third fourth ++ field) ≡ first
   first_word fits = word_of-word first fits
 
-  second_word : second < 2 ^ 32 → word_at 4 (header first second third fourth ++ field) ≡ second
+  pub second_word : second < 2 ^ 32 → word_at 4 (header first second third fourth ++ field) ≡ second
   second_word fits = word_of-word second fits
 
   third_word : third < 2 ^ 32 → word_at 8 (header first second third fourth ++ field) ≡ third
   third_word fits = word_of-word third fits
 
-  fourth_word : fourth < 2 ^ 32 → word_at 12 (header first second third fourth ++ field) ≡ fourth
+  pub fourth_word : fourth < 2 ^ 32 → word_at 12 (header first second third fourth ++ field) ≡ fourth
   fourth_word fits = word_of-word fourth fits
 
-  field-header : drop 16 (header first second third fourth ++ field) ≡ field
+  pub field-header : drop 16 (header first second third fourth ++ field) ≡ field
   field-header = refl
 
 -- bytes whose first bit is set are read by the type that they tell
@@ -148,7 +148,7 @@ shake_from-same : (a b c d e f g h i j : ℕ) (y z : ℤ) (k l m n : ℕ) (x w :
 shake_from-same a b c d e f g h i j y z k l m n x w p q r s t u v o aa = cc
 
 -- a packet number that fits reads back
-number-reads : (n m : ℕ) → n < 2 ^ 31 → m ≡ n → m % 2 ^ 31 ≡ n
+pub number-reads : (n m : ℕ) → n < 2 ^ 31 → m ≡ n → m % 2 ^ 31 ≡ n
 number-reads n m fits same = omega arith
 
 -- a handshake reads back
@@ -358,84 +358,4 @@ shake_of-in_range field long = record {
   id = word_at-below 24 field;
   cookie = word_at-below 28 field;
   address = omega (arith, length-take 16 (drop 32 field), length-drop 32 field);
-}
-
-shake-long : (stamp dest : ℕ) (field : List ℕ) (packet : Packet) → read_shake stamp dest field ≡ Ok packet
-    → IsShakeInRange (shake_of field) × (Handshake stamp dest (shake_of field) ≡ packet)
-shake-long stamp dest field packet reads =
-    let is = read_long (nat_lt (length field) 48) BadHandshakeLength (Handshake stamp dest (shake_of field)) packet reads in
-    (shake_of-in_range field (ltb-false (length field) 48 is.0), is.1)
-
-losses-no_shake : (stamp dest s d : ℕ) (ranges : Option (List WireRange)) (shake : Shake) → read_losses stamp dest ranges ≡ Ok (Handshake s d shake) → ⊥
-losses-no_shake stamp dest s d (Some ranges) shake reads = cc
-losses-no_shake stamp dest s d None shake reads = cc
-
--- a handshake that was read, of the words of its header
-control-shake : (type : ControlType) (info stamp dest : ℕ) (field : List ℕ) (s d : ℕ) (shake : Shake)
-    → read_control type info stamp dest field ≡ Ok (Handshake s d shake)
-    → IsShakeInRange (shake_of field) × (Handshake stamp dest (shake_of field) ≡ Handshake s d shake)
-unfolding read_control
-control-shake HandshakeType info stamp dest field s d shake reads = shake-long stamp dest field (Handshake s d shake) reads
-control-shake AckType info stamp dest field s d shake reads =
-    let is = (read_long (nat_lt (length field) 4) BadAckLength (Ack info stamp dest (ack_of field)) (Handshake s d shake) reads).1 in
-    absurd (cc)
-control-shake NakType info stamp dest field s d shake reads = absurd (losses-no_shake stamp dest s d (ranges_of field) shake reads)
-control-shake DropAskType info stamp dest field s d shake reads =
-    let is =
-    (read_long (nat_lt (length field) 8) BadDropLength (DropAsk (info % 2 ^ 29) stamp dest (number_at 0 field) (number_at 4 field)) (Handshake s d shake) reads).1 in
-    absurd (cc)
-control-shake _ info stamp dest field s d shake reads = absurd (cc)
-
-chosen-shake : (data_bit : Bool) (block : List ℕ) (control : Result Packet Malformed) (s d : ℕ) (shake : Shake)
-    → (if data_bit then Ok (block_of block) else control) ≡ Ok (Handshake s d shake) → control ≡ Ok (Handshake s d shake)
-chosen-shake true block control s d shake reads = absurd (cc)
-chosen-shake false block control s d shake reads = reads
-
--- each handshake that is read has numbers in range
-pub read-in_range : (bytes : List ℕ) (stamp dest : ℕ) (shake : Shake) → read bytes ≡ Ok (Handshake stamp dest shake)
-    → IsInRange (Handshake stamp dest shake)
-unfolding read
-read-in_range bytes stamp dest shake reads =
-    let long : nat_lt (length bytes) 16 ≡ false = le-ltb (length bytes) 16 (read-has_header bytes (Handshake stamp dest shake) reads) in
-    let is =
-    control-shake (control_type (type_of (word_at 0 bytes))) (word_at 4 bytes) (word_at 8 bytes) (word_at 12 bytes) (drop 16 bytes) stamp dest shake
-    (chosen-shake (nat_lt (word_at 0 bytes) (2 ^ 31)) bytes _ stamp dest shake (rw long at reads)) in
-    subst IsInRange is.1 (is.0, word_at-below 8 bytes, word_at-below 12 bytes)
-
--- what a handshake's spelling is read as is a handshake for the same ID, of the same type, ID and initial sequence number, where these fit
--- their places
-pub record IsReadShake (stamp dest : ℕ) (shake : Shake) (packet : Packet) : Type 0 where
-  pub read_stamp : ℕ
-  pub read_dest : ℕ
-  pub read_shake : Shake
-  pub is : packet ≡ Handshake read_stamp read_dest read_shake
-  pub same_dest : dest < 2 ^ 32 → read_dest ≡ dest
-  pub same_ask : FitsSigned w32 shake.ask → read_shake.ask ≡ shake.ask
-  pub same_id : shake.id < 2 ^ 32 → read_shake.id ≡ shake.id
-  pub same_isn : shake.isn < 2 ^ 31 → read_shake.isn ≡ shake.isn
-
-shake-field : (stamp dest : ℕ) (shake : Shake) (packet : Packet) → read (spelling (Handshake stamp dest shake)) ≡ Ok packet
-    → Handshake (word_at 8 (spelling (Handshake stamp dest shake))) (word_at 12 (spelling (Handshake stamp dest shake))) (shake_of (shake_bytes shake)) ≡ packet
-unfolding spelling read_control
-shake-field stamp dest shake packet reads =
-    let field = shake_bytes shake in
-    let bytes = header (type_word 0) 0 stamp dest ++ field in
-    let is =
-    read-ack_emitted bytes (type_word 0) 0 (word_at 8 bytes) (word_at 12 bytes) field (omega (arith, length-header (type_word 0) 0 stamp dest field))
-    (omega arith) (first_word (type_word 0) 0 stamp dest field (omega arith)) (second_word (type_word 0) 0 stamp dest field (omega arith))
-    refl refl (field-header (type_word 0) 0 stamp dest field) in
-    (shake-long (word_at 8 bytes) (word_at 12 bytes) field packet (sym is ∙ reads)).1
-
-pub read-shake_spelling : (stamp dest : ℕ) (shake : Shake) (packet : Packet) → read (spelling (Handshake stamp dest shake)) ≡ Ok packet
-    → IsReadShake stamp dest shake packet
-unfolding spelling
-read-shake_spelling stamp dest shake packet reads = record {
-  read_stamp = word_at 8 (spelling (Handshake stamp dest shake));
-  read_dest = word_at 12 (spelling (Handshake stamp dest shake));
-  read_shake = shake_of (shake_bytes shake);
-  is = sym (shake-field stamp dest shake packet reads);
-  same_dest = λ fits. fourth_word (type_word 0) 0 stamp dest (shake_bytes shake) fits;
-  same_ask = λ fits. ap (cast_signed w32) (word_of-word (cast_unsigned w32 shake.ask) (Fits-of_z fits).fits) ∙ to_z-of_z fits;
-  same_id = λ fits. word_of-word shake.id fits;
-  same_isn = λ fits. number-reads shake.isn _ fits (word_of-word shake.isn (omega arith));
 }

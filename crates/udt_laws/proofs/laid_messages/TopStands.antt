@@ -87,4 +87,5 @@ module _ (low high : ℕ) where
       tells = λ now known. subst (StandsBetween low high)
           (sym (reports-leave s.receiving now known).top) stands;
       confirms = λ number. subst (StandsBetween low high) (sym (ack2-leaves s.receiving number).top) stands;
+      links = λ now peer unsettled. stands;
     })

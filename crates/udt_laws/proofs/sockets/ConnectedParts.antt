@@ -1,0 +1,230 @@
+-- The history of a socket since it was connected, which begins as connected: all of it, where the socket was opened so, and else what follows
+-- the handshake that connected it. Before, nothing is taken or given, and no more than handshakes are emitted.
+use Rattle.std.proofs.Common.{◌≡◌, ℕ, ◌+◌, ◌^◌, ◌<◌, ◌≤◌, true, false, List, [], ◌∷◌, ◌++◌, Ok, refl, ap, ◌∙◌, sym, subst, inl, inr, ◌⊎◌, arith}
+use Rattle.std.specs.List.{Contains}
+use Rattle.udt_model.specs.declared.addresses.Addr.{Addr}
+use Rattle.udt_model.specs.declared.answers.Heard.TheVariants as heard
+use Rattle.udt_model.specs.declared.answers.Origin.{Origin}
+use Rattle.udt_model.specs.declared.answers.Origin.TheVariants as origin
+use Rattle.udt_model.specs.declared.answers.Peer.{Peer}
+use Rattle.udt_model.specs.declared.packets.Config.{Config}
+use Rattle.udt_model.specs.Counted.{on_control}
+use Rattle.udt_model.specs.Emissions.{emitted, emitted_by}
+use Rattle.udt_model.specs.Events.{Outcome, at_moment}
+use Rattle.udt_model.specs.History.{Item, History, after_items, state_of, start_of, AreLegal, IsLegal, acked}
+use Rattle.udt_model.specs.Honest.{AreHonest}
+use Rattle.udt_model.specs.Opening.{connected, opened, opening, IsOpened, IsOpening}
+use Rattle.udt_model.specs.Rate.{Ways}
+use Rattle.udt_model.specs.Records.{Way, Opened, Paired, PairedAt, IsWay, opened_by, Enrolled, IsSocket, EndpointRecord, PeerPair, peer_by, own_peer}
+use Rattle.udt_model.specs.SendHalf.{Sending}
+use Rattle.udt_model.specs.State.{State, Emission}
+use Rattle.udt_model.specs.Step.{step}
+use Rattle.udt_model.specs.Wire.{Packet, is_handshake, read}
+use Rattle.udt_model.proofs.ConnectedBy.{IsMet, opened-met}
+use Rattle.udt_model.proofs.PeerLemmas.{IsKnown, has_peer, way-known, items-known}
+use Rattle.udt_model.proofs.SettlingLemmas.{IsHandshake, AreQuiet, GoesOnAs, IsLinked, IsConnectedAt, at_moment-unlinked, items-begin, opened-unlinked}
+use Rattle.udt_model.proofs.ShakeLemmas.{known-after, peer-fits, way-own}
+use Rattle.udt_model.proofs.SpellingLemmas.{read-shake_spelling}
+use Rattle.udt_model.proofs.StepLemmas.{KeepsName, same_name, step-keeps_name, after_items-keeps_name}
+use Rattle.udt_model.proofs.UnlinkedLemmas.{IsUnlinked}
+use Rattle.udt_laws.proofs.sockets.Begins.{Begins, is_somebody}
+use Rattle.udt_laws.proofs.sockets.Opened.{opened_own, opening-begins}
+use Rattle.udt_laws.proofs.sockets.SuitedPeers.{AgreesIn, items-agree, unlinked-some, IsSuited, links-suited}
+
+-- what is emitted as a handshake is read as nothing else
+pub emitted-handshake : (emission : Emission) (packet : Packet) → IsHandshake emission → read emission.datagram.bytes ≡ Ok packet
+    → is_handshake packet ≡ true
+emitted-handshake emission packet is reads =
+    let told = read-shake_spelling is.stamp is.dest is.shake packet (ap (λ (e : Emission). read e.datagram.bytes) (sym is.is) ∙ reads) in
+    ap is_handshake told.is
+
+has-somebody : (from : Origin) → has_peer from ≡ true → is_somebody from
+has-somebody origin.Nobody has = absurd (cc)
+has-somebody _ has = tt
+
+module _ {C : Type 0} (w : Ways C) where
+  -- ---- what an honest history is since an item
+
+  honest-rest : (net : List (EndpointRecord C)) (addr : Addr) (s : State C) (front rest : List Item) → AreHonest w net addr s (front ++ rest)
+      → AreHonest w net addr (after_items w s front) rest
+  unfolding AreHonest after_items
+  honest-rest net addr s [] rest honest = honest
+  honest-rest net addr s (item ∷ front) rest honest = honest-rest net addr (step w s item.event).after front rest honest.1
+
+  honest-since : (net : List (EndpointRecord C)) (addr : Addr) (s : State C) (front : List Item) (item : Item) (rest items : List Item)
+      → items ≡ front ++ item ∷ rest → AreHonest w net addr s items
+      → AreHonest w net addr (step w (after_items w s front) item.event).after rest
+  unfolding AreHonest
+  honest-since net addr s front item rest items joined honest =
+      (honest-rest net addr s front (item ∷ rest) (subst (AreHonest w net addr s) joined honest)).1
+
+  -- ---- since a socket was connected
+
+  -- the part of a history since the socket was connected
+  pub record ConnectedPart (h : History C) : Type 0 where
+    pub part : History C
+    pub begins : Begins w part
+    pub goes_on : GoesOnAs w h.opening h.items part.opening part.items
+    pub name : KeepsName h.opening part.opening
+    pub same_start : start_of part ≡ start_of h
+    pub honest : (net : List (EndpointRecord C)) (addr : Addr) → AreHonest w net addr h.opening h.items
+        → AreHonest w net addr part.opening part.items
+
+  -- a socket that was never connected
+  pub record NeverConnected (h : History C) : Type 0 where
+    pub config : Config
+    pub quiet : AreQuiet w h.opening h.items
+    pub still : IsUnlinked w config 0 (state_of w h)
+    pub begun : start_of h ≡ 0
+
+  -- ---- a socket that was opened as connected
+
+  goes_on : (s : State C) (items : List Item) → AreLegal w s items → GoesOnAs w s items s items
+  goes_on s items legal = record {
+    accepted = refl;
+    delivered = refl;
+    placed = refl;
+    asked = refl;
+    shown = refl;
+    dropped = refl;
+    emitted = λ emission among. inr among;
+    emits = λ emission among. among;
+    arrived = λ datagram among. among;
+    ends = refl;
+    legal = legal;
+  }
+
+  opening-part : (own : ℕ) (config : Config) (peer : Peer) (now start : ℕ) (h : History C) → IsOpening own config peer start
+      → h.opening ≡ opening w own config peer now start → IsLegal w h → ConnectedPart h
+  opening-part own config peer now start h in_range is legal = record {
+    part = h;
+    begins = opening-begins w own config peer now start h is in_range legal;
+    goes_on = goes_on h.opening h.items legal;
+    name = same_name h.opening;
+    same_start = refl;
+    honest = λ net addr honest. honest;
+  }
+
+  -- ---- a socket that was opened without a connection
+
+  linked-peer : (s : State C) (peer : Peer) (from_whom : Origin) (emissions : List Emission) (outcome : Outcome C)
+      → outcome ≡ on_control (connected w s peer from_whom) heard.Connected emissions → outcome.after.peer ≡ peer
+  linked-peer s peer from_whom emissions outcome is = ap (λ (o : Outcome C). o.after.peer) is
+
+  module _ (own isn : ℕ) (config : Config) (now : ℕ) (h : History C) (in_range : IsOpened own isn config)
+      (is : h.opening ≡ opened w own isn config now) (legal : IsLegal w h) where
+    opened_name : h.opening.own ≡ own
+    unfolding opened
+    opened_name = ap (λ (s : State C). s.own) is
+
+    opened_number : h.opening.isn ≡ isn
+    unfolding opened
+    opened_number = ap (λ (s : State C). s.isn) is
+
+    opened_start : start_of h ≡ 0
+    unfolding opened
+    opened_start = ap (λ (s : State C). s.sending.blocks.first) is
+
+    opened_agrees : AgreesIn h.opening.phase
+    unfolding opened
+    opened_agrees = subst (λ (s : State C). AgreesIn s.phase) (sym is) tt
+
+    begins_unlinked : IsUnlinked w config 0 h.opening
+    begins_unlinked = subst (IsUnlinked w config 0) (sym is) (opened-unlinked w own isn config now)
+
+    -- the handshake that connects it suits
+    pub suited : (at : IsConnectedAt w config 0 h.opening h.items)
+        → IsSuited (at_moment (after_items w h.opening at.front) at.item.event.now) at.linked.raw at.linked.peer
+    suited at =
+        let t = after_items w h.opening at.front in
+        let way = Opened isn config now in
+        let begun = subst (IsKnown w config 0) (sym is) (way-known w own way) in
+        let known = items-known w config 0 h.opening at.front begun in
+        let agrees = items-agree w config 0 h.opening at.front in_range.values.payload begun opened_agrees in
+        links-suited w (at_moment t at.item.event.now) at.linked.from at.linked.raw at.linked.peer at.linked.from_whom at.linked.emissions
+        (unlinked-some w config 0 t in_range.values.payload at.unlinked) known.knows agrees at.linked.links
+
+    connected_part : IsConnectedAt w config 0 h.opening h.items → ConnectedPart h
+    connected_part at =
+        let t = after_items w h.opening at.front in
+        let next = (step w t at.item.event).after in
+        let front_name = after_items-keeps_name w h.opening at.front in
+        let one_name = step-keeps_name w t at.item.event in
+        let name : KeepsName h.opening next = record {
+          own = one_name.own ∙ front_name.own;
+          kind = one_name.kind ∙ front_name.kind;
+          isn = one_name.isn ∙ front_name.isn;
+          opened = one_name.opened ∙ front_name.opened;
+        } in
+        let met = opened-met w own isn config now h.opening in_range is h.items at in
+        let fits = peer-fits w own (Opened isn config now) h.items h.opening in_range is met.has in
+        let peer_is = linked-peer (at_moment t at.item.event.now) at.linked.peer at.linked.from_whom at.linked.emissions _ at.linked.outcome_is in
+        record {
+          part = record { opening = next; items = at.rest };
+          begins = record {
+            config = config;
+            start = 0;
+            values = in_range.values;
+            own_fits = rw (name.own, opened_name) in_range.own_fits;
+            id_fits = subst (λ (p : Peer). p.id < 2 ^ 32) met.stays.peer fits.id;
+            isn_fits = rw (name.isn, opened_number) in_range.isn_fits;
+            payload = subst (λ (p : Peer). 1 ≤ p.payload) (sym peer_is) (suited at).payload;
+            somebody = has-somebody next.origin (ap has_peer (sym met.stays.origin) ∙ met.has);
+            fresh = at.fresh;
+            legal = at.goes_on.legal;
+          };
+          goes_on = at.goes_on;
+          name = name;
+          same_start = ap (λ (sending : Sending C). sending.blocks.first) at.fresh.sending ∙ sym opened_start;
+          honest = λ net addr honest. honest-since net addr h.opening at.front at.item at.rest h.items at.joined honest;
+        }
+
+    opened-parts : NeverConnected h ⊎ ConnectedPart h
+    opened-parts = elim (items-begin w config 0 h.opening h.items begins_unlinked legal) [
+      | inl never ↦ inl (record { config = config; quiet = never.1; still = never.0; begun = opened_start })
+      | inr at ↦ inr (connected_part at)
+    ]
+
+  -- ---- sockets
+
+  way-parts : (own : ℕ) (way : Way) (h : History C) → IsWay own way → h.opening ≡ opened_by w own way → IsLegal w h
+      → NeverConnected h ⊎ ConnectedPart h
+  way-parts own (Opened isn config now) h in_range is legal = opened-parts own isn config now h in_range is legal
+  way-parts own (Paired config peer now) h in_range is legal = inr (opening-part own config peer now 0 h in_range is legal)
+  way-parts own (PairedAt config peer now start) h in_range is legal = inr (opening-part own config peer now start h in_range is legal)
+
+  -- a socket was never connected, or its history goes on as one that begins as connected
+  pub socket-parts : (socket : Enrolled C) → IsSocket w socket → NeverConnected socket.history ⊎ ConnectedPart socket.history
+  socket-parts socket is = way-parts socket.own socket.way socket.history is.in_range is.opened is.legal
+
+  pub socket-own : (socket : Enrolled C) → IsSocket w socket → socket.history.opening.own ≡ socket.own
+  socket-own socket is = ap (λ (s : State C). s.own) is.opened ∙ way-own w socket.own socket.way
+
+  -- ---- what is the same since then
+
+  module _ (h : History C) (since : ConnectedPart h) where
+    pub part-peer : own_peer w h ≡ own_peer w since.part
+    part-peer = ap (λ (s : State C). peer_by s.origin s.peer) since.goes_on.ends
+
+    pub part-acked : acked w h ≡ acked w since.part
+    part-acked = omega (arith, ap (λ (s : State C). s.sending.blocks.first) since.goes_on.ends, since.same_start)
+
+    -- what is emitted and is no handshake was emitted since then
+    pub part-emitted : (emission : Emission) (packet : Packet) → Contains (emitted w h) emission → read emission.datagram.bytes ≡ Ok packet
+        → is_handshake packet ≡ false → Contains (emitted w since.part) emission
+    part-emitted emission packet among reads plain = elim (since.goes_on.emitted emission among) [
+      | inl shakes ↦ let is = emitted-handshake emission packet shakes reads in absurd (cc)
+      | inr later ↦ later
+    ]
+
+  module _ (h : History C) (never : NeverConnected h) where
+    -- a socket that was never connected has nothing acknowledged
+    pub never-acked : acked w h ≡ 0
+    never-acked = omega (arith, ap (λ (sending : Sending C). sending.blocks.first) never.still.sending, never.begun)
+
+    -- and emits no more than handshakes
+    pub never-emits : (emission : Emission) (packet : Packet) → Contains (emitted w h) emission → read emission.datagram.bytes ≡ Ok packet
+        → is_handshake packet ≡ false → ⊥
+    never-emits emission packet among reads plain =
+        let is = emitted-handshake emission packet (never.quiet.emitted emission among) reads in
+        cc
