@@ -1,9 +1,14 @@
 // Datagrams that arrive: where each goes, and the sockets that are made for requests.
 
-use crate::network::{Act, Network, ScriptSocket};
-use crate::opening::opened;
+ghost use Rattle.std.specs.Prelude.{◌≡◌, ◌<◌, ◌^◌, IfOk};
+ghost use Rattle.udt_model.specs.Connections.{config_of};
+ghost use Rattle.udt_model.specs.Handshakes as model;
+ghost use Rattle.udt_model.specs.Opening.{opening};
+
+use crate::network::{Act, Network};
+use crate::opening::{named, opened};
 use itoa::Buffer;
-use std::alloc::AllocError;
+use std::alloc::{AllocError, Global};
 use udt_core::Socket;
 use udt_handshake::peer_in;
 use udt_model::{Addr, Heard, Routed, Shake};
@@ -27,6 +32,23 @@ fn route_by(routed: Routed) -> Route {
         Routed::Shake => Route::Nowhere(b"shake"),
         Routed::Stale => Route::Nowhere(b"stale"),
     }
+}
+
+// The socket that is made for a request at a listener.
+fn made_for<C: Control + Drop>(
+    alloc: Global,
+    listener: &Socket<C>,
+    own: u32,
+    from: Addr,
+    shake: &Shake,
+) -> Result<Socket<C>, AllocError>
+    requires { shake.now.isn < 2 ^ 31 }
+    ensures { IfOk result (λ socket. socket ≡ opening C.ways own (config_of listener.now)
+        (model.peer_in (config_of listener.now) from shake.now) 0 0) }
+{
+    let config = listener.config();
+    let peer = peer_in(&config, from, shake);
+    opened(Socket::paired(alloc, own, config, peer, 0))
 }
 
 impl<C: Control> Network<C> {
@@ -89,34 +111,23 @@ impl<C: Control + Drop> Network<C> {
             return Ok(());
         }
         let count = self.sockets.len();
-        let made = self.made_for(place, datagram.from, shake)?;
-        self.add(made)?;
+        let listener = &self.sockets[place];
+        let host = listener.host;
+        let endpoint = listener.endpoint;
+        let made = made_for(
+            self.alloc,
+            &listener.socket,
+            count as u32 + 1,
+            datagram.from,
+            &shake,
+        )?;
+        let mut name = Buffer::new();
+        let name = name.format(count + 1).as_bytes();
+        self.add(named(self.alloc, name, host, endpoint, made)?)?;
         self.event(place, now, &Act::Offer(count as u32 + 1), out)?;
         let act = Act::Arrive(datagram.from, &datagram.bytes);
         self.event(count, now, &act, out)?;
         Ok(())
-    }
-
-    // The socket that is made for a request at a listener. Its name is its ID.
-    fn made_for(
-        &self,
-        place: usize,
-        from: Addr,
-        shake: Shake,
-    ) -> Result<ScriptSocket<C>, AllocError> {
-        let own = self.sockets.len() as u32 + 1;
-        let listener = &self.sockets[place];
-        let config = listener.socket.config();
-        let peer = peer_in(&config, from, &shake);
-        let mut name = Buffer::new();
-        Ok(ScriptSocket {
-            name: Vec::from_slice(self.alloc, name.format(own).as_bytes())?,
-            host: listener.host,
-            endpoint: listener.endpoint,
-            listened: false,
-            met: None,
-            socket: opened(Socket::paired(self.alloc, own, config, peer, 0))?,
-        })
     }
 
     /// The arrival of the datagram with this number. False where none was printed under it.

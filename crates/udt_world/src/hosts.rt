@@ -1,6 +1,13 @@
 // The hosts of a script, and what the endpoint at each knows of the sockets there.
 
-use crate::network::{Network, ScriptHost};
+ghost use Rattle.std.specs.Prelude.{◌≡◌, ◌<◌, ◌+◌, [], length, map, vec_len, None, Some, IfOk};
+ghost use Rattle.udt_model.specs.Network as model;
+ghost use Rattle.udt_routes.specs.Pairs.{pair_of};
+ghost use Rattle.udt_routes.specs.Tables.{empty_table};
+ghost use Rattle.udt_world.specs.Views.{host_of, sight_of};
+ghost use Rattle.udt_world.specs.Wiring.{with_listener, with_met, with_pair, with_told};
+
+use crate::network::{Network, ScriptHost, ScriptSocket};
 use std::alloc::{AllocError, Global};
 use udt_model::{Addr, Ip, MOST_HOSTS};
 use udt_rate::Control;
@@ -34,23 +41,74 @@ pub struct Endpoint {
 }
 
 // An endpoint that knows of no socket yet, with room for all of a script.
-fn new_endpoint(alloc: Global, addr: Addr) -> Result<Endpoint, AllocError> {
+fn new_endpoint(alloc: Global, addr: Addr) -> Result<Endpoint, AllocError>
+    ensures addr { IfOk result (λ endpoint. endpoint.addr ≡ addr) }
+    ensures routes { IfOk result (λ endpoint. endpoint.routes ≡ empty_table MOST_ENROLLED MOST_ENROLLED) }
+{
     match Routes::new(alloc, MOST_ENROLLED, MOST_ENROLLED) {
         Ok(routes) => Ok(Endpoint { addr, routes }),
         Err(_) => Err(AllocError),
     }
 }
 
+// Tells a table the pair that a socket has adopted.
+fn tell_peer(routes: &mut Routes<()>, id: u32, pair: Option<(Addr, u32)>)
+    requires room { pair_of routes.old.adoptions id ≡ None → length routes.old.adoptions < routes.old.ids }
+    ensures { routes.new ≡ with_pair routes.old id pair }
+{
+    let Some((addr, peer)) = pair else { return };
+    if routes.peer_of(id).is_none() {
+        let _ = routes.adopt(id, addr, peer);
+    }
+}
+
+// Tells a table that a socket listens, where it began to.
+fn tell_listener(routes: &mut Routes<()>, id: u32, listened: bool)
+    ensures { routes.new ≡ with_listener routes.old id listened }
+{
+    if listened {
+        let _ = routes.set_listener(id);
+    }
+}
+
+// Tells a table the address that a socket meets.
+fn tell_met(routes: &mut Routes<()>, id: u32, met: Option<Addr>)
+    ensures { routes.new ≡ with_met routes.old id met }
+{
+    if let Some(to) = met {
+        let _ = routes.set_meeting(to, id);
+    }
+}
+
+// Tells a table what there is to know of a socket: the pair that it has adopted, and, until it is closed,
+// that it listens and whom it meets.
+fn tell<C: Control>(routes: &mut Routes<()>, id: u32, socket: &ScriptSocket<C>)
+    requires room { pair_of routes.old.adoptions id ≡ None → length routes.old.adoptions < routes.old.ids }
+    ensures { routes.new ≡ with_told routes.old id (sight_of socket.now) }
+{
+    tell_peer(routes, id, socket.socket.peer());
+    if socket.socket.bits() >= CLOSED {
+        let _ = routes.leave(id);
+        return;
+    }
+    tell_listener(routes, id, socket.listened);
+    tell_met(routes, id, socket.met);
+}
+
 impl<C: Control> Network<C> {
     // A host has this address. Those of paired sockets are there from the start.
-    fn is_host(&self, addr: Addr) -> bool {
+    fn is_host(&self, addr: Addr) -> bool
+        ensures { result ≡ model.is_host (map host_of self.now.hosts.items) addr }
+    {
         addr.is_same(FIRST_HOST)
             || addr.is_same(SECOND_HOST)
             || self.hosts.iter().any(|host| addr.is_same(host.addr))
     }
 
     /// The address of the host with this name.
-    pub fn host_named(&self, name: &[u8]) -> Option<Addr> {
+    pub fn host_named(&self, name: &[u8]) -> Option<Addr>
+        ensures { result ≡ model.address_of_host name.now (map host_of self.now.hosts.items) }
+    {
         for host in &self.hosts {
             if host.name.as_slice() == name {
                 return Some(host.addr);
@@ -106,26 +164,13 @@ impl<C: Control> Network<C> {
         Ok(true)
     }
 
-    /// Has the endpoint know of the socket at this place what there is to know: the pair that it has
-    /// adopted, and, until it is closed, that it listens or whom it meets.
+    /// Has the endpoint know of the socket at this place what there is to know.
     pub fn enter(&mut self, place: usize) {
         let socket = &self.sockets[place];
-        let id = socket.socket.own();
-        let routes = &mut self.endpoints[socket.endpoint].routes;
-        if let Some((addr, peer)) = socket.socket.peer() {
-            if routes.peer_of(id).is_none() {
-                let _ = routes.adopt(id, addr, peer);
-            }
-        }
-        if socket.socket.bits() >= CLOSED {
-            let _ = routes.leave(id);
-            return;
-        }
-        if socket.listened {
-            let _ = routes.set_listener(id);
-        }
-        if let Some(to) = socket.met {
-            let _ = routes.set_meeting(to, id);
-        }
+        tell(
+            &mut self.endpoints[socket.endpoint].routes,
+            place as u32 + 1,
+            socket,
+        );
     }
 }

@@ -1,12 +1,13 @@
 // The sockets of a script, and the datagrams that they emitted.
 
-ghost use Rattle.std.specs.Prelude.{◌≡◌, ℕ, ◌+◌, ◌<◌, ◌++◌, length, map, take, position, vec_len, IfSome, IfOk, OnOk, OnErr};
-ghost use Rattle.udt_model.specs.Events.{Recv, RecvMessage, event, outs_of};
+ghost use Rattle.std.specs.Prelude.{◌≡◌, ◌<◌, ◌++◌, ◌||◌, map, take, vec_len, IfOk, OnOk, OnErr};
+ghost use Rattle.udt_model.specs.Events.{Listen, Recv, RecvMessage, event, outs_of};
+ghost use Rattle.udt_model.specs.Lines.{no_secret};
+ghost use Rattle.udt_model.specs.Network.{first_met, is_listening, meets_by};
 ghost use Rattle.udt_model.specs.Script.{from_host};
 ghost use Rattle.udt_model.specs.Step.{step};
-ghost use Rattle.udt_model.specs.Texts.{datagrams_text};
-ghost use Rattle.udt_model.specs.Words.{is_word};
-ghost use Rattle.udt_script.specs.CodeAnswers.{reply_of};
+ghost use Rattle.udt_model.specs.Texts.{datagrams_text, told};
+ghost use Rattle.udt_script.specs.CodeAnswers.{reply_of, text_of};
 ghost use Rattle.udt_script.specs.CodeLines.{act_of, datagram_of};
 ghost use Rattle.udt_world.specs.Views.{view_of, event_of, HasEvent};
 
@@ -132,7 +133,7 @@ fn listen<C: Control>(socket: &mut Socket<C>, now: u64, most: u32) -> Result<Rep
 }
 
 // What a call of a socket answers. What it emits is left in `outs`.
-#[tactic(auto, using(crate::proofs::EventLemmas::send_outs, crate::proofs::EventLemmas::recv_outs, crate::proofs::EventLemmas::send_message_outs, crate::proofs::EventLemmas::recv_message_outs, crate::proofs::EventLemmas::close_outs, crate::proofs::EventLemmas::close_reply, crate::proofs::EventLemmas::tick_reply, crate::proofs::EventLemmas::measure_outs))]
+#[tactic(auto, using(crate::proofs::EventLemmas::listen_outs, crate::proofs::EventLemmas::connect_outs, crate::proofs::EventLemmas::meet_outs, crate::proofs::EventLemmas::shake_outs, crate::proofs::EventLemmas::send_outs, crate::proofs::EventLemmas::recv_outs, crate::proofs::EventLemmas::send_message_outs, crate::proofs::EventLemmas::recv_message_outs, crate::proofs::EventLemmas::close_outs, crate::proofs::EventLemmas::close_reply, crate::proofs::EventLemmas::tick_reply, crate::proofs::EventLemmas::measure_outs))]
 fn answer<C: Control>(
     alloc: Global,
     socket: &mut Socket<C>,
@@ -173,6 +174,7 @@ fn answer<C: Control>(
 }
 
 /// What an event of a socket answers. What it emits is left in `outs`.
+#[tactic(auto, using(crate::proofs::EventLemmas::accept_outs, crate::proofs::EventLemmas::offer_outs, crate::proofs::EventLemmas::withdraw_outs, crate::proofs::EventLemmas::withdraw_reply))]
 pub fn happen<C: Control>(
     alloc: Global,
     socket: &mut Socket<C>,
@@ -184,6 +186,7 @@ pub fn happen<C: Control>(
         ≡ (step C.ways socket.old (event_of now act.now)).reply) }
     ensures next { OnOk result (socket.new ≡ (step C.ways socket.old (event_of now act.now)).after) }
     ensures outs { OnOk result (outs.new ≡ outs_of (step C.ways socket.old (event_of now act.now))) }
+    ensures text { IfOk result (λ reply. text_of reply ≡ told (event_of now act.now).act (reply_of reply)) }
 {
     match act {
         Act::Call(call) => answer(alloc, socket, now, call, outs),
@@ -231,12 +234,17 @@ fn keep_emitted(
 
 impl<C> ScriptSocket<C> {
     /// Notes that the socket began to listen, or to meet an address, where it answers so.
-    pub fn note(&mut self, act: &Act, reply: &Reply) {
+    pub fn note(&mut self, act: &Act, reply: &Reply)
+        ensures { self.new ≡ record self.old {
+          listened = self.old.listened || is_listening (reply_of reply.now);
+          met = first_met self.old.met (meets_by (event_of 0 act.now).act (reply_of reply.now));
+        } }
+    {
         match (act, reply) {
             (_, Reply::Listened(Ok(()))) => self.listened = true,
-            (Act::Call(Call::Meet(to)), Reply::Met(Ok(()))) => self.met = Some(
-                self.met.unwrap_or(*to),
-            ),
+            (Act::Call(Call::Meet(to)), Reply::Met(Ok(()))) => {
+                self.met = Some(self.met.unwrap_or(*to))
+            }
             _ => {}
         }
     }
