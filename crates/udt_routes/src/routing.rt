@@ -118,8 +118,8 @@ fn by_type(from: Addr, ask: i32) -> Result<Lookup, Routed>
     })
 }
 
-// The handshake that the bytes spell, where they spell one.
-fn handshake(bytes: &[u8]) -> Option<Shake>
+/// The handshake that the bytes spell, where they spell one.
+pub fn handshake(bytes: &[u8]) -> Option<Shake>
     ensures { result ≡ handshake_in (wire.read bytes.now) }
 {
     match read(bytes) {

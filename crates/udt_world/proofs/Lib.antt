@@ -1,11 +1,2 @@
 pub mod EventLemmas
 pub mod PlaceLemmas
-pub mod CallLemmas
-pub mod RouteLemmas
-pub mod LineLemmas
-pub mod ArriveLemmas
-pub mod MessageLemmas
-pub mod TranscriptLemmas
-pub mod WorldLemmas
-pub mod CountedLemmas
-pub mod RunLemmas

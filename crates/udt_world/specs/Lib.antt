@@ -1,4 +1,5 @@
 pub mod Views
+pub mod Wiring
 pub mod Done
 pub mod Runs
 pub mod ScriptLines

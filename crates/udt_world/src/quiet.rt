@@ -9,7 +9,7 @@ ghost use Rattle.udt_script.specs.CodeLines.{datagram_of};
 ghost use Rattle.udt_world.specs.Done.{IsRoute};
 ghost use Rattle.udt_world.specs.Views.{view_of, event_of, Answers, Moves, Shows};
 
-use crate::deliveries::Route;
+use crate::arrivals::Route;
 use crate::network::{Act, Network, happen, room};
 use std::alloc::{AllocError, Global};
 use udt_core::Outs;
@@ -66,14 +66,16 @@ impl<C: Control> Network<C> {
         let mut outs = room(self.alloc, &mut self.outs)?;
         let socket = &mut self.sockets[place];
         let host = socket.host;
-        happen(self.alloc, &mut socket.socket, now, act, &mut outs)?;
+        let reply = happen(self.alloc, &mut socket.socket, now, act, &mut outs)?;
+        socket.note(act, &reply);
         keep(self.alloc, &mut self.datagrams, host, &outs)?;
         self.outs = Some(outs);
+        self.enter(place);
         Ok(())
     }
 
     /// The route of the datagram with this number.
-    pub fn route_of(&self, number: usize) -> Route
+    pub fn route_of(&mut self, number: usize) -> Result<Route, AllocError>
         requires { number < vec_len self.now.datagrams }
         ensures value { (n : model.Network C) (datagram : model.ScriptDatagram)
             → Shows C.ways n (view_of self.now)
@@ -81,7 +83,10 @@ impl<C: Control> Network<C> {
             → IsRoute C.ways n datagram result }
         ensures within { (place : ℕ) → result ≡ Route.To place → place < vec_len self.now.sockets }
     {
-        self.route(&self.datagrams[number])
+        let to = self.datagrams[number].to;
+        let endpoint = self.endpoint_at(to)?;
+        let datagram = &self.datagrams[number];
+        Ok(self.route(endpoint, datagram.from, &datagram.bytes))
     }
 
     /// The arrival of the datagram with this number at the socket at this place.
@@ -102,6 +107,7 @@ impl<C: Control> Network<C> {
             .arrive(now, emitted.from, &emitted.bytes, &mut outs);
         keep(self.alloc, &mut self.datagrams, host, &outs)?;
         self.outs = Some(outs);
+        self.enter(place);
         Ok(())
     }
 }

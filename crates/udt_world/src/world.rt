@@ -63,6 +63,13 @@ fn do_line<C: Control + Drop>(
     match line {
         Line::Silent => Ok(true),
         Line::Pair(pairing) => network.pair(pairing, out),
+        Line::Host { name, addr } => network.host(name, *addr, out),
+        Line::Open(opening) => network.open(opening, out),
+        Line::Accept {
+            name,
+            now,
+            accepted,
+        } => network.accept(name, *now, accepted, out),
         Line::Call { name, now, call } => network.call(name, *now, call, out),
         Line::Deliver { number, now } => network.deliver(*number, *now, out),
         Line::Raw { now, datagram } => {
@@ -127,16 +134,10 @@ impl<C: Control + Drop> World<C> {
     pub fn new(alloc: Global) -> World<C>
         ensures { result ≡ Some [] }
     {
-        let network = Network {
-            alloc,
-            sockets: Vec::new(alloc),
-            datagrams: Vec::new(alloc),
-            outs: None,
-        };
         World {
             lines: Vec::new(alloc),
             size: 0,
-            network,
+            network: Network::new(alloc),
             lost: false,
         }
     }

@@ -14,8 +14,8 @@ use udt_model::{Addr, Cause, Config, Failure, MOST_BACKLOG, Refusal, Shaken};
 use udt_rate::Control;
 
 impl<C: Control> Socket<C> {
-    // What the socket was opened with.
-    pub(super) fn config(&self) -> Config
+    /// What the socket was opened with.
+    pub fn config(&self) -> Config
         ensures value { result ≡ model.config_of self.now }
         ensures some { 0 < result.payload }
         ensures most { result.payload ≤ MOST_PAYLOAD }

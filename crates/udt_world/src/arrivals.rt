@@ -1,0 +1,152 @@
+// Datagrams that arrive: where each goes, and the sockets that are made for requests.
+
+ghost use Rattle.std.specs.Prelude.{◌≡◌, ◌<◌, ◌^◌, IfOk};
+ghost use Rattle.udt_model.specs.Connections.{config_of};
+ghost use Rattle.udt_model.specs.Handshakes as model;
+ghost use Rattle.udt_model.specs.Opening.{opening};
+
+use crate::network::{Act, Network};
+use crate::opening::{named, opened};
+use itoa::Buffer;
+use std::alloc::{AllocError, Global};
+use udt_core::Socket;
+use udt_handshake::peer_in;
+use udt_model::{Addr, Heard, Routed, Shake};
+use udt_rate::Control;
+use udt_routes::handshake;
+use udt_script::{Reply, ScriptDatagram, print_dropped};
+
+/// Where a datagram goes: to the socket at a place, or nowhere, and the word for why.
+#[derive(Clone, Copy, Debug, PartialEq, Eq)]
+pub enum Route {
+    To(usize),
+    Nowhere(&'static [u8]),
+}
+
+// Where a datagram goes in the network that goes so at its host.
+fn route_by(routed: Routed) -> Route {
+    match routed {
+        Routed::ToSocket(id) => Route::To(id as usize - 1),
+        Routed::Short => Route::Nowhere(b"short"),
+        Routed::Id => Route::Nowhere(b"id"),
+        Routed::Shake => Route::Nowhere(b"shake"),
+        Routed::Stale => Route::Nowhere(b"stale"),
+    }
+}
+
+// The socket that is made for a request at a listener.
+fn made_for<C: Control + Drop>(
+    alloc: Global,
+    listener: &Socket<C>,
+    own: u32,
+    from: Addr,
+    shake: &Shake,
+) -> Result<Socket<C>, AllocError>
+    requires { shake.now.isn < 2 ^ 31 }
+    ensures { IfOk result (λ socket. socket ≡ opening C.ways own (config_of listener.now)
+        (model.peer_in (config_of listener.now) from shake.now) 0 0) }
+{
+    let config = listener.config();
+    let peer = peer_in(&config, from, shake);
+    opened(Socket::paired(alloc, own, config, peer, 0))
+}
+
+impl<C: Control> Network<C> {
+    /// Where bytes go that come from this address, at the endpoint at this place. There is none where no
+    /// host has the address.
+    pub fn route(&self, endpoint: Option<usize>, from: Addr, bytes: &[u8]) -> Route {
+        match endpoint {
+            None => Route::Nowhere(b"host"),
+            Some(place) => route_by(self.endpoints[place].routes.destination_of(from, bytes)),
+        }
+    }
+}
+
+impl<C: Control + Drop> Network<C> {
+    /// The arrival of a datagram, whoever sent it.
+    pub fn arrive(
+        &mut self,
+        now: u64,
+        datagram: &ScriptDatagram,
+        out: &mut Vec<u8>,
+    ) -> Result<(), AllocError> {
+        let endpoint = self.endpoint_at(datagram.to)?;
+        match self.route(endpoint, datagram.from, &datagram.bytes) {
+            Route::To(place) => self.arrive_at(place, now, datagram, out),
+            Route::Nowhere(word) => print_dropped(out, word),
+        }
+    }
+
+    // The arrival of a datagram at the socket at this place, and what follows where a listener promises
+    // a place.
+    fn arrive_at(
+        &mut self,
+        place: usize,
+        now: u64,
+        datagram: &ScriptDatagram,
+        out: &mut Vec<u8>,
+    ) -> Result<(), AllocError> {
+        let act = Act::Arrive(datagram.from, &datagram.bytes);
+        let reply = self.event(place, now, &act, out)?;
+        match (handshake(&datagram.bytes), reply) {
+            (Some(shake), Reply::Heard(Heard::Request)) => {
+                self.follow(place, now, datagram, shake, out)
+            }
+            _ => Ok(()),
+        }
+    }
+
+    // A place was promised: a socket is made, offered to the listener, and given the request. Where there
+    // is no room for one the promise is taken back.
+    fn follow(
+        &mut self,
+        place: usize,
+        now: u64,
+        datagram: &ScriptDatagram,
+        shake: Shake,
+        out: &mut Vec<u8>,
+    ) -> Result<(), AllocError> {
+        if !self.has_room(1) {
+            self.event(place, now, &Act::Withdraw, out)?;
+            return Ok(());
+        }
+        let count = self.sockets.len();
+        let listener = &self.sockets[place];
+        let host = listener.host;
+        let endpoint = listener.endpoint;
+        let made = made_for(
+            self.alloc,
+            &listener.socket,
+            count as u32 + 1,
+            datagram.from,
+            &shake,
+        )?;
+        let mut name = Buffer::new();
+        let name = name.format(count + 1).as_bytes();
+        self.add(named(self.alloc, name, host, endpoint, made)?)?;
+        self.event(place, now, &Act::Offer(count as u32 + 1), out)?;
+        let act = Act::Arrive(datagram.from, &datagram.bytes);
+        self.event(count, now, &act, out)?;
+        Ok(())
+    }
+
+    /// The arrival of the datagram with this number. False where none was printed under it.
+    pub fn deliver(
+        &mut self,
+        number: u64,
+        now: u64,
+        out: &mut Vec<u8>,
+    ) -> Result<bool, AllocError> {
+        if number >= self.datagrams.len() as u64 {
+            return Ok(false);
+        }
+        let emitted = &self.datagrams[number as usize];
+        let datagram = ScriptDatagram {
+            from: emitted.from,
+            to: emitted.to,
+            bytes: Vec::from_slice(self.alloc, &emitted.bytes)?,
+        };
+        self.arrive(now, &datagram, out)?;
+        Ok(true)
+    }
+}
