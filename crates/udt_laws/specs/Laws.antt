@@ -1,5 +1,5 @@
 -- The main theorems, as statements about histories and records, over any rate control.
-use Rattle.std.specs.Prelude.{◌≡◌, ◌⊎◌, ℕ, ◌+◌, ◌-◌, ◌%◌, ◌^◌, ◌<◌, ◌≤◌, List, [], ◌∷◌, ◌++◌, drop, length, map, Some, Ok, slice_get, true, false}
+use Rattle.std.specs.Prelude.{◌≡◌, ◌⊎◌, ℕ, ◌+◌, ◌-◌, ◌%◌, ◌^◌, ◌<◌, ◌≤◌, List, [], ◌∷◌, ◌++◌, drop, length, map, Some, Ok, slice_get, true}
 use Rattle.std.specs.List.{Contains, concat}
 use Rattle.udt_model.specs.declared.packets.Flags.{Flags}
 use Rattle.udt_model.specs.declared.packets.Kind.TheVariants.{Stream, Message}
@@ -9,12 +9,9 @@ use Rattle.udt_model.specs.Emissions.{IsPrefix, emitted, sent, arrivals, IsMadeO
 use Rattle.udt_model.specs.Handshakes.{asked as asks}
 use Rattle.udt_model.specs.History.{AskedMessage, ShownMessage, History, IsLegal, state_of, start_of, accepted, delivered, acked, arrived, asked, shown, placed_offsets, dropped_offsets}
 use Rattle.udt_model.specs.Honest.{IsHonest}
-use Rattle.udt_model.specs.Lines.{AreEmitted}
-use Rattle.udt_model.specs.Network.{ScriptSocket}
 use Rattle.udt_model.specs.Numbers.{sequence_number}
 use Rattle.udt_model.specs.Rate.{Ways}
 use Rattle.udt_model.specs.Records.{Enrolled, IsSocket, EndpointRecord, StandsAt, PeerPair, is_bound, names_sender, own_peer, ArePaired, AreLawful}
-use Rattle.udt_model.specs.Script.{size_of, network_after}
 use Rattle.udt_model.specs.SendBlocks.{KeptBlock}
 use Rattle.udt_model.specs.State.{Datagram, Emission}
 use Rattle.udt_model.specs.Wire.{Packet, Block, Handshake, destination, read, target}

@@ -1,5 +1,5 @@
 -- What two sockets of lawful records agree on that name each other as peer, and are connected.
-use Rattle.std.proofs.Common.{◌≡◌, ℕ, false, List, Some, Ok, refl, ap, ◌∙◌, sym, subst, inl, inr, ◌⊎◌}
+use Rattle.std.proofs.Common.{◌≡◌, ℕ, List, Some, ap, ◌∙◌, sym, subst}
 use Rattle.std.specs.List.{Contains}
 use Rattle.udt_model.specs.declared.addresses.Addr.{Addr}
 use Rattle.udt_model.specs.declared.answers.Peer.{Peer}
@@ -9,7 +9,7 @@ use Rattle.udt_model.specs.History.{History, state_of, start_of}
 use Rattle.udt_model.specs.Rate.{Ways}
 use Rattle.udt_model.specs.Opening.{opened, opening, IsOpened, IsOpening}
 use Rattle.udt_model.specs.Records.{Enrolled, EndpointRecord, StandsAt, own_peer, IsPaired, IsRequested, is_answer, AreLawful}
-use Rattle.udt_model.specs.State.{State, Emission}
+use Rattle.udt_model.specs.State.{State}
 use Rattle.udt_model.specs.Wire.{read}
 use Rattle.udt_laws.proofs.adoption.NamesBack.{mate_of, request-begins, request-peer, asks-not_begun, peer-is}
 use Rattle.udt_laws.proofs.adoption.PeersMeet.{names-has, names-so, Connects, ByHandshake, ForRequest, AsPair, stands-socket, met_kind, introduced_by, requested_by}

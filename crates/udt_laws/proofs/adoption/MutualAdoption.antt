@@ -1,20 +1,20 @@
 -- A socket that has heard of its peer, handshakes aside, is connected to the socket there, and that one to it.
-use Rattle.std.proofs.Common.{◌≡◌, ℕ, true, false, List, Some, Ok, refl, ap, ◌∙◌, sym, subst, inl, inr, ◌⊎◌, arith}
+use Rattle.std.proofs.Common.{◌≡◌, ℕ, false, List, Some, Ok, ap, ◌∙◌, sym, subst, inl, inr, arith}
 use Rattle.std.specs.List.{Contains}
 use Rattle.udt_model.specs.declared.addresses.Addr.{Addr}
 use Rattle.udt_model.specs.declared.answers.Peer.{Peer}
 use Rattle.udt_model.specs.Emissions.{emitted}
-use Rattle.udt_model.specs.History.{History, after_items, state_of, start_of, acked, placed_offsets, dropped_offsets}
+use Rattle.udt_model.specs.History.{History}
 use Rattle.udt_model.specs.Honest.{WasEmitted, IsHonest}
 use Rattle.udt_model.specs.Rate.{Ways}
-use Rattle.udt_model.specs.Records.{Enrolled, EndpointRecord, StandsAt, PeerPair, own_peer, AreLawful}
+use Rattle.udt_model.specs.Records.{Enrolled, EndpointRecord, StandsAt, own_peer, AreLawful}
 use Rattle.udt_model.specs.State.{State, Datagram, Emission}
 use Rattle.udt_model.specs.Wire.{Packet, is_handshake, destination, read}
-use Rattle.udt_laws.specs.Laws.{HasHeard, HasMutualPeer, MutualAdoption}
+use Rattle.udt_laws.specs.Laws.{HasHeard, MutualAdoption}
 use Rattle.udt_laws.proofs.adoption.Agreement.{agree, connects-part}
 use Rattle.udt_laws.proofs.adoption.Hears.{AllHear, acked-shows, placed-shows, dropped-shows, items-hear}
 use Rattle.udt_laws.proofs.adoption.NamesBack.{named-by}
-use Rattle.udt_laws.proofs.adoption.PeersMeet.{names-so, Connects, IsIdle, stands-socket, stands-connects}
+use Rattle.udt_laws.proofs.adoption.PeersMeet.{names-so, Connects, stands-socket, stands-connects}
 use Rattle.udt_laws.proofs.laid_messages.Members.{none-contained}
 use Rattle.udt_laws.proofs.sockets.Begins.{begins_settled, last_peer}
 use Rattle.udt_laws.proofs.sockets.ConnectedParts.{ConnectedPart, NeverConnected, socket-own, part-acked, never-acked, never-emits}

@@ -1,23 +1,20 @@
 -- Where a socket of lawful records names a peer, and the socket there is connected, that one names it as its peer.
-use Rattle.std.proofs.Common.{◌≡◌, ℕ, true, false, List, Some, Ok, refl, ap, ◌∙◌, sym, subst, inl, inr, ◌⊎◌}
+use Rattle.std.proofs.Common.{◌≡◌, ℕ, true, false, List, Some, Ok, ap, ◌∙◌, sym, subst, inl, inr}
 use Rattle.std.specs.List.{Contains}
 use Rattle.std.proofs.lemmas.Option.{same_Some}
 use Rattle.udt_model.specs.declared.addresses.Addr.{Addr}
 use Rattle.udt_model.specs.declared.answers.Peer.{Peer}
-use Rattle.udt_model.specs.declared.handshakes.Asked.TheVariants as asks
 use Rattle.udt_model.specs.declared.packets.Config.{Config}
 use Rattle.udt_model.specs.declared.packets.Shake.{Shake}
 use Rattle.udt_model.specs.Emissions.{emitted}
 use Rattle.udt_model.specs.Handshakes.{asked}
 use Rattle.udt_model.specs.History.{History, state_of}
-use Rattle.udt_model.specs.Opening.{opened, opening, IsOpened, IsOpening}
+use Rattle.udt_model.specs.Opening.{opening, IsOpening}
 use Rattle.udt_model.specs.Rate.{Ways}
-use Rattle.udt_model.specs.Records.{Opened, Enrolled, IsSocket, EndpointRecord, StandsAt, PeerPair, own_peer, IsPaired, IsRequested, is_answer, names_sender, AreLawful}
+use Rattle.udt_model.specs.Records.{Opened, Enrolled, EndpointRecord, StandsAt, PeerPair, own_peer, IsPaired, is_answer, names_sender, AreLawful}
 use Rattle.udt_model.specs.State.{Emission}
 use Rattle.udt_model.specs.Wire.{Handshake, read}
 use Rattle.udt_model.proofs.ConnectedBy.{opened-met}
-use Rattle.udt_model.proofs.PeerLemmas.{has_peer}
-use Rattle.udt_model.proofs.SettlingLemmas.{IsConnectedAt}
 use Rattle.udt_laws.proofs.adoption.OneAddress.{asked-there}
 use Rattle.udt_laws.proofs.adoption.PeersMeet.{names-has, names-so, so-names, Connects, ByHandshake, ForRequest, AsPair, IsIdle, stands-socket, stands-connects, has_met, introduced_by, requested_by}
 use Rattle.udt_laws.proofs.sent_blocks.SentBlocks.{begins-answers}

@@ -1,14 +1,12 @@
 -- A socket asks or meets one address, and gets no peer but one there.
-use Rattle.std.proofs.Common.{◌≡◌, ℕ, true, false, List, [], ◌∷◌, ◌++◌, Some, Ok, refl, ap, ◌∙◌, sym, subst, inl, inr, ◌⊎◌}
+use Rattle.std.proofs.Common.{◌≡◌, ℕ, true, false, List, [], ◌∷◌, Some, Ok, refl, ap, ◌∙◌, sym, subst, inl, inr, ◌⊎◌}
 use Rattle.std.specs.Prelude.{Option, None, FitsSigned}
 use Rattle.std.specs.Int.{w32}
 use Rattle.std.specs.List.{Contains}
 use Rattle.udt_model.specs.declared.addresses.Addr.{Addr}
 use Rattle.udt_model.specs.declared.answers.Heard.{Heard}
 use Rattle.udt_model.specs.declared.answers.Origin.{Origin}
-use Rattle.udt_model.specs.declared.answers.Origin.TheVariants as origin
 use Rattle.udt_model.specs.declared.answers.Peer.{Peer}
-use Rattle.udt_model.specs.declared.handshakes.Asked.{Asked}
 use Rattle.udt_model.specs.declared.handshakes.Asked.TheVariants as asks
 use Rattle.udt_model.specs.declared.handshakes.ClientSaw.TheVariants as client
 use Rattle.udt_model.specs.declared.handshakes.MeetSaw.TheVariants as meet
@@ -17,12 +15,12 @@ use Rattle.udt_model.specs.declared.packets.Shake.{Shake}
 use Rattle.udt_model.specs.Calls.{stamp_of}
 use Rattle.udt_model.specs.Emissions.{emitted_by}
 use Rattle.udt_model.specs.Events.{Act, Event, at_moment}
-use Rattle.udt_model.specs.Handshakes.{Connecting, Meeting, asked, client_saw, meet_saw, meet_says, meet_request}
+use Rattle.udt_model.specs.Handshakes.{Connecting, Meeting, asked, meet_says, meet_request}
 use Rattle.udt_model.specs.History.{Item, after_items}
 use Rattle.udt_model.specs.Phases.{Phase, has_place}
 use Rattle.udt_model.specs.Phases as phase
 use Rattle.udt_model.specs.Rate.{Ways}
-use Rattle.udt_model.specs.Records.{Way, IsWay, opened_by, names_sender, is_answer}
+use Rattle.udt_model.specs.Records.{Way, opened_by, names_sender, is_answer}
 use Rattle.udt_model.specs.State.{State, Emission}
 use Rattle.udt_model.specs.Step.{step}
 use Rattle.udt_model.specs.Wire.{Packet, Handshake, read}
@@ -31,8 +29,8 @@ use Rattle.udt_model.proofs.ArrivalLemmas as arrives
 use Rattle.udt_model.proofs.EmissionLemmas.{SendsShake, Requests, Meets, AnswersPeer, AnswersNew, Agrees, AnswersAgain, GivesCookie, Refuses, emitted-at}
 use Rattle.udt_model.proofs.HandshakeLemmas.{SeesAsClient, SeesOffer, SeesAsMeeting, SeesFirst, SeesAnswer, SeesPeer, client_saw-sees, meet_saw-sees}
 use Rattle.udt_model.proofs.HandshakeTells.{IsToPeer, emitting-cases, cookie-asks, refusal-asks, again-answers, read-asked, same-shake}
-use Rattle.udt_model.proofs.PeerLemmas.{standing_of, IsCaller, Adoption, HasAdopted, KnowsPeer, IsKnown, has_peer, config_by, start_by, step-known}
-use Rattle.udt_model.proofs.PhaseLemmas.{is_settled, speaks}
+use Rattle.udt_model.proofs.PeerLemmas.{standing_of, Adoption, KnowsPeer, IsKnown, has_peer, config_by, start_by, step-known}
+use Rattle.udt_model.proofs.PhaseLemmas.{is_settled}
 use Rattle.udt_model.proofs.SettlingLemmas.{IsShakeEmission, at_moment-unlinked}
 use Rattle.udt_model.proofs.ShakeLemmas.{known-after, after-front}
 use Rattle.udt_model.proofs.SpellingLemmas.{IsReadShake, plain-no_shake, read-shake_spelling, read-in_range}

@@ -1,6 +1,6 @@
 -- How a socket of lawful records came to be connected, and which socket it met there: the one at which it names its peer, and which names
 -- it as its peer where that one is connected too.
-use Rattle.std.proofs.Common.{◌≡◌, ℕ, true, false, List, [], ◌∷◌, Some, Ok, refl, ap, ◌∙◌, sym, subst, inl, inr, ◌⊎◌, arith}
+use Rattle.std.proofs.Common.{◌≡◌, ℕ, true, List, Some, Ok, refl, ap, ◌∙◌, sym, subst, inl, inr, ◌⊎◌, arith}
 use Rattle.std.specs.List.{Contains}
 use Rattle.std.proofs.lemmas.Option.{same_Some}
 use Rattle.udt_model.specs.declared.addresses.Addr.{Addr}
@@ -16,26 +16,21 @@ use Rattle.udt_model.specs.declared.packets.Shake.{Shake}
 use Rattle.udt_model.specs.Emissions.{emitted}
 use Rattle.udt_model.specs.Events.{Act, Arrive, at_moment}
 use Rattle.udt_model.specs.Handshakes.{asked, kind_number}
-use Rattle.udt_model.specs.History.{History, after_items, state_of, start_of, IsLegal}
+use Rattle.udt_model.specs.History.{History, after_items, state_of, IsLegal}
 use Rattle.udt_model.specs.Opening.{opened, opening, IsOpened, IsOpening}
 use Rattle.udt_model.specs.Rate.{Ways}
-use Rattle.udt_model.specs.Records.{Way, Opened, Paired, PairedAt, IsWay, opened_by, Enrolled, IsSocket, EndpointRecord, StandsAt, PeerPair, peer_by, own_peer, ArePaired, IsPaired, IsRequested, IsAsked, is_answer, is_bound, names_sender, AreLawful}
-use Rattle.udt_model.specs.State.{State, Emission}
+use Rattle.udt_model.specs.Records.{Way, Opened, Paired, PairedAt, IsWay, opened_by, Enrolled, IsSocket, EndpointRecord, StandsAt, PeerPair, peer_by, own_peer, IsPaired, IsRequested, IsAsked, is_answer, is_bound, names_sender, AreLawful}
+use Rattle.udt_model.specs.State.{Emission}
 use Rattle.udt_model.specs.Step.{step}
-use Rattle.udt_model.specs.Wire.{Packet, Handshake, is_handshake, destination, read}
-use Rattle.udt_model.proofs.ConnectedBy.{IsConnectedBy, IsMet, opened-nobody, opened-met}
+use Rattle.udt_model.specs.Wire.{Handshake, read}
+use Rattle.udt_model.proofs.ConnectedBy.{IsMet, opened-nobody, opened-met}
 use Rattle.udt_model.proofs.StepLemmas.{after_items-keeps_name}
 use Rattle.udt_model.proofs.PeerLemmas.{IsKnown, has_peer, way-known, peer-introduced}
 use Rattle.udt_model.proofs.SettlingLemmas.{IsConnectedAt, items-begin}
-use Rattle.udt_laws.proofs.adoption.OneAddress.{asked-there}
 use Rattle.udt_laws.proofs.adoption.Requests.{promised-request}
-use Rattle.udt_laws.proofs.sent_blocks.SentBlocks.{begins-answers}
-use Rattle.udt_laws.proofs.sockets.Begins.{Begins}
-use Rattle.udt_laws.proofs.sockets.ConnectedParts.{ConnectedPart, NeverConnected, never-emits, linked-peer, opened_name, opened_start, begins_unlinked, suited}
-use Rattle.udt_laws.proofs.sockets.OneSocket.{packet-bound, same-socket, same-peer}
-use Rattle.udt_laws.proofs.sockets.Opened.{AreConnected, opened_kind, opened_peer, opened_start as opening_start, opening-begins, names-peer, paired-connected}
-use Rattle.udt_laws.proofs.sockets.SuitedPeers.{IsSuited}
-use Rattle.udt_laws.proofs.sockets.WasSaid.{datagram_from, WasSaid, AllSaid, said-bound, said-own, said-kind, arrives-at, arrives-among}
+use Rattle.udt_laws.proofs.sockets.ConnectedParts.{NeverConnected, linked-peer, opened_name, opened_start, begins_unlinked, suited}
+use Rattle.udt_laws.proofs.sockets.OneSocket.{same-socket}
+use Rattle.udt_laws.proofs.sockets.WasSaid.{datagram_from, AllSaid, said-bound, said-own, said-kind, arrives-at, arrives-among}
 
 -- ---- the peer that a history names
 
@@ -271,20 +266,22 @@ module _ {C : Type 0} (w : Ways C) where
           elim told.asks [ inl meets ↦ inl meets | inr answers ↦ inr (answers.0, answers.1 ∙ own_now) ] in
           let named = said-own w net lawful told.from addr told.raw was told.stamp told.dest told.shake told.reads
           (introduced-names told.dest (asked told.shake.ask) asks_so) in
-          let from_is : told.from ≡ last_peer_of.addr = told.addr ∙ ap (λ (p : Peer). p.addr) (sym at.stays.peer) in
-          (was.socket, record {
-            emission = was.emission;
-            stamp = told.stamp;
-            dest = told.dest;
-            shake = told.shake;
-            stands = subst (λ (a : Addr). StandsAt net a was.socket) from_is was.stands;
-            own_is = sym named.0 ∙ told.id ∙ ap (λ (p : Peer). p.id) (sym at.stays.peer);
-            isn_is = sym named.1 ∙ told.isn ∙ ap (λ (p : Peer). p.isn) (sym at.stays.peer);
-            emits = was.emits;
-            sent_to = was.sent_to;
-            reads = ap read was.same ∙ told.reads;
-            asks = asks_so;
-          })
+          let from_is : told.from ≡ last_peer_of.addr = told.addr ∙ ap (λ (p : Peer). p.addr) (sym at.stays.peer) in (
+            was.socket,
+            record {
+              emission = was.emission;
+              stamp = told.stamp;
+              dest = told.dest;
+              shake = told.shake;
+              stands = subst (λ (a : Addr). StandsAt net a was.socket) from_is was.stands;
+              own_is = sym named.0 ∙ told.id ∙ ap (λ (p : Peer). p.id) (sym at.stays.peer);
+              isn_is = sym named.1 ∙ told.isn ∙ ap (λ (p : Peer). p.isn) (sym at.stays.peer);
+              emits = was.emits;
+              sent_to = was.sent_to;
+              reads = ap read was.same ∙ told.reads;
+              asks = asks_so;
+            },
+          )
 
     -- a request at a listener of an endpoint was emitted by a socket with the peer's ID and initial sequence number, to the endpoint
     pub record IsRequestOf (addr : Addr) (peer : Peer) (other : Enrolled C) : Type 0 where
@@ -310,16 +307,18 @@ module _ {C : Type 0} (w : Ways C) where
         let was = said addr listener stands (datagram_from peer.addr request.bytes) among in
         let asks_so = promised-request w listener.history.opening listener.history.items request.item peer.addr request.bytes request.stamp 0
         request.shake is.legal request.happened request.arrives request.reads request.promised in
-        let named = said-own w net lawful peer.addr addr request.bytes was request.stamp 0 request.shake request.reads (ap (names_sender 0) asks_so) in
-        (was.socket, record {
-          emission = was.emission;
-          stamp = request.stamp;
-          shake = request.shake;
-          stands = was.stands;
-          own_is = sym named.0 ∙ request.id_is;
-          isn_is = sym named.1 ∙ request.isn_is;
-          emits = was.emits;
-          sent_to = was.sent_to;
-          reads = ap read was.same ∙ request.reads;
-          asks = asks_so;
-        })
+        let named = said-own w net lawful peer.addr addr request.bytes was request.stamp 0 request.shake request.reads (ap (names_sender 0) asks_so) in (
+          was.socket,
+          record {
+            emission = was.emission;
+            stamp = request.stamp;
+            shake = request.shake;
+            stands = was.stands;
+            own_is = sym named.0 ∙ request.id_is;
+            isn_is = sym named.1 ∙ request.isn_is;
+            emits = was.emits;
+            sent_to = was.sent_to;
+            reads = ap read was.same ∙ request.reads;
+            asks = asks_so;
+          },
+        )

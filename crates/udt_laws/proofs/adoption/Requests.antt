@@ -13,7 +13,7 @@ use Rattle.udt_model.specs.declared.packets.Malformed.{Malformed}
 use Rattle.udt_model.specs.declared.packets.Shake.{Shake}
 use Rattle.udt_model.specs.Arrivals.{heard_now, is_own, on_own, on_connected, on_read}
 use Rattle.udt_model.specs.Counted.{count_foreign, on_stale}
-use Rattle.udt_model.specs.Events.{Act, Arrive, Event, Reply, DidHear, answered, at_moment}
+use Rattle.udt_model.specs.Events.{Act, Arrive, Event, DidHear, answered, at_moment}
 use Rattle.udt_model.specs.Handshakes.{asked}
 use Rattle.udt_model.specs.History.{Item, AreLegal}
 use Rattle.udt_model.specs.Phases.{Phase}

@@ -1,24 +1,23 @@
 -- Where records are lawful and honest, a stream socket and its own peer are in step, and a message socket shows what its own peer was asked.
-use Rattle.std.proofs.Common.{◌≡◌, ℕ, zero, suc, ◌+◌, ◌<◌, ◌≤◌, true, false, List, [], ◌∷◌, ◌++◌, Some, Ok, refl, ap, ◌∙◌, sym, subst, inl, inr, arith}
+use Rattle.std.proofs.Common.{◌≡◌, ℕ, ◌+◌, ◌<◌, ◌≤◌, List, [], ◌∷◌, ◌++◌, Some, refl, ap, ◌∙◌, sym, subst, inl, inr, arith}
 use Rattle.std.specs.Prelude.{slice_get}
 use Rattle.std.specs.List.{Contains, concat}
 use Rattle.udt_model.specs.declared.addresses.Addr.{Addr}
 use Rattle.udt_model.specs.Emissions.{IsPrefix, emitted}
-use Rattle.udt_model.specs.History.{ShownMessage, AskedMessage, History, state_of, start_of, accepted, delivered, acked, arrived, asked, shown, placed_offsets, dropped_offsets}
+use Rattle.udt_model.specs.History.{ShownMessage, AskedMessage, History, start_of, accepted, delivered, acked, arrived, shown, placed_offsets, dropped_offsets}
 use Rattle.udt_model.specs.Honest.{IsHonest}
 use Rattle.udt_model.specs.Rate.{Ways}
-use Rattle.udt_model.specs.Records.{Enrolled, EndpointRecord, StandsAt, PeerPair, own_peer, AreLawful}
+use Rattle.udt_model.specs.Records.{Enrolled, EndpointRecord, StandsAt, own_peer, AreLawful}
 use Rattle.udt_model.proofs.ReceivingLemmas.{AllFrom}
 use Rattle.udt_laws.specs.Laws.{IsStream, CarriesMessages, AreInStep, Prefix, WasAsked, IsOrdered, ShowsMessages, Messages}
 use Rattle.udt_laws.proofs.acked_has_arrived.AckedHasArrived.{prefix-arrived}
-use Rattle.udt_laws.proofs.adoption.Agreement.{agree, connects-part, parts-connected, part-comes}
+use Rattle.udt_laws.proofs.adoption.Agreement.{connects-part, parts-connected, part-comes}
 use Rattle.udt_laws.proofs.adoption.Hears.{AllHear, acked-shows, all-meet, all-layout}
-use Rattle.udt_laws.proofs.adoption.MutualAdoption.{IsHeardOf, part-hears}
+use Rattle.udt_laws.proofs.adoption.MutualAdoption.{part-hears}
 use Rattle.udt_laws.proofs.adoption.NamesBack.{names-back}
-use Rattle.udt_laws.proofs.adoption.PeersMeet.{Connects, IsIdle, stands-connects}
+use Rattle.udt_laws.proofs.adoption.PeersMeet.{Connects, stands-connects}
 use Rattle.udt_laws.proofs.delivered_is_carried.DeliveredIsCarried.{begins_given_none}
 use Rattle.udt_laws.proofs.delivered_is_carried.DeliversPlacedBlocks.{delivers-front_of}
-use Rattle.udt_laws.proofs.delivered_is_carried.GivenIsOfBlocks.{IsPrefixOf}
 use Rattle.udt_laws.proofs.delivered_prefix.DeliveredPrefix.{prefix-delivered}
 use Rattle.udt_laws.proofs.laid_messages.Layout.{AreLaidOut}
 use Rattle.udt_laws.proofs.laid_messages.Members.{first-contained, none-contained}

@@ -1,13 +1,13 @@
 -- What a stream socket delivers is made of what arrived from its own peer's address, however the socket was opened.
-use Rattle.std.proofs.Common.{◌≡◌, ℕ, ◌+◌, ◌%◌, ◌^◌, List, [], Some, refl, ap, ◌∙◌, sym, subst, inl, inr}
+use Rattle.std.proofs.Common.{◌≡◌, ℕ, ◌+◌, ◌%◌, ◌^◌, List, [], refl, ap, ◌∙◌, sym, subst, inl, inr}
 use Rattle.std.specs.List.{Contains}
 use Rattle.std.proofs.lemmas.Option.{same_Some}
 use Rattle.udt_model.specs.declared.addresses.Addr.{Addr}
 use Rattle.udt_model.specs.declared.answers.Peer.{Peer}
-use Rattle.udt_model.specs.Emissions.{arrivals, IsCarried, IsMadeOf}
-use Rattle.udt_model.specs.History.{History, state_of, start_of, delivered}
+use Rattle.udt_model.specs.Emissions.{arrivals, IsMadeOf}
+use Rattle.udt_model.specs.History.{History, start_of, delivered}
 use Rattle.udt_model.specs.Rate.{Ways}
-use Rattle.udt_model.specs.Records.{Enrolled, IsSocket, PeerPair, own_peer}
+use Rattle.udt_model.specs.Records.{PeerPair}
 use Rattle.udt_model.specs.State.{State, Datagram}
 use Rattle.udt_laws.specs.Laws.{OneHistory, IsStream, peer_isn}
 use Rattle.udt_laws.proofs.sockets.Begins.{begins_names, last_peer}

@@ -1,20 +1,16 @@
 -- What a socket emits, however it was opened: blocks of what it accepted, answers to its own peer, and handshakes that tell whose they are.
-use Rattle.std.proofs.Common.{◌≡◌, ℕ, ◌-◌, ◌≤◌, false, List, [], Some, Ok, refl, ap, ◌∙◌, sym, subst, inl, inr}
+use Rattle.std.proofs.Common.{◌≡◌, ℕ, ◌-◌, ◌≤◌, [], Some, refl, ap, ◌∙◌, sym, subst, inl, inr}
 use Rattle.std.specs.Prelude.{drop, map, slice_get}
-use Rattle.std.specs.List.{Contains, concat}
 use Rattle.std.proofs.lemmas.List.{drop_all}
 use Rattle.std.proofs.Common.{arith}
-use Rattle.udt_model.specs.declared.packets.Flags.{Flags}
-use Rattle.udt_model.specs.Emissions.{emitted}
 use Rattle.udt_model.specs.History.{History, state_of, start_of}
 use Rattle.udt_model.specs.Numbers.{sequence_number}
 use Rattle.udt_model.specs.Rate.{Ways}
 use Rattle.udt_model.specs.SendHalf.{Sending}
 use Rattle.udt_model.specs.SendBlocks.{KeptBlock}
-use Rattle.udt_model.specs.State.{State, Emission}
-use Rattle.udt_model.specs.Wire.{Block, read}
+use Rattle.udt_model.specs.State.{State}
 use Rattle.udt_model.proofs.ShakeLemmas.{bound-goes, shake-names}
-use Rattle.udt_laws.specs.Laws.{CarriesBlock, HasBlocks, EmittedBlocks, Addressed, Named}
+use Rattle.udt_laws.specs.Laws.{HasBlocks, EmittedBlocks, Addressed, Named}
 use Rattle.udt_laws.proofs.sockets.ConnectedParts.{ConnectedPart, NeverConnected, socket-parts, part-emitted, never-emits}
 use Rattle.udt_laws.proofs.sent_blocks.SentBlocks.{has_blocks}
 

@@ -1,19 +1,15 @@
 -- Histories that begin as connected: what they begin with, and what they keep.
 use Rattle.std.proofs.Common.{◌≡◌, ℕ, ◌^◌, ◌<◌, ◌≤◌, true, [], Some, refl, ap, ◌∙◌, sym, subst}
-use Rattle.std.specs.Prelude.{min}
-use Rattle.udt_model.specs.declared.addresses.Addr.{Addr}
 use Rattle.udt_model.specs.declared.answers.Origin.{Origin}
 use Rattle.udt_model.specs.declared.answers.Origin.TheVariants as origin
 use Rattle.udt_model.specs.declared.answers.Peer.{Peer}
 use Rattle.udt_model.specs.declared.packets.Config.{Config}
 use Rattle.udt_model.specs.History.{History, state_of, start_of, IsLegal}
 use Rattle.udt_model.specs.Opening.{CanOpen}
-use Rattle.udt_model.specs.Phases.{Phase}
 use Rattle.udt_model.specs.Rate.{Ways}
 use Rattle.udt_model.specs.ReceiveHalf.{Receiving}
-use Rattle.udt_model.specs.Records.{PeerPair, peer_by, own_peer}
+use Rattle.udt_model.specs.Records.{peer_by, own_peer}
 use Rattle.udt_model.specs.SendHalf.{Sending}
-use Rattle.udt_model.specs.State.{State}
 use Rattle.udt_model.proofs.PhaseLemmas.{is_settled}
 use Rattle.udt_model.proofs.SettlingLemmas.{IsFresh}
 use Rattle.udt_model.proofs.StepLemmas.{after_items-keeps}

@@ -1,33 +1,32 @@
 -- The history of a socket since it was connected, which begins as connected: all of it, where the socket was opened so, and else what follows
 -- the handshake that connected it. Before, nothing is taken or given, and no more than handshakes are emitted.
-use Rattle.std.proofs.Common.{◌≡◌, ℕ, ◌+◌, ◌^◌, ◌<◌, ◌≤◌, true, false, List, [], ◌∷◌, ◌++◌, length, Ok, refl, ap, ◌∙◌, sym, subst, inl, inr, ◌⊎◌, arith}
+use Rattle.std.proofs.Common.{◌≡◌, ℕ, ◌^◌, ◌<◌, ◌≤◌, true, false, List, length, Ok, refl, ap, ◌∙◌, sym, subst, inl, inr, ◌⊎◌, arith}
 use Rattle.std.specs.List.{Contains}
-use Rattle.udt_model.specs.declared.addresses.Addr.{Addr}
 use Rattle.udt_model.specs.declared.answers.Heard.TheVariants as heard
 use Rattle.udt_model.specs.declared.answers.Origin.{Origin}
 use Rattle.udt_model.specs.declared.answers.Origin.TheVariants as origin
 use Rattle.udt_model.specs.declared.answers.Peer.{Peer}
 use Rattle.udt_model.specs.declared.packets.Config.{Config}
 use Rattle.udt_model.specs.Counted.{on_control}
-use Rattle.udt_model.specs.Emissions.{emitted, emitted_by}
+use Rattle.udt_model.specs.Emissions.{emitted}
 use Rattle.udt_model.specs.Events.{Outcome, at_moment}
-use Rattle.udt_model.specs.History.{Item, History, after_items, state_of, start_of, IsLegal, acked, arrived, gapless, placed_offsets}
+use Rattle.udt_model.specs.History.{History, after_items, state_of, start_of, IsLegal, acked, arrived, gapless, placed_offsets}
 use Rattle.udt_model.specs.Opening.{connected, opened, opening, IsOpened, IsOpening}
 use Rattle.udt_model.specs.Rate.{Ways}
-use Rattle.udt_model.specs.Records.{Way, Opened, Paired, PairedAt, IsWay, opened_by, Enrolled, IsSocket, EndpointRecord, PeerPair, peer_by, own_peer}
+use Rattle.udt_model.specs.Records.{Way, Opened, Paired, PairedAt, IsWay, opened_by, Enrolled, IsSocket, peer_by, own_peer}
 use Rattle.udt_model.specs.SendHalf.{Sending}
 use Rattle.udt_model.specs.State.{State, Emission}
 use Rattle.udt_model.specs.Step.{step}
 use Rattle.udt_model.specs.Wire.{Packet, is_handshake, read}
-use Rattle.udt_model.proofs.ConnectedBy.{IsMet, opened-met}
+use Rattle.udt_model.proofs.ConnectedBy.{opened-met}
 use Rattle.udt_model.proofs.PeerLemmas.{IsKnown, has_peer, way-known, items-known}
-use Rattle.udt_model.proofs.SettlingLemmas.{IsHandshake, AreQuiet, GoesOnAs, goes_on, IsLinked, IsConnectedAt, at_moment-unlinked, items-begin, opened-unlinked}
-use Rattle.udt_model.proofs.ShakeLemmas.{known-after, peer-fits, way-own}
+use Rattle.udt_model.proofs.SettlingLemmas.{IsHandshake, AreQuiet, GoesOnAs, goes_on, IsConnectedAt, items-begin, opened-unlinked}
+use Rattle.udt_model.proofs.ShakeLemmas.{peer-fits, way-own}
 use Rattle.udt_model.proofs.SpellingLemmas.{read-shake_spelling}
 use Rattle.udt_model.proofs.StepLemmas.{KeepsName, same_name, step-keeps_name, after_items-keeps_name}
 use Rattle.udt_model.proofs.UnlinkedLemmas.{IsUnlinked}
 use Rattle.udt_laws.proofs.sockets.Begins.{Begins, is_somebody}
-use Rattle.udt_laws.proofs.sockets.Opened.{opened_own, opening-begins}
+use Rattle.udt_laws.proofs.sockets.Opened.{opening-begins}
 use Rattle.udt_laws.proofs.sockets.SuitedPeers.{AgreesIn, items-agree, unlinked-some, IsSuited, links-suited}
 
 -- what is emitted as a handshake is read as nothing else

@@ -1,15 +1,15 @@
 -- Histories that begin as connected to each other, as those of two sockets that were made as a pair do.
-use Rattle.std.proofs.Common.{◌≡◌, ℕ, Some, refl, ap, ◌∙◌, sym, subst}
+use Rattle.std.proofs.Common.{◌≡◌, ℕ, Some, ap, ◌∙◌, sym, subst}
 use Rattle.udt_model.specs.declared.addresses.Addr.{Addr}
 use Rattle.udt_model.specs.declared.answers.Peer.{Peer}
 use Rattle.udt_model.specs.declared.packets.Config.{Config}
 use Rattle.udt_model.specs.History.{History, start_of, IsLegal}
 use Rattle.udt_model.specs.Opening.{opening, IsOpening}
 use Rattle.udt_model.specs.Rate.{Ways}
-use Rattle.udt_model.specs.Records.{Way, Paired, PairedAt, IsWay, Enrolled, IsSocket, opened_by, ArePaired, PeerPair, own_peer}
+use Rattle.udt_model.specs.Records.{Way, PairedAt, IsWay, Enrolled, IsSocket, opened_by, ArePaired, PeerPair, own_peer}
 use Rattle.udt_model.specs.State.{State}
 use Rattle.udt_model.proofs.SettlingLemmas.{IsFresh, opening-fresh}
-use Rattle.udt_laws.proofs.sockets.Begins.{Begins, is_somebody, begins_start, begins_names}
+use Rattle.udt_laws.proofs.sockets.Begins.{Begins, is_somebody, begins_names}
 
 module _ {C : Type 0} (w : Ways C) where
   -- ---- openings

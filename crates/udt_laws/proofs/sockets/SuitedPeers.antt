@@ -1,5 +1,5 @@
 -- The peer that a handshake makes known is of the socket's own kind, and agrees on blocks of at least one byte.
-use Rattle.std.proofs.Common.{◌≡◌, ℕ, ◌+◌, ◌<◌, ◌≤◌, true, false, List, [], ◌∷◌, Some, None, Ok, refl, ap, ◌∙◌, sym, subst, inl, inr, arith}
+use Rattle.std.proofs.Common.{◌≡◌, ℕ, ◌≤◌, true, List, [], ◌∷◌, Some, None, Ok, refl, ap, ◌∙◌, sym, subst, inl, inr, arith}
 use Rattle.std.specs.Prelude.{Option, nat_lt, ◌==◌, ◌&&◌}
 use Rattle.std.proofs.lemmas.Bool.{and_parts, eqb-true, ltb-true}
 use Rattle.udt_model.specs.declared.addresses.Addr.{Addr}
@@ -13,7 +13,7 @@ use Rattle.udt_model.specs.declared.packets.Config.{Config}
 use Rattle.udt_model.specs.declared.packets.Shake.{Shake}
 use Rattle.udt_model.specs.Connections.{config_of}
 use Rattle.udt_model.specs.Events.{Act, Event, at_moment}
-use Rattle.udt_model.specs.Handshakes.{Connecting, Meeting, asked, kind_number, suits, peer_in, client_saw, meet_saw}
+use Rattle.udt_model.specs.Handshakes.{Connecting, Meeting, asked, kind_number, suits, peer_in}
 use Rattle.udt_model.specs.History.{Item, after_items}
 use Rattle.udt_model.specs.Phases.{Phase}
 use Rattle.udt_model.specs.Phases as phase
@@ -26,8 +26,8 @@ use Rattle.udt_model.specs.Wire.{Handshake, read}
 use Rattle.udt_model.proofs.ArrivalLemmas.{Shakes, Links}
 use Rattle.udt_model.proofs.ArrivalLemmas as arrives
 use Rattle.udt_model.proofs.HandshakeLemmas.{SeesAsClient, SeesOffer, SeesAsMeeting, SeesFirst, SeesAnswer, SeesPeer, client_saw-sees, meet_saw-sees}
-use Rattle.udt_model.proofs.PeerLemmas.{standing_of, IsCaller, KnowsPeer, IsKnown, step-known}
-use Rattle.udt_model.proofs.PhaseLemmas.{is_settled, speaks}
+use Rattle.udt_model.proofs.PeerLemmas.{standing_of, KnowsPeer, IsKnown, step-known}
+use Rattle.udt_model.proofs.PhaseLemmas.{is_settled}
 use Rattle.udt_model.proofs.SettlingLemmas.{at_moment-unlinked}
 use Rattle.udt_model.proofs.StepLemmas.{step-keeps}
 use Rattle.udt_model.proofs.UnlinkedLemmas.{IsUnlinked, OfUnlinked, Turns, Listens, Asks, Meets, ListensOn, AsksOn, MeetsOn, Ends, Stays, unlinked-shows}
