@@ -20,8 +20,8 @@ is_somebody origin.Nobody = ⊥
 is_somebody from = Unit {0}
 
 module _ {C : Type 0} (w : Ways C) where
-  -- a history that begins with a state that was just connected, of a socket that was opened with values in range, and in which
-  -- happened what the machine does
+  -- a history that begins with a state that was just connected, of a socket that was opened with values in range, and
+  -- in which happened what the machine does
   pub record Begins (h : History C) : Type 0 where
     pub config : Config
     pub start : ℕ
@@ -34,7 +34,8 @@ module _ {C : Type 0} (w : Ways C) where
     pub fresh : IsFresh w config start h.opening
     pub legal : IsLegal w h
 
-  peer_by-somebody : (from : Origin) (peer : Peer) → is_somebody from → peer_by from peer ≡ Some (record { addr = peer.addr; id = peer.id })
+  peer_by-somebody : (from : Origin) (peer : Peer) → is_somebody from
+      → peer_by from peer ≡ Some (record { addr = peer.addr; id = peer.id })
   peer_by-somebody origin.Nobody peer some = absurd some
   peer_by-somebody _ peer some = refl
 
@@ -80,5 +81,6 @@ module _ {C : Type 0} (w : Ways C) where
     pub begins_names : own_peer w h ≡ Some (record { addr = h.opening.peer.addr; id = h.opening.peer.id })
     begins_names =
         let same = after_items-keeps w h.opening h.items begins_settled in
-        let named = peer_by-somebody (state_of w h).origin (state_of w h).peer (subst is_somebody (sym same.origin) begins.somebody) in
+        let named = peer_by-somebody (state_of w h).origin (state_of w h).peer
+        (subst is_somebody (sym same.origin) begins.somebody) in
         named ∙ ap (λ (p : Peer). Some (record { addr = p.addr; id = p.id })) last_peer
