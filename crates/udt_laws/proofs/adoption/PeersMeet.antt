@@ -26,6 +26,7 @@ use Rattle.udt_model.specs.Wire.{Handshake, read}
 use Rattle.udt_model.proofs.ConnectedBy.{IsMet, opened-nobody, opened-met}
 use Rattle.udt_model.proofs.StepLemmas.{after_items-keeps_name}
 use Rattle.udt_model.proofs.PeerLemmas.{IsKnown, has_peer, way-known, peer-introduced}
+use Rattle.udt_model.proofs.ShakeLemmas.{has-names, pair-same}
 use Rattle.udt_model.proofs.SettlingLemmas.{IsConnectedAt, items-begin}
 use Rattle.udt_laws.proofs.adoption.Requests.{promised-request}
 use Rattle.udt_laws.proofs.sockets.ConnectedParts.{NeverConnected, linked-peer, opened_name, opened_start, begins_unlinked, suited}
@@ -33,17 +34,6 @@ use Rattle.udt_laws.proofs.sockets.OneSocket.{same-socket}
 use Rattle.udt_laws.proofs.sockets.WasSaid.{datagram_from, AllSaid, said-bound, said-own, said-kind, arrives-at, arrives-among}
 
 -- ---- the peer that a history names
-
-peer_pair : Addr → ℕ → PeerPair
-peer_pair addr id = record { addr = addr; id = id }
-
-peer_pair-same : (a b : Addr) (m n : ℕ) → a ≡ b → m ≡ n → peer_pair a m ≡ peer_pair b n
-peer_pair-same a b m n addr id = cc
-
-has-named : (from : Origin) (peer : Peer) → has_peer from ≡ true
-    → peer_by from peer ≡ Some (record { addr = peer.addr; id = peer.id })
-has-named origin.Nobody peer has = absurd (cc)
-has-named _ peer has = refl
 
 named-has : (from : Origin) (peer : Peer) (pair : PeerPair) → peer_by from peer ≡ Some pair → has_peer from ≡ true
 named-has origin.Nobody peer pair is = absurd (cc)
@@ -62,17 +52,16 @@ module _ {C : Type 0} (w : Ways C) where
       → NamesSo pair.addr pair.id (state_of w h).peer
   names-so h pair is =
       let s = state_of w h in
-      let same = same_Some _ _ (sym (has-named s.origin s.peer (names-has h pair is)) ∙ is) in
+      let same = same_Some _ _ (sym (has-names s.origin s.peer (names-has h pair is)) ∙ is) in
       record { addr_is = ap (λ (p : PeerPair). p.addr) same; id_is = ap (λ (p : PeerPair). p.id) same }
 
   pub so-names : (h : History C) (addr : Addr) (id : ℕ) → has_peer (state_of w h).origin ≡ true
       → NamesSo addr id (state_of w h).peer
       → own_peer w h ≡ Some (record { addr = addr; id = id })
-  unfolding peer_pair
   so-names h addr id has so =
       let s = state_of w h in
-      has-named s.origin s.peer has
-      ∙ ap (λ (p : PeerPair). Some p) (peer_pair-same s.peer.addr addr s.peer.id id so.addr_is so.id_is)
+      has-names s.origin s.peer has
+      ∙ ap (λ (p : PeerPair). Some p) (pair-same s.peer.addr addr s.peer.id id so.addr_is so.id_is)
 
 -- what a socket carries is told by its number
 same-kind : (a b : Kind) → kind_number a ≡ kind_number b → a ≡ b

@@ -5,7 +5,6 @@ use Rattle.std.proofs.Common.{◌≡◌, ℕ, ◌^◌, ◌<◌, ◌≤◌, true,
 use Rattle.std.specs.List.{Contains}
 use Rattle.udt_model.specs.declared.answers.Heard.TheVariants as heard
 use Rattle.udt_model.specs.declared.answers.Origin.{Origin}
-use Rattle.udt_model.specs.declared.answers.Origin.TheVariants as origin
 use Rattle.udt_model.specs.declared.answers.Peer.{Peer}
 use Rattle.udt_model.specs.declared.packets.Config.{Config}
 use Rattle.udt_model.specs.Counted.{on_control}
@@ -26,7 +25,7 @@ use Rattle.udt_model.proofs.ShakeLemmas.{peer-fits, way-own}
 use Rattle.udt_model.proofs.SpellingLemmas.{read-shake_spelling}
 use Rattle.udt_model.proofs.StepLemmas.{KeepsName, same_name, step-keeps_name, after_items-keeps_name}
 use Rattle.udt_model.proofs.UnlinkedLemmas.{IsUnlinked}
-use Rattle.udt_laws.proofs.sockets.Begins.{Begins, is_somebody}
+use Rattle.udt_laws.proofs.sockets.Begins.{Begins}
 use Rattle.udt_laws.proofs.sockets.Opened.{opening-begins}
 use Rattle.udt_laws.proofs.sockets.SuitedPeers.{AgreesIn, items-agree, unlinked-some, IsSuited, links-suited}
 
@@ -38,10 +37,6 @@ emitted-handshake emission packet is reads =
     let told = read-shake_spelling is.stamp is.dest is.shake packet
     (ap (λ (e : Emission). read e.datagram.bytes) (sym is.is) ∙ reads) in
     ap is_handshake told.is
-
-has-somebody : (from : Origin) → has_peer from ≡ true → is_somebody from
-has-somebody origin.Nobody has = absurd (cc)
-has-somebody _ has = tt
 
 module _ {C : Type 0} (w : Ways C) where
   -- ---- since a socket was connected
@@ -145,7 +140,7 @@ module _ {C : Type 0} (w : Ways C) where
             id_fits = subst (λ (p : Peer). p.id < 2 ^ 32) met.stays.peer fits.id;
             isn_fits = rw (name.isn, opened_number) in_range.isn_fits;
             payload = subst (λ (p : Peer). 1 ≤ p.payload) (sym peer_is) (suited at).payload;
-            somebody = has-somebody next.origin (ap has_peer (sym met.stays.origin) ∙ met.has);
+            somebody = ap has_peer (sym met.stays.origin) ∙ met.has;
             fresh = at.fresh;
             legal = at.goes_on.legal;
           };

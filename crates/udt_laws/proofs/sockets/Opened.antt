@@ -1,5 +1,5 @@
 -- Histories that begin as connected to each other, as those of two sockets that were made as a pair do.
-use Rattle.std.proofs.Common.{◌≡◌, ℕ, Some, ap, ◌∙◌, sym, subst}
+use Rattle.std.proofs.Common.{◌≡◌, ℕ, true, Some, ap, ◌∙◌, sym, subst}
 use Rattle.udt_model.specs.declared.addresses.Addr.{Addr}
 use Rattle.udt_model.specs.declared.answers.Peer.{Peer}
 use Rattle.udt_model.specs.declared.packets.Config.{Config}
@@ -8,8 +8,10 @@ use Rattle.udt_model.specs.Opening.{opening, IsOpening}
 use Rattle.udt_model.specs.Rate.{Ways}
 use Rattle.udt_model.specs.Records.{Way, PairedAt, IsWay, Enrolled, IsSocket, opened_by, ArePaired, PeerPair, own_peer}
 use Rattle.udt_model.specs.State.{State}
+use Rattle.udt_model.proofs.PeerLemmas.{has_peer}
+use Rattle.udt_model.proofs.ShakeLemmas.{pair-same}
 use Rattle.udt_model.proofs.SettlingLemmas.{IsFresh, opening-fresh}
-use Rattle.udt_laws.proofs.sockets.Begins.{Begins, is_somebody, begins_names}
+use Rattle.udt_laws.proofs.sockets.Begins.{Begins, begins_names}
 
 module _ {C : Type 0} (w : Ways C) where
   -- ---- openings
@@ -36,9 +38,9 @@ module _ {C : Type 0} (w : Ways C) where
     unfolding opening
     opened_start = ap (λ (s : State C). s.sending.blocks.first) is
 
-    somebody : is_somebody h.opening.origin
+    somebody : has_peer h.opening.origin ≡ true
     unfolding opening
-    somebody = subst (λ (s : State C). is_somebody s.origin) (sym is) tt
+    somebody = ap (λ (s : State C). has_peer s.origin) is
 
     -- a history that begins with an opening as connected begins so
     pub opening-begins : IsOpening own config peer start → IsLegal w h → Begins w h
@@ -91,20 +93,13 @@ module _ {C : Type 0} (w : Ways C) where
     same_kind = sym are.same_kind;
   }
 
-  peer_pair : Addr → ℕ → PeerPair
-  peer_pair addr id = record { addr = addr; id = id }
-
-  peer_pair-same : (a b : Addr) (m n : ℕ) → a ≡ b → m ≡ n → peer_pair a m ≡ peer_pair b n
-  peer_pair-same a b m n addr id = cc
-
   -- a history that begins as connected names its peer so
   pub names-peer : (h : History C) (addr : Addr) (id : ℕ) → Begins w h → h.opening.peer.addr ≡ addr
       → h.opening.peer.id ≡ id
       → own_peer w h ≡ Some (record { addr = addr; id = id })
-  unfolding peer_pair
   names-peer h addr id begins addr_is id_is =
       begins_names w h begins
-      ∙ ap (λ (p : PeerPair). Some p) (peer_pair-same h.opening.peer.addr addr h.opening.peer.id id addr_is id_is)
+      ∙ ap (λ (p : PeerPair). Some p) (pair-same h.opening.peer.addr addr h.opening.peer.id id addr_is id_is)
 
   ways-connected : (addr : Addr) (own : ℕ) (way : Way) (h : History C) (other_addr : Addr) (other_own : ℕ)
       (other_way : Way) (g : History C)
