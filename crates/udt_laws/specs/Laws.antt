@@ -1,5 +1,5 @@
 -- The main theorems, as statements about histories and records, over any rate control.
-use Rattle.std.specs.Prelude.{◌≡◌, ◌⊎◌, ℕ, ◌+◌, ◌-◌, ◌%◌, ◌^◌, ◌<◌, ◌≤◌, List, [], ◌∷◌, ◌++◌, drop, length, map, Some, Ok, slice_get, true, false}
+use Rattle.std.specs.Prelude.{◌≡◌, ◌⊎◌, ℕ, ◌+◌, ◌-◌, ◌%◌, ◌^◌, ◌<◌, ◌≤◌, List, [], ◌∷◌, ◌++◌, drop, length, map, Some, Ok, slice_get, true}
 use Rattle.std.specs.List.{Contains, concat}
 use Rattle.udt_model.specs.declared.packets.Flags.{Flags}
 use Rattle.udt_model.specs.declared.packets.Kind.TheVariants.{Stream, Message}
@@ -9,12 +9,9 @@ use Rattle.udt_model.specs.Emissions.{IsPrefix, emitted, sent, arrivals, IsMadeO
 use Rattle.udt_model.specs.Handshakes.{asked as asks}
 use Rattle.udt_model.specs.History.{AskedMessage, ShownMessage, History, IsLegal, state_of, start_of, accepted, delivered, acked, arrived, asked, shown, placed_offsets, dropped_offsets}
 use Rattle.udt_model.specs.Honest.{IsHonest}
-use Rattle.udt_model.specs.Lines.{AreEmitted}
-use Rattle.udt_model.specs.Network.{ScriptSocket}
 use Rattle.udt_model.specs.Numbers.{sequence_number}
 use Rattle.udt_model.specs.Rate.{Ways}
 use Rattle.udt_model.specs.Records.{Enrolled, IsSocket, EndpointRecord, StandsAt, PeerPair, is_bound, names_sender, own_peer, ArePaired, AreLawful}
-use Rattle.udt_model.specs.Script.{size_of, network_after}
 use Rattle.udt_model.specs.SendBlocks.{KeptBlock}
 use Rattle.udt_model.specs.State.{Datagram, Emission}
 use Rattle.udt_model.specs.Wire.{Packet, Block, Handshake, destination, read, target}
@@ -30,7 +27,8 @@ module _ {C : Type 0} where
 
   -- a datagram has the bytes of one that the socket emitted
   abbrev pub WasSentBy : Enrolled C → Datagram → Type 0
-  WasSentBy sender datagram = (sent_one : Datagram) × Contains (sent sender.history) sent_one × (sent_one.bytes ≡ datagram.bytes)
+  WasSentBy sender datagram =
+      (sent_one : Datagram) × Contains (sent sender.history) sent_one × (sent_one.bytes ≡ datagram.bytes)
 
   -- each datagram that came from this address for the receiver has the bytes of one that the sender emitted
   abbrev pub ComesFrom : Enrolled C → Addr → Enrolled C → Type 0
@@ -42,7 +40,8 @@ module _ {C : Type 0} where
   -- each datagram that came at all came from this address, and has the bytes of one that the sender emitted
   abbrev pub AllComesFrom : Enrolled C → Addr → Enrolled C → Type 0
   AllComesFrom receiver from sender =
-      (datagram : Datagram) → Contains (arrivals receiver.history) datagram → (datagram.addr ≡ from) × WasSentBy sender datagram
+      (datagram : Datagram) → Contains (arrivals receiver.history) datagram
+      → (datagram.addr ≡ from) × WasSentBy sender datagram
 
   -- the records of two endpoints with one socket each
   abbrev pub both_records : Addr → Enrolled C → Addr → Enrolled C → List (EndpointRecord C)
@@ -64,8 +63,8 @@ module _ {C : Type 0} (w : Ways C) where
 
   -- a data packet that was emitted carries the block of the one offset that it names, to the peer, under the sequence
   -- number of that offset
-  pub record CarriesBlock (h : History C) (blocks : List (List ℕ)) (emission : Emission) (number dest : ℕ) (payload : List ℕ)
-      : Type 0 where
+  pub record CarriesBlock (h : History C) (blocks : List (List ℕ)) (emission : Emission) (number dest : ℕ)
+      (payload : List ℕ) : Type 0 where
     pub offset : ℕ
     pub names : emission.offsets ≡ offset ∷ []
     pub not_before : start_of h ≤ offset
@@ -89,7 +88,8 @@ module _ {C : Type 0} (w : Ways C) where
   abbrev pub EmittedBlocks : Type 0
   EmittedBlocks = (socket : Enrolled C) → IsSocket w socket → IsStream socket.history → HasBlocks socket.history
 
-  -- All named: of a legal history all datagrams that it sent are emitted ones with the offsets that they name, in order
+  -- All named: of a legal history all datagrams that it sent are emitted ones with the offsets that they name, in
+  -- order
   abbrev pub AllNamed : Type 0
   AllNamed = (h : History C) → IsLegal w h → map (λ (emission : Emission). emission.datagram) (emitted w h) ≡ sent h
 
@@ -100,7 +100,8 @@ module _ {C : Type 0} (w : Ways C) where
       → Contains (emitted w socket.history) emission → read emission.datagram.bytes ≡ Ok packet → is_bound packet ≡ true
       → own_peer w socket.history ≡ Some (record { addr = emission.datagram.addr; id = destination packet })
 
-  -- Named: a handshake that tells whose it is carries the ID and the initial sequence number of the socket that emits it
+  -- Named: a handshake that tells whose it is carries the ID and the initial sequence number of the socket that emits
+  -- it
   abbrev pub Named : Type 0
   Named =
       (socket : Enrolled C) (emission : Emission) (stamp dest : ℕ) (shake : Shake) → IsSocket w socket
@@ -111,11 +112,13 @@ module _ {C : Type 0} (w : Ways C) where
   -- the socket has placed a block, taken a message drop request, or has a block acknowledged
   abbrev pub HasHeard : History C → Type 0
   HasHeard h =
-      ((offset : ℕ) × Contains (placed_offsets w h) offset) ⊎ (((offset : ℕ) × Contains (dropped_offsets w h) offset) ⊎ (0 < acked w h))
+      ((offset : ℕ) × Contains (placed_offsets w h) offset)
+      ⊎ (((offset : ℕ) × Contains (dropped_offsets w h) offset) ⊎ (0 < acked w h))
 
-  -- a socket stands where this one names its peer and names this one as its own. Both carry the same, both begin at one offset, and each
-  -- has the initial sequence number of the other
-  pub record HasMutualPeer (net : List (EndpointRecord C)) (addr : Addr) (socket : Enrolled C) (peer : PeerPair) : Type 0 where
+  -- a socket stands where this one names its peer and names this one as its own. Both carry the same, both begin at
+  -- one offset, and each has the initial sequence number of the other
+  pub record HasMutualPeer (net : List (EndpointRecord C)) (addr : Addr) (socket : Enrolled C) (peer : PeerPair)
+      : Type 0 where
     pub other : Enrolled C
     pub stands : StandsAt net peer.addr other
     pub own_is : other.own ≡ peer.id
@@ -125,7 +128,8 @@ module _ {C : Type 0} (w : Ways C) where
     pub isn : peer_isn socket.history ≡ other.history.opening.isn
     pub back_isn : peer_isn other.history ≡ socket.history.opening.isn
 
-  -- Mutual adoption: where records are lawful and honest, this holds of each socket with an own peer that has so heard of it
+  -- Mutual adoption: where records are lawful and honest, this holds of each socket with an own peer that has so
+  -- heard of it
   abbrev pub MutualAdoption : Type 0
   MutualAdoption =
       (net : List (EndpointRecord C)) (addr : Addr) (socket : Enrolled C) (peer : PeerPair)
@@ -133,8 +137,8 @@ module _ {C : Type 0} (w : Ways C) where
       → StandsAt net addr socket → own_peer w socket.history ≡ Some peer → HasHeard socket.history
       → HasMutualPeer net addr socket peer
 
-  -- what is promised of a socket's history and that of its own peer: what the one delivered is a prefix of what the other
-  -- accepted, and no more blocks of the one are acknowledged than have arrived at the other
+  -- what is promised of a socket's history and that of its own peer: what the one delivered is a prefix of what the
+  -- other accepted, and no more blocks of the one are acknowledged than have arrived at the other
   pub record AreInStep (own other : History C) : Type 0 where
     pub prefix : IsPrefix (delivered own) (accepted other)
     pub acknowledged : acked w own ≤ arrived w other
@@ -148,8 +152,8 @@ module _ {C : Type 0} (w : Ways C) where
       → StandsAt net peer.addr other → other.own ≡ peer.id
       → AreInStep socket.history other.history
 
-  -- Pair prefix: its first half for two sockets that were made as a pair, where the one emitted fewer than 2^30 datagrams
-  -- and the other got no others from there
+  -- Pair prefix: its first half for two sockets that were made as a pair, where the one emitted fewer than 2^30
+  -- datagrams and the other got no others from there
   abbrev pub PairPrefix : Type 0
   PairPrefix =
       (addr peer_addr : Addr) (receiver sender : Enrolled C) → IsSocket w receiver → IsSocket w sender
@@ -165,11 +169,12 @@ module _ {C : Type 0} (w : Ways C) where
       → ComesFrom socket peer_addr other → length (sent socket.history) < 2 ^ 30
       → acked w socket.history ≤ arrived w other.history
 
-  -- Pair honest: the records of two stream sockets that were made as a pair, of which each got from the other alone, and that
-  -- emitted fewer than 2^30 datagrams each, are lawful and honest
+  -- Pair honest: the records of two stream sockets that were made as a pair, of which each got from the other alone,
+  -- and that emitted fewer than 2^30 datagrams each, are lawful and honest
   abbrev pub PairHonest : Type 0
   PairHonest =
-      (addr other_addr : Addr) (socket other : Enrolled C) → (addr ≡ other_addr → ⊥) → IsSocket w socket → IsSocket w other
+      (addr other_addr : Addr) (socket other : Enrolled C) → (addr ≡ other_addr → ⊥) → IsSocket w socket
+      → IsSocket w other
       → ArePaired addr socket.own socket.way other_addr other.own other.way
       → IsStream socket.history → AllComesFrom socket other_addr other → AllComesFrom other addr socket
       → length (sent socket.history) < 2 ^ 30 → length (sent other.history) < 2 ^ 30
@@ -177,8 +182,8 @@ module _ {C : Type 0} (w : Ways C) where
 
   -- ---- messages
 
-  -- a message that was shown was asked: one was accepted whose first offset is that of the shown one, and each that was has
-  -- its bytes
+  -- a message that was shown was asked: one was accepted whose first offset is that of the shown one, and each that
+  -- was has its bytes
   pub record WasAsked (other : History C) (message : ShownMessage) : Type 0 where
     pub asked_one : AskedMessage
     pub among : Contains (asked w other) asked_one
@@ -193,10 +198,10 @@ module _ {C : Type 0} (w : Ways C) where
     pub at : asked_one.first ≡ first
     pub ordered : asked_one.order ≡ true
 
-  -- what is promised of a message socket's history and that of its own peer: each message that the one showed is one that
-  -- the other was asked to send, whole, so one that is dropped is shown whole or not at all; none is shown twice; those that
-  -- must be delivered in order are shown in order; and what is acknowledged of the other was placed at the one, or taken by
-  -- a message drop request
+  -- what is promised of a message socket's history and that of its own peer: each message that the one showed is one
+  -- that the other was asked to send, whole, so one that is dropped is shown whole or not at all; none is shown
+  -- twice; those that must be delivered in order are shown in order; and what is acknowledged of the other was placed
+  -- at the one, or taken by a message drop request
   pub record ShowsMessages (own other : History C) : Type 0 where
     pub whole : (message : ShownMessage) → Contains (shown w own) message → WasAsked other message
     pub once : (m n : ℕ) (one another : ShownMessage) → slice_get (shown w own) m ≡ Some one

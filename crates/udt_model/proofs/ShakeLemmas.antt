@@ -119,8 +119,16 @@ pair_from addr id = record { addr = addr; id = id }
 pair_from-same : (a b : Addr) (m n : ℕ) → a ≡ b → m ≡ n → pair_from a m ≡ pair_from b n
 pair_from-same a b m n addr id = cc
 
+-- pairs of the same address and ID are the same
+abbrev pub pair_of : Addr → ℕ → PeerPair
+pair_of addr id = record { addr = addr; id = id }
+
+pub pair-same : (a b : Addr) (m n : ℕ) → a ≡ b → m ≡ n → pair_of a m ≡ pair_of b n
+unfolding pair_from
+pair-same a b m n addr id = pair_from-same a b m n addr id
+
 -- a socket that has a peer names it
-has-names : (from : Origin) (peer : Peer) → has_peer from ≡ true → peer_by from peer
+pub has-names : (from : Origin) (peer : Peer) → has_peer from ≡ true → peer_by from peer
     ≡ Some (record { addr = peer.addr; id = peer.id })
 has-names origin.Nobody peer has = absurd (cc)
 has-names _ peer has = refl

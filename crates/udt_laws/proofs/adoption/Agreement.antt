@@ -1,5 +1,5 @@
 -- What two sockets of lawful records agree on that name each other as peer, and are connected.
-use Rattle.std.proofs.Common.{◌≡◌, ℕ, false, List, Some, Ok, refl, ap, ◌∙◌, sym, subst, inl, inr, ◌⊎◌}
+use Rattle.std.proofs.Common.{◌≡◌, ℕ, List, Some, ap, ◌∙◌, sym, subst}
 use Rattle.std.specs.List.{Contains}
 use Rattle.udt_model.specs.declared.addresses.Addr.{Addr}
 use Rattle.udt_model.specs.declared.answers.Peer.{Peer}
@@ -9,7 +9,7 @@ use Rattle.udt_model.specs.History.{History, state_of, start_of}
 use Rattle.udt_model.specs.Rate.{Ways}
 use Rattle.udt_model.specs.Opening.{opened, opening, IsOpened, IsOpening}
 use Rattle.udt_model.specs.Records.{Enrolled, EndpointRecord, StandsAt, own_peer, IsPaired, IsRequested, is_answer, AreLawful}
-use Rattle.udt_model.specs.State.{State, Emission}
+use Rattle.udt_model.specs.State.{State}
 use Rattle.udt_model.specs.Wire.{read}
 use Rattle.udt_laws.proofs.adoption.NamesBack.{mate_of, request-begins, request-peer, asks-not_begun, peer-is}
 use Rattle.udt_laws.proofs.adoption.PeersMeet.{names-has, names-so, Connects, ByHandshake, ForRequest, AsPair, stands-socket, met_kind, introduced_by, requested_by}
@@ -38,37 +38,44 @@ module _ {C : Type 0} (w : Ways C) where
 
   module _ (net : List (EndpointRecord C)) (lawful : AreLawful w net) where
     -- a socket that is connected has a part since then
-    pub connects-part : (addr : Addr) (socket : Enrolled C) → (here : StandsAt net addr socket) → Connects w net here.endpoint socket
+    pub connects-part : (addr : Addr) (socket : Enrolled C) → (here : StandsAt net addr socket)
+        → Connects w net here.endpoint socket
         → ConnectedPart w socket.history
     connects-part addr socket here (ByHandshake isn config now in_range opens at) =
-        connected_part w socket.own isn config now socket.history in_range opens (stands-socket w net lawful addr socket here).legal at
+        connected_part w socket.own isn config now socket.history in_range opens
+        (stands-socket w net lawful addr socket here).legal at
     connects-part addr socket here (ForRequest config peer now in_range opens request) =
         begins-part w socket.history (request-begins w net lawful addr socket here config peer now in_range opens)
     connects-part addr socket here (AsPair paired) =
         begins-part w socket.history (mate_of w net lawful addr socket here paired).connected.begins
 
     module _ (said : AllSaid w net) where
-      module _ (addr : Addr) (socket : Enrolled C) (here : StandsAt net addr socket) (at : Addr) (other : Enrolled C) (there : StandsAt net at other)
+      module _ (addr : Addr) (socket : Enrolled C) (here : StandsAt net addr socket) (at : Addr) (other : Enrolled C)
+          (there : StandsAt net at other)
           (names : own_peer w socket.history ≡ Some (record { addr = at; id = other.own })) where
-        told-isn : Connects w net here.endpoint socket → (state_of w socket.history).peer.isn ≡ other.history.opening.isn
+        told-isn : Connects w net here.endpoint socket → (state_of w socket.history).peer.isn
+            ≡ other.history.opening.isn
         told-isn (ByHandshake isn config now in_range opens connected_at) =
             let has = names-has w socket.history _ names in
             let found = introduced_by w net lawful said addr socket here isn config now in_range opens has in
-            let same = peer-is w net lawful said addr socket here at other there names found.0 found.1.stands found.1.own_is in
+            let same = peer-is w net lawful said addr socket here at other there names found.0 found.1.stands
+            found.1.own_is in
             sym found.1.isn_is ∙ ap (λ (x : Enrolled C). x.history.opening.isn) same
         told-isn (ForRequest config peer now in_range opens request) =
             let found = requested_by w net lawful said addr socket here config peer request in
             let told = found.1 in
             let is = request-peer w net lawful addr socket here config peer now in_range opens in
             let same = peer-is w net lawful said addr socket here at other there names found.0
-            (subst (λ (p : Peer). StandsAt net p.addr found.0) (sym is) told.stands) (told.own_is ∙ ap (λ (p : Peer). p.id) (sym is)) in
+            (subst (λ (p : Peer). StandsAt net p.addr found.0) (sym is) told.stands)
+            (told.own_is ∙ ap (λ (p : Peer). p.id) (sym is)) in
             ap (λ (p : Peer). p.isn) is ∙ sym told.isn_is ∙ ap (λ (x : Enrolled C). x.history.opening.isn) same
         told-isn (AsPair paired) =
             let mate = mate_of w net lawful addr socket here paired in
             let are = mate.connected in
             let last = last_peer w socket.history are.begins in
             let same = peer-is w net lawful said addr socket here at other there names mate.other
-            (subst (λ (a : Addr). StandsAt net a mate.other) (sym are.peer_addr ∙ ap (λ (p : Peer). p.addr) (sym last)) mate.stands)
+            (subst (λ (a : Addr). StandsAt net a mate.other)
+            (sym are.peer_addr ∙ ap (λ (p : Peer). p.addr) (sym last)) mate.stands)
             (sym are.peer_id ∙ ap (λ (p : Peer). p.id) (sym last)) in
             ap (λ (p : Peer). p.isn) last ∙ are.isn ∙ ap (λ (x : Enrolled C). x.history.opening.isn) same
 
@@ -79,68 +86,88 @@ module _ {C : Type 0} (w : Ways C) where
             let are = mate.connected in
             let last = last_peer w socket.history are.begins in
             let same = peer-is w net lawful said addr socket here at other there names mate.other
-            (subst (λ (a : Addr). StandsAt net a mate.other) (sym are.peer_addr ∙ ap (λ (p : Peer). p.addr) (sym last)) mate.stands)
+            (subst (λ (a : Addr). StandsAt net a mate.other)
+            (sym are.peer_addr ∙ ap (λ (p : Peer). p.addr) (sym last)) mate.stands)
             (sym are.peer_id ∙ ap (λ (p : Peer). p.id) (sym last)) in
-            subst (λ (x : Enrolled C). BeginSo socket.history x.history) same (record { start = are.same_start; kind = are.same_kind })
+            subst (λ (x : Enrolled C). BeginSo socket.history x.history) same
+            (record { start = are.same_start; kind = are.same_kind })
 
         -- and so do a socket that a handshake connected and its peer
         handshake-kind : (isn : ℕ) (config : Config) (now : ℕ) → IsOpened socket.own isn config
             → (opens : socket.history.opening ≡ opened w socket.own isn config now)
-            → IsConnectedAt w config 0 socket.history.opening socket.history.items → other.history.opening.kind ≡ socket.history.opening.kind
+            → IsConnectedAt w config 0 socket.history.opening socket.history.items
+            → other.history.opening.kind ≡ socket.history.opening.kind
         handshake-kind isn config now in_range opens connected_at =
             let so = names-so w socket.history (record { addr = at; id = other.own }) names in
             met_kind w net lawful said addr socket here isn config now in_range opens connected_at other
             (subst (λ (a : Addr). StandsAt net a other) (sym so.addr_is) there) (sym so.id_is)
 
       -- a socket that wasn't made as one of a pair begins at 0
-      handshake-start : (addr : Addr) (socket : Enrolled C) → StandsAt net addr socket → (isn : ℕ) (config : Config) (now : ℕ)
-          → IsOpened socket.own isn config → socket.history.opening ≡ opened w socket.own isn config now → start_of socket.history ≡ 0
+      handshake-start : (addr : Addr) (socket : Enrolled C) → StandsAt net addr socket
+          → (isn : ℕ) (config : Config) (now : ℕ)
+          → IsOpened socket.own isn config → socket.history.opening ≡ opened w socket.own isn config now
+          → start_of socket.history ≡ 0
       handshake-start addr socket here isn config now in_range opens =
-          opened_start w socket.own isn config now socket.history in_range opens (stands-socket w net lawful addr socket here).legal
+          opened_start w socket.own isn config now socket.history in_range opens
+          (stands-socket w net lawful addr socket here).legal
 
       request-start : (socket : Enrolled C) (config : Config) (peer : Peer) (now : ℕ)
           → socket.history.opening ≡ opening w socket.own config peer now 0 → start_of socket.history ≡ 0
       request-start socket config peer now opens = opening_start w socket.own config peer now 0 socket.history opens
 
-      module _ (addr : Addr) (socket : Enrolled C) (here : StandsAt net addr socket) (at : Addr) (other : Enrolled C) (there : StandsAt net at other)
+      module _ (addr : Addr) (socket : Enrolled C) (here : StandsAt net addr socket) (at : Addr) (other : Enrolled C)
+          (there : StandsAt net at other)
           (names : own_peer w socket.history ≡ Some (record { addr = at; id = other.own }))
           (back : own_peer w other.history ≡ Some (record { addr = addr; id = socket.own })) where
         -- two sockets that were both made for a request don't name each other: neither of them asked
         requests-apart : (config : Config) (peer : Peer) (now : ℕ) → IsOpening socket.own config peer 0
-            → socket.history.opening ≡ opening w socket.own config peer now 0 → IsRequested here.endpoint config peer → Begins w other.history → ⊥
+            → socket.history.opening ≡ opening w socket.own config peer now 0 → IsRequested here.endpoint config peer
+            → Begins w other.history → ⊥
         requests-apart config peer now in_range opens request begins =
             let found = requested_by w net lawful said addr socket here config peer request in
             let told = found.1 in
             let is = request-peer w net lawful addr socket here config peer now in_range opens in
             let same = peer-is w net lawful said addr socket here at other there names found.0
-            (subst (λ (p : Peer). StandsAt net p.addr found.0) (sym is) told.stands) (told.own_is ∙ ap (λ (p : Peer). p.id) (sym is)) in
+            (subst (λ (p : Peer). StandsAt net p.addr found.0) (sym is) told.stands)
+            (told.own_is ∙ ap (λ (p : Peer). p.id) (sym is)) in
             asks-not_begun w net lawful other.history told.emission told.stamp 0 told.shake begins
-            (subst (λ (x : Enrolled C). Contains (emitted w x.history) told.emission) same told.emits) told.reads (ap is_answer told.asks)
+            (subst (λ (x : Enrolled C). Contains (emitted w x.history) told.emission) same told.emits) told.reads
+            (ap is_answer told.asks)
 
-        begin-so : Connects w net here.endpoint socket → Connects w net there.endpoint other → BeginSo socket.history other.history
+        begin-so : Connects w net here.endpoint socket → Connects w net there.endpoint other
+            → BeginSo socket.history other.history
         begin-so (AsPair paired) theirs = pair-begin addr socket here at other there names paired
         begin-so (ByHandshake isn config now in_range opens connected_at) (AsPair paired) =
             begin-back other.history socket.history (pair-begin at other there addr socket here back paired)
         begin-so (ForRequest config peer now in_range opens request) (AsPair paired) =
             begin-back other.history socket.history (pair-begin at other there addr socket here back paired)
-        begin-so (ByHandshake isn config now in_range opens connected_at) (ByHandshake isn' config' now' in_range' opens' connected_at') = record {
-          start = handshake-start at other there isn' config' now' in_range' opens' ∙ sym (handshake-start addr socket here isn config now in_range opens);
-          kind = handshake-kind addr socket here at other there names isn config now in_range opens connected_at;
-        }
-        begin-so (ByHandshake isn config now in_range opens connected_at) (ForRequest config' peer' now' in_range' opens' request') = record {
-          start = request-start other config' peer' now' opens' ∙ sym (handshake-start addr socket here isn config now in_range opens);
-          kind = handshake-kind addr socket here at other there names isn config now in_range opens connected_at;
-        }
-        begin-so (ForRequest config peer now in_range opens request) (ByHandshake isn' config' now' in_range' opens' connected_at') = record {
-          start = handshake-start at other there isn' config' now' in_range' opens' ∙ sym (request-start socket config peer now opens);
-          kind = sym (handshake-kind at other there addr socket here back isn' config' now' in_range' opens' connected_at');
-        }
-        begin-so (ForRequest config peer now in_range opens request) (ForRequest config' peer' now' in_range' opens' request') =
+        begin-so (ByHandshake isn config now in_range opens connected_at)
+            (ByHandshake isn' config' now' in_range' opens' connected_at') = record {
+              start = handshake-start at other there isn' config' now' in_range' opens'
+                  ∙ sym (handshake-start addr socket here isn config now in_range opens);
+              kind = handshake-kind addr socket here at other there names isn config now in_range opens connected_at;
+            }
+        begin-so (ByHandshake isn config now in_range opens connected_at)
+            (ForRequest config' peer' now' in_range' opens' request') = record {
+              start = request-start other config' peer' now' opens'
+                  ∙ sym (handshake-start addr socket here isn config now in_range opens);
+              kind = handshake-kind addr socket here at other there names isn config now in_range opens connected_at;
+            }
+        begin-so (ForRequest config peer now in_range opens request)
+            (ByHandshake isn' config' now' in_range' opens' connected_at') = record {
+              start = handshake-start at other there isn' config' now' in_range' opens'
+                  ∙ sym (request-start socket config peer now opens);
+              kind = sym (handshake-kind at other there addr socket here back isn' config' now' in_range' opens'
+                  connected_at');
+            }
+        begin-so (ForRequest config peer now in_range opens request)
+            (ForRequest config' peer' now' in_range' opens' request') =
             absurd (requests-apart config peer now in_range opens request
             (request-begins w net lawful at other there config' peer' now' in_range' opens'))
 
         -- so two sockets that name each other and are connected agree
-        pub agree : Connects w net here.endpoint socket → Connects w net there.endpoint other → Agree socket.history other.history
+        pub agree : Connects w net here.endpoint socket → Connects w net there.endpoint other
+            → Agree socket.history other.history
         agree mine theirs =
             let so = begin-so mine theirs in
             record {
@@ -151,16 +178,20 @@ module _ {C : Type 0} (w : Ways C) where
             }
 
         -- and since they were connected their histories begin as connected to each other
-        pub parts-connected : (mine : Connects w net here.endpoint socket) (theirs : Connects w net there.endpoint other)
-            → AreConnected w addr socket.own (connects-part addr socket here mine).part at other.own (connects-part at other there theirs).part
+        pub parts-connected : (mine : Connects w net here.endpoint socket)
+            (theirs : Connects w net there.endpoint other)
+            → AreConnected w addr socket.own (connects-part addr socket here mine).part at other.own
+            (connects-part at other there theirs).part
         parts-connected mine theirs =
             let agreed = agree mine theirs in
             let since = connects-part addr socket here mine in
             let other_since = connects-part at other there theirs in
             let so = names-so w socket.history (record { addr = at; id = other.own }) names in
             let back_so = names-so w other.history (record { addr = addr; id = socket.own }) back in
-            let peer_is = sym (last_peer w since.part since.begins) ∙ ap (λ (s : State C). s.peer) (sym since.goes_on.ends) in
-            let back_is = sym (last_peer w other_since.part other_since.begins) ∙ ap (λ (s : State C). s.peer) (sym other_since.goes_on.ends) in
+            let peer_is = sym (last_peer w since.part since.begins)
+            ∙ ap (λ (s : State C). s.peer) (sym since.goes_on.ends) in
+            let back_is = sym (last_peer w other_since.part other_since.begins)
+            ∙ ap (λ (s : State C). s.peer) (sym other_since.goes_on.ends) in
             record {
               begins = since.begins;
               other_begins = other_since.begins;
@@ -180,10 +211,12 @@ module _ {C : Type 0} (w : Ways C) where
         pub part-comes : (theirs : Connects w net there.endpoint other)
             → ComesNear w net addr socket.own at (connects-part at other there theirs).part
         part-comes theirs s sender bytes packet from_is was reads plain own_is =
-            let near = from-sender w net lawful addr at socket.own other there back s sender bytes packet from_is was reads plain own_is in
+            let near = from-sender w net lawful addr at socket.own other there back s sender bytes packet from_is was
+            reads plain own_is in
             record {
               emission = near.emission;
-              among = part-emitted w other.history (connects-part at other there theirs) near.emission packet near.among (ap read near.same ∙ reads) plain;
+              among = part-emitted w other.history (connects-part at other there theirs) near.emission packet
+                  near.among (ap read near.same ∙ reads) plain;
               same = near.same;
               close = near.close;
             }

@@ -1,7 +1,7 @@
--- What a socket hears of its peer, handshakes aside: where each such arrival shows something, so does whatever the socket placed, dropped or
--- counts as acknowledged.
-use Rattle.std.proofs.Common.{◌≡◌, ℕ, true, false, List, [], ◌∷◌, ◌++◌, Ok, Err, refl, ap, ◌∙◌, sym, subst, inl, inr, ◌⊎◌, arith}
-use Rattle.std.specs.Prelude.{Option, Some, None, Result, ◌==◌, ◌&&◌, if◌then◌else◌}
+-- What a socket hears of its peer, handshakes aside: where each such arrival shows something, so does whatever the
+-- socket placed, dropped or counts as acknowledged.
+use Rattle.std.proofs.Common.{◌≡◌, ℕ, true, false, List, [], ◌∷◌, Ok, refl, ap, ◌∙◌, sym, inl, inr, ◌⊎◌}
+use Rattle.std.specs.Prelude.{Result, ◌==◌, if◌then◌else◌}
 use Rattle.std.specs.List.{Contains}
 use Rattle.std.proofs.lemmas.Bool.{and_parts, eqb-true}
 use Rattle.std.proofs.lemmas.List.Elements.{Contains-append_cases}
@@ -34,25 +34,31 @@ module _ {C : Type 0} where
   -- an arrival from the peer for this socket that is no handshake shows this
   abbrev pub HearsSo : Type 0 → State C → Act → Type 0
   HearsSo X s (Arrive from bytes) =
-      (packet : Packet) → from ≡ s.peer.addr → read bytes ≡ Ok packet → is_handshake packet ≡ false → destination packet ≡ s.own → X
+      (packet : Packet) → from ≡ s.peer.addr → read bytes ≡ Ok packet → is_handshake packet ≡ false
+      → destination packet ≡ s.own → X
   HearsSo X s act = Unit {0}
 
   -- so no block is placed and nothing is acknowledged without it
   hears-meets : (X : Type 0) (s : State C) (act : Act) → HearsSo X s act → MeetsAct (λ offset payload. X) s act
   hears-meets X s (Arrive from bytes) hears =
-      λ number flags stamp payload offset sender reads found. hears (Block number flags stamp s.own payload) sender reads refl refl
+      λ number flags stamp payload offset sender reads found. hears (Block number flags stamp s.own payload) sender
+      reads refl refl
   hears-meets X s _ hears = tt
 
-  hears-acks : (X : Type 0) (Q : ℕ → Type 0) (s : State C) (act : Act) → (X → (n : ℕ) → Q n) → HearsSo X s act → AcksAct Q s act
+  hears-acks : (X : Type 0) (Q : ℕ → Type 0) (s : State C) (act : Act) → (X → (n : ℕ) → Q n) → HearsSo X s act
+      → AcksAct Q s act
   hears-acks X Q s (Arrive from bytes) so hears =
       λ number stamp body offset sender reads at. so (hears (Ack number stamp s.own body) sender reads refl refl) offset
   hears-acks X Q s _ so hears = tt
 
   -- nor is a message laid
-  hears-layout : (payload : ℕ) (messages : List LaidMessage) (s : State C) (act : Act) → HearsSo ⊥ s act → MeetsLayout payload messages s act
+  hears-layout : (payload : ℕ) (messages : List LaidMessage) (s : State C) (act : Act) → HearsSo ⊥ s act
+      → MeetsLayout payload messages s act
   hears-layout payload messages s (Arrive from bytes) hears = record {
-    places = λ number flags stamp bytes' offset sender reads found. absurd (hears (Block number flags stamp s.own bytes') sender reads refl refl);
-    drops = λ message stamp first last range sender reads taken. absurd (hears (DropAsk message stamp s.own first last) sender reads refl refl);
+    places = λ number flags stamp bytes' offset sender reads found. absurd
+        (hears (Block number flags stamp s.own bytes') sender reads refl refl);
+    drops = λ message stamp first last range sender reads taken. absurd
+        (hears (DropAsk message stamp s.own first last) sender reads refl refl);
   }
   hears-layout payload messages s _ hears = tt
 
@@ -67,19 +73,32 @@ module _ {C : Type 0} (w : Ways C) where
   AllHear X s [] = Unit {0}
   AllHear X s (item ∷ items) = HearsSo X s item.event.act × AllHear X (step w s item.event).after items
 
-  pub all-meet : (X : Type 0) (s : State C) (items : List Item) → AllHear X s items → AllMeet w (λ offset payload. X) s items
+  pub all-meet : (X : Type 0) (s : State C) (items : List Item) → AllHear X s items
+      → AllMeet w (λ offset payload. X) s items
   all-meet X s [] hear = tt
-  all-meet X s (item ∷ items) hear = (hears-meets X s item.event.act hear.0, all-meet X (step w s item.event).after items hear.1)
+  all-meet X s (item ∷ items) hear = (
+    hears-meets X s item.event.act hear.0,
+    all-meet X (step w s item.event).after
+        items hear.1,
+  )
 
   pub all-layout : (payload : ℕ) (messages : List LaidMessage) (s : State C) (items : List Item) → AllHear ⊥ s items
       → AllMeetLayout payload messages w s items
   all-layout payload messages s [] hear = tt
-  all-layout payload messages s (item ∷ items) hear =
-      (hears-layout payload messages s item.event.act hear.0, all-layout payload messages (step w s item.event).after items hear.1)
+  all-layout payload messages s (item ∷ items) hear = (
+    hears-layout payload messages s item.event.act hear.0,
+    all-layout payload messages (step w s item.event).after
+        items hear.1,
+  )
 
-  all-ack : (X : Type 0) (Q : ℕ → Type 0) (s : State C) (items : List Item) → (X → (n : ℕ) → Q n) → AllHear X s items → AllAck w Q s items
+  all-ack : (X : Type 0) (Q : ℕ → Type 0) (s : State C) (items : List Item) → (X → (n : ℕ) → Q n) → AllHear X s items
+      → AllAck w Q s items
   all-ack X Q s [] so hear = tt
-  all-ack X Q s (item ∷ items) so hear = (hears-acks X Q s item.event.act so hear.0, all-ack X Q (step w s item.event).after items so hear.1)
+  all-ack X Q s (item ∷ items) so hear = (
+    hears-acks X Q s item.event.act so hear.0,
+    all-ack X Q
+        (step w s item.event).after items so hear.1,
+  )
 
   -- either nothing was acknowledged, or some arrival shows it
   pub acked-shows : (X : Type 0) (s : State C) (items : List Item) → AllHear X s items
@@ -93,7 +112,8 @@ module _ {C : Type 0} (w : Ways C) where
   placed-for : (s : State C) (from : Addr) (raw : List ℕ) (number : ℕ) (packet : Packet) → read raw ≡ Ok packet
       → (on_read w s from (read raw)).reply ≡ DidHear heard.Placed → IsFor s from packet
   placed-for s from raw number packet reads placed =
-      arrival-shows w s from (λ outcome. outcome.reply ≡ DidHear heard.Placed → IsFor s from packet) (read raw) (record {
+      arrival-shows w s from (λ outcome. outcome.reply ≡ DidHear heard.Placed → IsFor s from packet) (read raw)
+      (record {
         passed = λ counters answer differs same. absurd (differs cc);
         noticed = λ counters answer differs connected same. absurd (differs cc);
         brought = λ number flags stamp bytes connected sender is same.
@@ -117,7 +137,8 @@ module _ {C : Type 0} (w : Ways C) where
       elim (is_own s from packet) as (λ own. is_own s from packet ≡ own → (
       if own
       then on_own w (heard_now s) packet
-      else answered (record s { counters = count_foreign s.counters }) (DidHear heard.Foreign)).reply ≡ DidHear heard.Dropped → IsFor s from packet) [
+      else answered (record s { counters = count_foreign s.counters }) (DidHear heard.Foreign)).reply
+      ≡ DidHear heard.Dropped → IsFor s from packet) [
         | true ↦ λ own answer.
             let parts = and_parts (same_addr from s.peer.addr) (dest == s.own) own in
             record { sender = same_addr-is from s.peer.addr parts.0; dest = eqb-true dest s.own parts.1 }
@@ -130,14 +151,16 @@ module _ {C : Type 0} (w : Ways C) where
       → IsFor s from (DropAsk message stamp dest first last)
   dropped-for s from message stamp dest first last dropped =
       let packet = DropAsk message stamp dest first last in
-      packet-shows w s from (Ok packet) (λ outcome. outcome.reply ≡ DidHear heard.Dropped → IsFor s from packet) (record {
+      packet-shows w s from (Ok packet) (λ outcome. outcome.reply ≡ DidHear heard.Dropped → IsFor s from packet)
+      (record {
         stale = λ same. absurd (cc);
         shaken = λ next peer from_whom answer emissions placed drops unsettled shakes same. absurd (drops cc);
         linked = λ peer from_whom emissions unsettled links same. absurd (cc);
       }) packet s.phase refl refl (λ connected. dropped-connected s from message stamp dest first last) dropped
 
   module _ (X : Type 0) where
-    placed-by_reply : (s : State C) (now : ℕ) (from : Addr) (raw : List ℕ) (result : Result Packet Malformed) (offset : ℕ) → read raw ≡ result
+    placed-by_reply : (s : State C) (now : ℕ) (from : Addr) (raw : List ℕ) (result : Result Packet Malformed)
+        (offset : ℕ) → read raw ≡ result
         → (on_read w (at_moment s now) from (read raw)).reply ≡ DidHear heard.Placed → HearsSo X s (Arrive from raw)
         → Contains (offset_of_packet s result) offset → X
     placed-by_reply s now from raw (Ok (Block number flags stamp dest bytes)) offset is placed hears among =
@@ -146,13 +169,15 @@ module _ {C : Type 0} (w : Ways C) where
         hears packet so.sender is refl so.dest
     placed-by_reply s now from raw _ offset is placed hears among = absurd (none-contained offset among)
 
-    placed-by_act : (s : State C) (now : ℕ) (act : Act) (reply : Reply) (offset : ℕ) → reply ≡ (on_act w (at_moment s now) act).reply
+    placed-by_act : (s : State C) (now : ℕ) (act : Act) (reply : Reply) (offset : ℕ)
+        → reply ≡ (on_act w (at_moment s now) act).reply
         → HearsSo X s act → Contains (placed_by s act reply) offset → X
     placed-by_act s now (Arrive from raw) (DidHear heard.Placed) offset is hears among =
         placed-by_reply s now from raw (read raw) offset refl (sym is) hears among
     placed-by_act s now _ _ offset is hears among = absurd (none-contained offset among)
 
-    dropped-by_reply : (s : State C) (now : ℕ) (from : Addr) (raw : List ℕ) (result : Result Packet Malformed) (offset : ℕ) → read raw ≡ result
+    dropped-by_reply : (s : State C) (now : ℕ) (from : Addr) (raw : List ℕ) (result : Result Packet Malformed)
+        (offset : ℕ) → read raw ≡ result
         → (on_read w (at_moment s now) from result).reply ≡ DidHear heard.Dropped → HearsSo X s (Arrive from raw)
         → Contains (offsets_of_request s result) offset → X
     dropped-by_reply s now from raw (Ok (DropAsk message stamp dest first last)) offset is dropped hears among =
@@ -160,21 +185,25 @@ module _ {C : Type 0} (w : Ways C) where
         hears (DropAsk message stamp dest first last) so.sender is refl so.dest
     dropped-by_reply s now from raw _ offset is dropped hears among = absurd (none-contained offset among)
 
-    dropped-by_act : (s : State C) (now : ℕ) (act : Act) (reply : Reply) (offset : ℕ) → reply ≡ (on_act w (at_moment s now) act).reply
+    dropped-by_act : (s : State C) (now : ℕ) (act : Act) (reply : Reply) (offset : ℕ)
+        → reply ≡ (on_act w (at_moment s now) act).reply
         → HearsSo X s act → Contains (dropped_by s act reply) offset → X
     dropped-by_act s now (Arrive from raw) (DidHear heard.Dropped) offset is hears among =
         dropped-by_reply s now from raw (read raw) offset refl (sym is) hears among
     dropped-by_act s now _ _ offset is hears among = absurd (none-contained offset among)
 
-    placed-by_step : (s : State C) (event : Event) (reply : Reply) (offset : ℕ) → reply ≡ (step w s event).reply → HearsSo X s event.act
+    placed-by_step : (s : State C) (event : Event) (reply : Reply) (offset : ℕ) → reply ≡ (step w s event).reply
+        → HearsSo X s event.act
         → Contains (placed_by s event.act reply) offset → X
     unfolding step
     placed-by_step s event reply offset is hears among = placed-by_act s event.now event.act reply offset is hears among
 
-    dropped-by_step : (s : State C) (event : Event) (reply : Reply) (offset : ℕ) → reply ≡ (step w s event).reply → HearsSo X s event.act
+    dropped-by_step : (s : State C) (event : Event) (reply : Reply) (offset : ℕ) → reply ≡ (step w s event).reply
+        → HearsSo X s event.act
         → Contains (dropped_by s event.act reply) offset → X
     unfolding step
-    dropped-by_step s event reply offset is hears among = dropped-by_act s event.now event.act reply offset is hears among
+    dropped-by_step s event reply offset is hears among = dropped-by_act s event.now event.act reply offset is hears
+        among
 
     -- so each offset that items place, or drop, comes with an arrival that shows it
     pub placed-shows : (s : State C) (items : List Item) (offset : ℕ) → AreLegal w s items → AllHear X s items
@@ -203,15 +232,19 @@ module _ {C : Type 0} (w : Ways C) where
       -- what is emitted at an address for an ID here, and is no handshake, shows this
       abbrev pub ShowsSo : Type 0
       ShowsSo =
-          (s : State C) (sender : Addr) (bytes : List ℕ) (packet : Packet) → sender ≡ from → WasEmitted w net s sender addr bytes
+          (s : State C) (sender : Addr) (bytes : List ℕ) (packet : Packet) → sender ≡ from
+          → WasEmitted w net s sender addr bytes
           → read bytes ≡ Ok packet → is_handshake packet ≡ false → destination packet ≡ own → X
 
-      act-hears : (s : State C) (act : Act) → ShowsSo → s.own ≡ own → s.peer.addr ≡ from → IsHonestAct w net addr s act → HearsSo X s act
+      act-hears : (s : State C) (act : Act) → ShowsSo → s.own ≡ own → s.peer.addr ≡ from
+          → IsHonestAct w net addr s act → HearsSo X s act
       act-hears s (Arrive sender bytes) shows own_is addr_is was =
-          λ packet from_is reads plain dest. shows s sender bytes packet (from_is ∙ addr_is) was reads plain (dest ∙ own_is)
+          λ packet from_is reads plain dest. shows s sender bytes packet (from_is ∙ addr_is) was reads plain
+          (dest ∙ own_is)
       act-hears s _ shows own_is addr_is was = tt
 
-      pub items-hear : (s : State C) (items : List Item) → ShowsSo → is_settled s.phase ≡ true → s.own ≡ own → s.peer.addr ≡ from
+      pub items-hear : (s : State C) (items : List Item) → ShowsSo → is_settled s.phase ≡ true → s.own ≡ own
+          → s.peer.addr ≡ from
           → AreHonest w net addr s items → AllHear X s items
       unfolding AreHonest
       items-hear s [] shows settled own_is addr_is honest = tt

@@ -1,20 +1,20 @@
 -- A socket that has heard of its peer, handshakes aside, is connected to the socket there, and that one to it.
-use Rattle.std.proofs.Common.{◌≡◌, ℕ, true, false, List, Some, Ok, refl, ap, ◌∙◌, sym, subst, inl, inr, ◌⊎◌, arith}
+use Rattle.std.proofs.Common.{◌≡◌, ℕ, false, List, Some, Ok, ap, ◌∙◌, sym, subst, inl, inr, arith}
 use Rattle.std.specs.List.{Contains}
 use Rattle.udt_model.specs.declared.addresses.Addr.{Addr}
 use Rattle.udt_model.specs.declared.answers.Peer.{Peer}
 use Rattle.udt_model.specs.Emissions.{emitted}
-use Rattle.udt_model.specs.History.{History, after_items, state_of, start_of, acked, placed_offsets, dropped_offsets}
+use Rattle.udt_model.specs.History.{History}
 use Rattle.udt_model.specs.Honest.{WasEmitted, IsHonest}
 use Rattle.udt_model.specs.Rate.{Ways}
-use Rattle.udt_model.specs.Records.{Enrolled, EndpointRecord, StandsAt, PeerPair, own_peer, AreLawful}
+use Rattle.udt_model.specs.Records.{Enrolled, EndpointRecord, StandsAt, own_peer, AreLawful}
 use Rattle.udt_model.specs.State.{State, Datagram, Emission}
 use Rattle.udt_model.specs.Wire.{Packet, is_handshake, destination, read}
-use Rattle.udt_laws.specs.Laws.{HasHeard, HasMutualPeer, MutualAdoption}
+use Rattle.udt_laws.specs.Laws.{HasHeard, MutualAdoption}
 use Rattle.udt_laws.proofs.adoption.Agreement.{agree, connects-part}
 use Rattle.udt_laws.proofs.adoption.Hears.{AllHear, acked-shows, placed-shows, dropped-shows, items-hear}
 use Rattle.udt_laws.proofs.adoption.NamesBack.{named-by}
-use Rattle.udt_laws.proofs.adoption.PeersMeet.{names-so, Connects, IsIdle, stands-socket, stands-connects}
+use Rattle.udt_laws.proofs.adoption.PeersMeet.{names-so, Connects, stands-socket, stands-connects}
 use Rattle.udt_laws.proofs.laid_messages.Members.{none-contained}
 use Rattle.udt_laws.proofs.sockets.Begins.{begins_settled, last_peer}
 use Rattle.udt_laws.proofs.sockets.ConnectedParts.{ConnectedPart, NeverConnected, socket-own, part-acked, never-acked, never-emits}
@@ -35,11 +35,15 @@ module _ {C : Type 0} (w : Ways C) (net : List (EndpointRecord C)) (lawful : Are
     pub reads : read emission.datagram.bytes ≡ Ok packet
     pub plain : is_handshake packet ≡ false
 
-  module _ (said : AllSaid w net) (addr : Addr) (socket : Enrolled C) (here : StandsAt net addr socket) (at : Addr) (id : ℕ)
-      (names : own_peer w socket.history ≡ Some (record { addr = at; id = id })) (mine : Connects w net here.endpoint socket) where
+  module _ (said : AllSaid w net) (addr : Addr) (socket : Enrolled C) (here : StandsAt net addr socket) (at : Addr)
+      (id : ℕ)
+      (names : own_peer w socket.history ≡ Some (record { addr = at; id = id }))
+      (mine : Connects w net here.endpoint socket) where
     -- who emitted what arrives from the peer's address for this socket
-    emitter-heard : (s : State C) (sender : Addr) (bytes : List ℕ) (packet : Packet) → sender ≡ at → WasEmitted w net s sender addr bytes
-        → read bytes ≡ Ok packet → is_handshake packet ≡ false → destination packet ≡ socket.own → IsHeardOf addr socket at id
+    emitter-heard : (s : State C) (sender : Addr) (bytes : List ℕ) (packet : Packet) → sender ≡ at
+        → WasEmitted w net s sender addr bytes
+        → read bytes ≡ Ok packet → is_handshake packet ≡ false → destination packet ≡ socket.own
+        → IsHeardOf addr socket at id
     emitter-heard s sender bytes packet from_is was reads plain own_is =
         let other = was.socket in
         let there = subst (λ (a : Addr). StandsAt net a other) from_is was.stands in
@@ -64,19 +68,23 @@ module _ {C : Type 0} (w : Ways C) (net : List (EndpointRecord C)) (lawful : Are
 
     -- so whatever shows what such a socket shows, all arrivals since the connection show
     pub part-hears : (X : Type 0) → IsHonest w net → (IsHeardOf addr socket at id → X)
-        → AllHear w X (connects-part w net lawful addr socket here mine).part.opening (connects-part w net lawful addr socket here mine).part.items
+        → AllHear w X (connects-part w net lawful addr socket here mine).part.opening
+        (connects-part w net lawful addr socket here mine).part.items
     part-hears X honest shows =
         let since = connects-part w net lawful addr socket here mine in
         let h = since.part in
         let so = names-so w socket.history (record { addr = at; id = id }) names in
         let peer_is = sym (last_peer w h since.begins) ∙ ap (λ (s : State C). s.peer) (sym since.goes_on.ends) in
         items-hear w X net addr socket.own at h.opening h.items
-        (λ s sender bytes packet from_is was reads plain own_is. shows (emitter-heard s sender bytes packet from_is was reads plain own_is))
-        (begins_settled w h since.begins) (since.name.own ∙ socket-own w socket (stands-socket w net lawful addr socket here))
+        (λ s sender bytes packet from_is was reads plain own_is. shows
+        (emitter-heard s sender bytes packet from_is was reads plain own_is))
+        (begins_settled w h since.begins) (since.name.own ∙ socket-own w socket
+        (stands-socket w net lawful addr socket here))
         (ap (λ (p : Peer). p.addr) peer_is ∙ so.addr_is) (since.goes_on.honest net addr (honest addr socket here))
 
     -- what was placed or dropped since, or is acknowledged, shows that there is one
-    heard-shows : (X : Type 0) → (since : ConnectedPart w socket.history) → AllHear w X since.part.opening since.part.items
+    heard-shows : (X : Type 0) → (since : ConnectedPart w socket.history)
+        → AllHear w X since.part.opening since.part.items
         → HasHeard w socket.history → X
     heard-shows X since hear (inl placed) =
         placed-shows w X since.part.opening since.part.items placed.0 since.begins.legal hear
@@ -96,7 +104,8 @@ module _ {C : Type 0} (w : Ways C) (net : List (EndpointRecord C)) (lawful : Are
 
   -- a socket that was never connected has heard of nobody
   never-heard : (h : History C) → NeverConnected w h → HasHeard w h → ⊥
-  never-heard h never (inl placed) = none-contained placed.0 (subst (λ (offsets : List ℕ). Contains offsets placed.0) never.quiet.placed placed.1)
+  never-heard h never (inl placed) = none-contained placed.0
+      (subst (λ (offsets : List ℕ). Contains offsets placed.0) never.quiet.placed placed.1)
   never-heard h never (inr (inl dropped)) =
       none-contained dropped.0 (subst (λ (offsets : List ℕ). Contains offsets dropped.0) never.quiet.dropped dropped.1)
   never-heard h never (inr (inr some)) = omega (arith, some, never-acked w h never)
@@ -108,8 +117,10 @@ mutual_adoption w net addr socket peer lawful honest here names heard =
       | inl idle ↦ absurd (never-heard w net lawful socket.history idle.never heard)
       | inr mine ↦
           let of = adopted w net lawful said addr socket here peer.addr peer.id names mine honest heard in
-          let named = subst (λ (n : ℕ). own_peer w socket.history ≡ Some (record { addr = peer.addr; id = n })) (sym of.own_is) names in
-          let so = agree w net lawful said addr socket here peer.addr of.other of.there named of.back mine of.connects in
+          let named = subst (λ (n : ℕ). own_peer w socket.history ≡ Some (record { addr = peer.addr; id = n }))
+          (sym of.own_is) names in
+          let so = agree w net lawful said addr socket here peer.addr of.other of.there named of.back mine
+          of.connects in
           record {
             other = of.other;
             stands = of.there;

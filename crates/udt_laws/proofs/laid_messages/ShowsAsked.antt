@@ -1,5 +1,5 @@
 -- What a message socket shows of the layout of its own peer, in the words of what the peer was asked.
-use Rattle.std.proofs.Common.{◌≡◌, ℕ, ◌+◌, ◌<◌, ◌≤◌, List, ◌++◌, ap, ◌∙◌, subst}
+use Rattle.std.proofs.Common.{ℕ, ◌+◌, ◌<◌, ◌≤◌, List, ◌++◌, ap, ◌∙◌, subst}
 use Rattle.std.specs.List.{Contains}
 use Rattle.udt_model.specs.History.{AskedMessage, History, start_of, acked, placed_offsets, dropped_offsets}
 use Rattle.udt_model.specs.Rate.{Ways}

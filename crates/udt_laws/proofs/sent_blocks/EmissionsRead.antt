@@ -8,7 +8,6 @@ use Rattle.udt_model.specs.declared.addresses.Addr.{Addr}
 use Rattle.udt_model.specs.declared.addresses.Ip.{Ip}
 use Rattle.udt_model.specs.declared.addresses.Ip.TheVariants.{V4, V6}
 use Rattle.udt_model.specs.declared.handshakes.Asked.{Asked}
-use Rattle.udt_model.specs.declared.handshakes.Asked.TheVariants as asks
 use Rattle.udt_model.specs.declared.handshakes.Caller.{Caller}
 use Rattle.udt_model.specs.declared.limits.TheConstants.{MOST_BLOCKS, MOST_PAYLOAD}
 use Rattle.udt_model.specs.declared.packets.Kind.{Kind}

@@ -13,11 +13,10 @@ use Rattle.udt_model.specs.Emissions.{emitted}
 use Rattle.udt_model.specs.Events.{Act, Reply, at_moment}
 use Rattle.udt_model.specs.Handshakes.{asked}
 use Rattle.udt_model.specs.Records.{is_answer}
-use Rattle.udt_model.specs.History.{Item, History, after_items, state_of, start_of, IsLegal}
+use Rattle.udt_model.specs.History.{Item, History, after_items, state_of, start_of}
 use Rattle.udt_model.specs.Numbers.{sequence_number}
 use Rattle.udt_model.specs.ReceiveHalf.{Receiving, idle_receiving, linked_receiving}
 use Rattle.udt_model.specs.SendHalf.{Sending, idle_sending, linked_sending}
-use Rattle.udt_model.specs.Opening.{CanOpen}
 use Rattle.udt_model.specs.Rate.{Ways}
 use Rattle.udt_model.specs.State.{State, Emission}
 use Rattle.udt_model.specs.Timing.{RoundTrip, unmeasured}
@@ -27,7 +26,7 @@ use Rattle.udt_model.proofs.PhaseLemmas.{is_settled}
 use Rattle.udt_model.proofs.InOrder.{none_in_order}
 use Rattle.udt_model.proofs.SendingLemmas.{IsCut, cut-kept_at, packing-sends, packing-again, lost-within}
 use Rattle.udt_model.proofs.StepLemmas.{after_items-keeps}
-use Rattle.udt_laws.specs.Laws.{CarriesBlock, HasBlocks, EmittedBlocks}
+use Rattle.udt_laws.specs.Laws.{CarriesBlock, HasBlocks}
 use Rattle.udt_laws.proofs.sockets.Begins.{Begins, begins_settled, begins_start}
 use Rattle.udt_laws.proofs.sent_blocks.AcceptedIsCut.{blocks_by, blocks_by-append, blocks_by-parts, items-cut}
 use Rattle.udt_laws.proofs.sent_blocks.EmissionsRead.{CanSpell, packet_of, packet-dest, IsSpelled, emission-spelled, shake-answers}

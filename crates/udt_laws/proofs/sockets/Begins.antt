@@ -1,31 +1,22 @@
 -- Histories that begin as connected: what they begin with, and what they keep.
-use Rattle.std.proofs.Common.{◌≡◌, ℕ, ◌^◌, ◌<◌, ◌≤◌, true, [], Some, refl, ap, ◌∙◌, sym, subst}
-use Rattle.std.specs.Prelude.{min}
-use Rattle.udt_model.specs.declared.addresses.Addr.{Addr}
-use Rattle.udt_model.specs.declared.answers.Origin.{Origin}
-use Rattle.udt_model.specs.declared.answers.Origin.TheVariants as origin
+use Rattle.std.proofs.Common.{◌≡◌, ℕ, ◌^◌, ◌<◌, ◌≤◌, true, [], Some, ap, ◌∙◌, sym}
 use Rattle.udt_model.specs.declared.answers.Peer.{Peer}
 use Rattle.udt_model.specs.declared.packets.Config.{Config}
 use Rattle.udt_model.specs.History.{History, state_of, start_of, IsLegal}
 use Rattle.udt_model.specs.Opening.{CanOpen}
-use Rattle.udt_model.specs.Phases.{Phase}
 use Rattle.udt_model.specs.Rate.{Ways}
 use Rattle.udt_model.specs.ReceiveHalf.{Receiving}
-use Rattle.udt_model.specs.Records.{PeerPair, peer_by, own_peer}
+use Rattle.udt_model.specs.Records.{own_peer}
 use Rattle.udt_model.specs.SendHalf.{Sending}
-use Rattle.udt_model.specs.State.{State}
+use Rattle.udt_model.proofs.PeerLemmas.{has_peer}
 use Rattle.udt_model.proofs.PhaseLemmas.{is_settled}
 use Rattle.udt_model.proofs.SettlingLemmas.{IsFresh}
+use Rattle.udt_model.proofs.ShakeLemmas.{has-names}
 use Rattle.udt_model.proofs.StepLemmas.{after_items-keeps}
 
--- the peer is somebody
-abbrev pub is_somebody : Origin → Type 0
-is_somebody origin.Nobody = ⊥
-is_somebody from = Unit {0}
-
 module _ {C : Type 0} (w : Ways C) where
-  -- a history that begins with a state that was just connected, of a socket that was opened with values in range, and in which
-  -- happened what the machine does
+  -- a history that begins with a state that was just connected, of a socket that was opened with values in range, and
+  -- in which happened what the machine does
   pub record Begins (h : History C) : Type 0 where
     pub config : Config
     pub start : ℕ
@@ -34,13 +25,9 @@ module _ {C : Type 0} (w : Ways C) where
     pub id_fits : h.opening.peer.id < 2 ^ 32
     pub isn_fits : h.opening.isn < 2 ^ 31
     pub payload : 1 ≤ h.opening.peer.payload
-    pub somebody : is_somebody h.opening.origin
+    pub somebody : has_peer h.opening.origin ≡ true
     pub fresh : IsFresh w config start h.opening
     pub legal : IsLegal w h
-
-  peer_by-somebody : (from : Origin) (peer : Peer) → is_somebody from → peer_by from peer ≡ Some (record { addr = peer.addr; id = peer.id })
-  peer_by-somebody origin.Nobody peer some = absurd some
-  peer_by-somebody _ peer some = refl
 
   module _ (h : History C) (begins : Begins h) where
     pub begins_settled : is_settled h.opening.phase ≡ true
@@ -84,5 +71,5 @@ module _ {C : Type 0} (w : Ways C) where
     pub begins_names : own_peer w h ≡ Some (record { addr = h.opening.peer.addr; id = h.opening.peer.id })
     begins_names =
         let same = after_items-keeps w h.opening h.items begins_settled in
-        let named = peer_by-somebody (state_of w h).origin (state_of w h).peer (subst is_somebody (sym same.origin) begins.somebody) in
-        named ∙ ap (λ (p : Peer). Some (record { addr = p.addr; id = p.id })) last_peer
+        has-names (state_of w h).origin (state_of w h).peer (ap has_peer same.origin ∙ begins.somebody)
+        ∙ ap (λ (p : Peer). Some (record { addr = p.addr; id = p.id })) last_peer

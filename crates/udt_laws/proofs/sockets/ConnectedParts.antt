@@ -1,45 +1,42 @@
--- The history of a socket since it was connected, which begins as connected: all of it, where the socket was opened so, and else what follows
--- the handshake that connected it. Before, nothing is taken or given, and no more than handshakes are emitted.
-use Rattle.std.proofs.Common.{◌≡◌, ℕ, ◌+◌, ◌^◌, ◌<◌, ◌≤◌, true, false, List, [], ◌∷◌, ◌++◌, length, Ok, refl, ap, ◌∙◌, sym, subst, inl, inr, ◌⊎◌, arith}
+-- The history of a socket since it was connected, which begins as connected: all of it, where the socket was opened
+-- so, and else what follows the handshake that connected it. Before, nothing is taken or given, and no more than
+-- handshakes are emitted.
+use Rattle.std.proofs.Common.{◌≡◌, ℕ, ◌^◌, ◌<◌, ◌≤◌, true, false, List, length, Ok, refl, ap, ◌∙◌, sym, subst, inl, inr, ◌⊎◌, arith}
 use Rattle.std.specs.List.{Contains}
-use Rattle.udt_model.specs.declared.addresses.Addr.{Addr}
 use Rattle.udt_model.specs.declared.answers.Heard.TheVariants as heard
 use Rattle.udt_model.specs.declared.answers.Origin.{Origin}
-use Rattle.udt_model.specs.declared.answers.Origin.TheVariants as origin
 use Rattle.udt_model.specs.declared.answers.Peer.{Peer}
 use Rattle.udt_model.specs.declared.packets.Config.{Config}
 use Rattle.udt_model.specs.Counted.{on_control}
-use Rattle.udt_model.specs.Emissions.{emitted, emitted_by}
+use Rattle.udt_model.specs.Emissions.{emitted}
 use Rattle.udt_model.specs.Events.{Outcome, at_moment}
-use Rattle.udt_model.specs.History.{Item, History, after_items, state_of, start_of, IsLegal, acked, arrived, gapless, placed_offsets}
+use Rattle.udt_model.specs.History.{History, after_items, state_of, start_of, IsLegal, acked, arrived, gapless, placed_offsets}
 use Rattle.udt_model.specs.Opening.{connected, opened, opening, IsOpened, IsOpening}
 use Rattle.udt_model.specs.Rate.{Ways}
-use Rattle.udt_model.specs.Records.{Way, Opened, Paired, PairedAt, IsWay, opened_by, Enrolled, IsSocket, EndpointRecord, PeerPair, peer_by, own_peer}
+use Rattle.udt_model.specs.Records.{Way, Opened, Paired, PairedAt, IsWay, opened_by, Enrolled, IsSocket, peer_by, own_peer}
 use Rattle.udt_model.specs.SendHalf.{Sending}
 use Rattle.udt_model.specs.State.{State, Emission}
 use Rattle.udt_model.specs.Step.{step}
 use Rattle.udt_model.specs.Wire.{Packet, is_handshake, read}
-use Rattle.udt_model.proofs.ConnectedBy.{IsMet, opened-met}
+use Rattle.udt_model.proofs.ConnectedBy.{opened-met}
 use Rattle.udt_model.proofs.PeerLemmas.{IsKnown, has_peer, way-known, items-known}
-use Rattle.udt_model.proofs.SettlingLemmas.{IsHandshake, AreQuiet, GoesOnAs, goes_on, IsLinked, IsConnectedAt, at_moment-unlinked, items-begin, opened-unlinked}
-use Rattle.udt_model.proofs.ShakeLemmas.{known-after, peer-fits, way-own}
+use Rattle.udt_model.proofs.SettlingLemmas.{IsHandshake, AreQuiet, GoesOnAs, goes_on, IsConnectedAt, items-begin, opened-unlinked}
+use Rattle.udt_model.proofs.ShakeLemmas.{peer-fits, way-own}
 use Rattle.udt_model.proofs.SpellingLemmas.{read-shake_spelling}
 use Rattle.udt_model.proofs.StepLemmas.{KeepsName, same_name, step-keeps_name, after_items-keeps_name}
 use Rattle.udt_model.proofs.UnlinkedLemmas.{IsUnlinked}
-use Rattle.udt_laws.proofs.sockets.Begins.{Begins, is_somebody}
-use Rattle.udt_laws.proofs.sockets.Opened.{opened_own, opening-begins}
+use Rattle.udt_laws.proofs.sockets.Begins.{Begins}
+use Rattle.udt_laws.proofs.sockets.Opened.{opening-begins}
 use Rattle.udt_laws.proofs.sockets.SuitedPeers.{AgreesIn, items-agree, unlinked-some, IsSuited, links-suited}
 
 -- what is emitted as a handshake is read as nothing else
-pub emitted-handshake : (emission : Emission) (packet : Packet) → IsHandshake emission → read emission.datagram.bytes ≡ Ok packet
+pub emitted-handshake : (emission : Emission) (packet : Packet) → IsHandshake emission
+    → read emission.datagram.bytes ≡ Ok packet
     → is_handshake packet ≡ true
 emitted-handshake emission packet is reads =
-    let told = read-shake_spelling is.stamp is.dest is.shake packet (ap (λ (e : Emission). read e.datagram.bytes) (sym is.is) ∙ reads) in
+    let told = read-shake_spelling is.stamp is.dest is.shake packet
+    (ap (λ (e : Emission). read e.datagram.bytes) (sym is.is) ∙ reads) in
     ap is_handshake told.is
-
-has-somebody : (from : Origin) → has_peer from ≡ true → is_somebody from
-has-somebody origin.Nobody has = absurd (cc)
-has-somebody _ has = tt
 
 module _ {C : Type 0} (w : Ways C) where
   -- ---- since a socket was connected
@@ -71,7 +68,8 @@ module _ {C : Type 0} (w : Ways C) where
     same_start = refl;
   }
 
-  opening-part : (own : ℕ) (config : Config) (peer : Peer) (now start : ℕ) (h : History C) → IsOpening own config peer start
+  opening-part : (own : ℕ) (config : Config) (peer : Peer) (now start : ℕ) (h : History C)
+      → IsOpening own config peer start
       → h.opening ≡ opening w own config peer now start → IsLegal w h → ConnectedPart h
   opening-part own config peer now start h in_range is legal =
       begins-part h (opening-begins w own config peer now start h is in_range legal)
@@ -112,7 +110,8 @@ module _ {C : Type 0} (w : Ways C) where
         let begun = subst (IsKnown w config 0) (sym is) (way-known w own way) in
         let known = items-known w config 0 h.opening at.front begun in
         let agrees = items-agree w config 0 h.opening at.front in_range.values.payload begun opened_agrees in
-        links-suited w (at_moment t at.item.event.now) at.linked.from at.linked.raw at.linked.peer at.linked.from_whom at.linked.emissions
+        links-suited w (at_moment t at.item.event.now) at.linked.from at.linked.raw at.linked.peer at.linked.from_whom
+        at.linked.emissions
         (unlinked-some w config 0 t in_range.values.payload at.unlinked) known.knows agrees at.linked.links
 
     pub connected_part : IsConnectedAt w config 0 h.opening h.items → ConnectedPart h
@@ -129,7 +128,8 @@ module _ {C : Type 0} (w : Ways C) where
         } in
         let met = opened-met w own isn config now h.opening in_range is h.items at in
         let fits = peer-fits w own (Opened isn config now) h.items h.opening in_range is met.has in
-        let peer_is = linked-peer (at_moment t at.item.event.now) at.linked.peer at.linked.from_whom at.linked.emissions _ at.linked.outcome_is in
+        let peer_is = linked-peer (at_moment t at.item.event.now) at.linked.peer at.linked.from_whom
+        at.linked.emissions _ at.linked.outcome_is in
         record {
           part = record { opening = next; items = at.rest };
           begins = record {
@@ -140,7 +140,7 @@ module _ {C : Type 0} (w : Ways C) where
             id_fits = subst (λ (p : Peer). p.id < 2 ^ 32) met.stays.peer fits.id;
             isn_fits = rw (name.isn, opened_number) in_range.isn_fits;
             payload = subst (λ (p : Peer). 1 ≤ p.payload) (sym peer_is) (suited at).payload;
-            somebody = has-somebody next.origin (ap has_peer (sym met.stays.origin) ∙ met.has);
+            somebody = ap has_peer (sym met.stays.origin) ∙ met.has;
             fresh = at.fresh;
             legal = at.goes_on.legal;
           };
@@ -160,11 +160,14 @@ module _ {C : Type 0} (w : Ways C) where
   way-parts : (own : ℕ) (way : Way) (h : History C) → IsWay own way → h.opening ≡ opened_by w own way → IsLegal w h
       → NeverConnected h ⊎ ConnectedPart h
   way-parts own (Opened isn config now) h in_range is legal = opened-parts own isn config now h in_range is legal
-  way-parts own (Paired config peer now) h in_range is legal = inr (opening-part own config peer now 0 h in_range is legal)
-  way-parts own (PairedAt config peer now start) h in_range is legal = inr (opening-part own config peer now start h in_range is legal)
+  way-parts own (Paired config peer now) h in_range is legal = inr
+      (opening-part own config peer now 0 h in_range is legal)
+  way-parts own (PairedAt config peer now start) h in_range is legal = inr
+      (opening-part own config peer now start h in_range is legal)
 
   -- a socket was never connected, or its history goes on as one that begins as connected
-  pub socket-parts : (socket : Enrolled C) → IsSocket w socket → NeverConnected socket.history ⊎ ConnectedPart socket.history
+  pub socket-parts : (socket : Enrolled C) → IsSocket w socket
+      → NeverConnected socket.history ⊎ ConnectedPart socket.history
   socket-parts socket is = way-parts socket.own socket.way socket.history is.in_range is.opened is.legal
 
   pub socket-own : (socket : Enrolled C) → IsSocket w socket → socket.history.opening.own ≡ socket.own
@@ -182,10 +185,12 @@ module _ {C : Type 0} (w : Ways C) where
     pub part-arrived : arrived w h ≡ arrived w since.part
     part-arrived =
         ap (λ (offsets : List ℕ). gapless (length offsets) (start_of h) offsets) since.goes_on.placed
-        ∙ ap (λ (n : ℕ). gapless (length (placed_offsets w since.part)) n (placed_offsets w since.part)) (sym since.same_start)
+        ∙ ap (λ (n : ℕ). gapless (length (placed_offsets w since.part)) n (placed_offsets w since.part))
+        (sym since.same_start)
 
     -- what is emitted and is no handshake was emitted since then
-    pub part-emitted : (emission : Emission) (packet : Packet) → Contains (emitted w h) emission → read emission.datagram.bytes ≡ Ok packet
+    pub part-emitted : (emission : Emission) (packet : Packet) → Contains (emitted w h) emission
+        → read emission.datagram.bytes ≡ Ok packet
         → is_handshake packet ≡ false → Contains (emitted w since.part) emission
     part-emitted emission packet among reads plain = elim (since.goes_on.emitted emission among) [
       | inl shakes ↦ let is = emitted-handshake emission packet shakes reads in absurd (cc)
@@ -198,7 +203,8 @@ module _ {C : Type 0} (w : Ways C) where
     never-acked = omega (arith, ap (λ (sending : Sending C). sending.blocks.first) never.still.sending, never.begun)
 
     -- and emits no more than handshakes
-    pub never-emits : (emission : Emission) (packet : Packet) → Contains (emitted w h) emission → read emission.datagram.bytes ≡ Ok packet
+    pub never-emits : (emission : Emission) (packet : Packet) → Contains (emitted w h) emission
+        → read emission.datagram.bytes ≡ Ok packet
         → is_handshake packet ≡ false → ⊥
     never-emits emission packet among reads plain =
         let is = emitted-handshake emission packet (never.quiet.emitted emission among) reads in

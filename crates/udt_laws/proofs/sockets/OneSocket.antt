@@ -21,7 +21,8 @@ packet-bound _ is = refl
 -- being a pair goes both ways
 pub paired-back : (addr : Addr) (own : ℕ) (way : Way) (other_addr : Addr) (other_own : ℕ) (other_way : Way)
     → ArePaired addr own way other_addr other_own other_way → ArePaired other_addr other_own other_way addr own way
-paired-back addr own (PairedAt config peer now start) other_addr other_own (PairedAt other_config other_peer other_now other_start) paired =
+paired-back addr own (PairedAt config peer now start) other_addr other_own
+    (PairedAt other_config other_peer other_now other_start) paired =
     (paired.2, paired.3, paired.0, paired.1, sym paired.4, sym paired.5, sym paired.6)
 paired-back addr own _ other_addr other_own _ paired = absurd paired
 
@@ -40,43 +41,55 @@ module _ {C : Type 0} (w : Ways C) where
     pub same : emission.datagram.bytes ≡ bytes
 
   -- where what comes from an address for a socket comes from this sender, its packets were emitted by it
-  pub comes-emitted : (receiver : Enrolled C) (from : Addr) (sender : Enrolled C) → IsSocket w sender → ComesFrom receiver from sender
-      → (bytes : List ℕ) (packet : Packet) → Contains (arrivals receiver.history) (record { addr = from; bytes = bytes }) → read bytes ≡ Ok packet
+  pub comes-emitted : (receiver : Enrolled C) (from : Addr) (sender : Enrolled C) → IsSocket w sender
+      → ComesFrom receiver from sender
+      → (bytes : List ℕ) (packet : Packet) → Contains (arrivals receiver.history)
+      (record { addr = from; bytes = bytes }) → read bytes ≡ Ok packet
       → destination packet ≡ receiver.own → IsEmittedAs sender.history bytes
   comes-emitted receiver from sender is_sender comes bytes packet among reads own_is =
-      let came = comes (record { addr = from; bytes = bytes }) among refl (target-of-read bytes packet reads ∙ ap (λ (id : ℕ). Some id) own_is) in
+      let came = comes (record { addr = from; bytes = bytes }) among refl
+      (target-of-read bytes packet reads ∙ ap (λ (id : ℕ). Some id) own_is) in
       let is = emitted-from_sent w sender.history.opening sender.history.items came.0 is_sender.legal came.1 in
       record { emission = is.emission; among = is.among; same = ap (λ (d : Datagram). d.bytes) is.datagram_is ∙ came.2 }
 
-  -- what comes to a socket of this address and ID from an address, for it and no handshake, was emitted in this history, near
-  -- where it is read
+  -- what comes to a socket of this address and ID from an address, for it and no handshake, was emitted in this
+  -- history, near where it is read
   abbrev pub ComesNear : List (EndpointRecord C) → Addr → ℕ → Addr → History C → Type 0
   ComesNear net addr own from g =
-      (s : State C) (sender : Addr) (bytes : List ℕ) (packet : Packet) → sender ≡ from → WasEmitted w net s sender addr bytes
-      → read bytes ≡ Ok packet → is_handshake packet ≡ false → destination packet ≡ own → IsEmittedNear g (read_by s packet) bytes
+      (s : State C) (sender : Addr) (bytes : List ℕ) (packet : Packet) → sender ≡ from
+      → WasEmitted w net s sender addr bytes
+      → read bytes ≡ Ok packet → is_handshake packet ≡ false → destination packet ≡ own
+      → IsEmittedNear g (read_by s packet) bytes
 
 module _ {C : Type 0} (w : Ways C) (net : List (EndpointRecord C)) (lawful : AreLawful w net) where
   -- the records have one endpoint of an address
-  one-endpoint : (addr : Addr) (socket other : Enrolled C) (here : StandsAt net addr socket) → (there : StandsAt net addr other)
+  one-endpoint : (addr : Addr) (socket other : Enrolled C) (here : StandsAt net addr socket)
+      → (there : StandsAt net addr other)
       → Contains here.endpoint.sockets other
   one-endpoint addr socket other here there =
-      let same = lawful.addresses there.endpoint here.endpoint there.among here.among (there.addr_is ∙ sym here.addr_is) in
+      let same = lawful.addresses there.endpoint here.endpoint there.among here.among
+      (there.addr_is ∙ sym here.addr_is) in
       subst (λ (endpoint : EndpointRecord C). Contains endpoint.sockets other) same there.enrolled
 
   -- so an address and an ID name one socket
-  pub same-socket : (addr : Addr) (socket other : Enrolled C) → StandsAt net addr socket → StandsAt net addr other → socket.own ≡ other.own
+  pub same-socket : (addr : Addr) (socket other : Enrolled C) → StandsAt net addr socket → StandsAt net addr other
+      → socket.own ≡ other.own
       → socket ≡ other
   same-socket addr socket other here there own =
-      (lawful.each here.endpoint here.among).ids socket other here.enrolled (one-endpoint addr socket other here there) own
+      (lawful.each here.endpoint here.among).ids socket other here.enrolled
+      (one-endpoint addr socket other here there) own
 
   -- and an address and a peer do
-  pub same-peer : (addr : Addr) (socket other : Enrolled C) (peer : PeerPair) → StandsAt net addr socket → StandsAt net addr other
+  pub same-peer : (addr : Addr) (socket other : Enrolled C) (peer : PeerPair) → StandsAt net addr socket
+      → StandsAt net addr other
       → own_peer w socket.history ≡ Some peer → own_peer w other.history ≡ Some peer → socket ≡ other
   same-peer addr socket other peer here there first second =
-      (lawful.each here.endpoint here.among).peers socket other peer here.enrolled (one-endpoint addr socket other here there) first second
+      (lawful.each here.endpoint here.among).peers socket other peer here.enrolled
+      (one-endpoint addr socket other here there) first second
 
   -- the socket that emitted what came from an address for an ID there, bound for its peer, has these as its peer
-  pub emitter-names : (addr : Addr) (s : State C) (from : Addr) (bytes : List ℕ) (packet : Packet) → (was : WasEmitted w net s from addr bytes)
+  pub emitter-names : (addr : Addr) (s : State C) (from : Addr) (bytes : List ℕ) (packet : Packet)
+      → (was : WasEmitted w net s from addr bytes)
       → read bytes ≡ Ok packet → is_bound packet ≡ true
       → own_peer w was.socket.history ≡ Some (record { addr = addr; id = destination packet })
   emitter-names addr s from bytes packet was reads bound =
@@ -89,7 +102,8 @@ module _ {C : Type 0} (w : Ways C) (net : List (EndpointRecord C)) (lawful : Are
   -- so it was emitted by the one that has them
   pub emitter-is : (addr sender_addr : Addr) (own : ℕ) (sender : Enrolled C) → StandsAt net sender_addr sender
       → own_peer w sender.history ≡ Some (record { addr = addr; id = own })
-      → (s : State C) (from : Addr) (bytes : List ℕ) (packet : Packet) → from ≡ sender_addr → (was : WasEmitted w net s from addr bytes)
+      → (s : State C) (from : Addr) (bytes : List ℕ) (packet : Packet) → from ≡ sender_addr
+      → (was : WasEmitted w net s from addr bytes)
       → read bytes ≡ Ok packet → is_bound packet ≡ true → destination packet ≡ own → was.socket ≡ sender
   emitter-is addr sender_addr own sender stands names_back s from bytes packet from_is was reads bound own_is =
       let there = subst (λ (a : Addr). StandsAt net a was.socket) from_is was.stands in
@@ -100,7 +114,8 @@ module _ {C : Type 0} (w : Ways C) (net : List (EndpointRecord C)) (lawful : Are
   -- and what it names lies near where it is read, where it is no handshake
   pub from-sender : (addr sender_addr : Addr) (own : ℕ) (sender : Enrolled C) → StandsAt net sender_addr sender
       → own_peer w sender.history ≡ Some (record { addr = addr; id = own })
-      → (s : State C) (from : Addr) (bytes : List ℕ) (packet : Packet) → from ≡ sender_addr → WasEmitted w net s from addr bytes
+      → (s : State C) (from : Addr) (bytes : List ℕ) (packet : Packet) → from ≡ sender_addr
+      → WasEmitted w net s from addr bytes
       → read bytes ≡ Ok packet → is_handshake packet ≡ false → destination packet ≡ own
       → IsEmittedNear w sender.history (read_by s packet) bytes
   from-sender addr sender_addr own sender stands names_back s from bytes packet from_is was reads handshake own_is =

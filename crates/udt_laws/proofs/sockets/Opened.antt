@@ -1,20 +1,23 @@
 -- Histories that begin as connected to each other, as those of two sockets that were made as a pair do.
-use Rattle.std.proofs.Common.{◌≡◌, ℕ, Some, refl, ap, ◌∙◌, sym, subst}
+use Rattle.std.proofs.Common.{◌≡◌, ℕ, true, Some, ap, ◌∙◌, sym, subst}
 use Rattle.udt_model.specs.declared.addresses.Addr.{Addr}
 use Rattle.udt_model.specs.declared.answers.Peer.{Peer}
 use Rattle.udt_model.specs.declared.packets.Config.{Config}
 use Rattle.udt_model.specs.History.{History, start_of, IsLegal}
 use Rattle.udt_model.specs.Opening.{opening, IsOpening}
 use Rattle.udt_model.specs.Rate.{Ways}
-use Rattle.udt_model.specs.Records.{Way, Paired, PairedAt, IsWay, Enrolled, IsSocket, opened_by, ArePaired, PeerPair, own_peer}
+use Rattle.udt_model.specs.Records.{Way, PairedAt, IsWay, Enrolled, IsSocket, opened_by, ArePaired, PeerPair, own_peer}
 use Rattle.udt_model.specs.State.{State}
+use Rattle.udt_model.proofs.PeerLemmas.{has_peer}
+use Rattle.udt_model.proofs.ShakeLemmas.{pair-same}
 use Rattle.udt_model.proofs.SettlingLemmas.{IsFresh, opening-fresh}
-use Rattle.udt_laws.proofs.sockets.Begins.{Begins, is_somebody, begins_start, begins_names}
+use Rattle.udt_laws.proofs.sockets.Begins.{Begins, begins_names}
 
 module _ {C : Type 0} (w : Ways C) where
   -- ---- openings
 
-  module _ (own : ℕ) (config : Config) (peer : Peer) (now start : ℕ) (h : History C) (is : h.opening ≡ opening w own config peer now start) where
+  module _ (own : ℕ) (config : Config) (peer : Peer) (now start : ℕ) (h : History C)
+      (is : h.opening ≡ opening w own config peer now start) where
     pub opened_own : h.opening.own ≡ own
     unfolding opening
     opened_own = ap (λ (s : State C). s.own) is
@@ -35,9 +38,9 @@ module _ {C : Type 0} (w : Ways C) where
     unfolding opening
     opened_start = ap (λ (s : State C). s.sending.blocks.first) is
 
-    somebody : is_somebody h.opening.origin
+    somebody : has_peer h.opening.origin ≡ true
     unfolding opening
-    somebody = subst (λ (s : State C). is_somebody s.origin) (sym is) tt
+    somebody = ap (λ (s : State C). has_peer s.origin) is
 
     -- a history that begins with an opening as connected begins so
     pub opening-begins : IsOpening own config peer start → IsLegal w h → Begins w h
@@ -56,9 +59,10 @@ module _ {C : Type 0} (w : Ways C) where
 
   -- ---- pairs
 
-  -- two histories begin as connected to each other: each has the other as its peer, and they begin with one number and at one offset in
-  -- each direction
-  pub record AreConnected (addr : Addr) (own : ℕ) (h : History C) (other_addr : Addr) (other_own : ℕ) (g : History C) : Type 0 where
+  -- two histories begin as connected to each other: each has the other as its peer, and they begin with one number
+  -- and at one offset in each direction
+  pub record AreConnected (addr : Addr) (own : ℕ) (h : History C) (other_addr : Addr) (other_own : ℕ)
+      (g : History C) : Type 0 where
     pub begins : Begins w h
     pub other_begins : Begins w g
     pub own_is : h.opening.own ≡ own
@@ -89,25 +93,22 @@ module _ {C : Type 0} (w : Ways C) where
     same_kind = sym are.same_kind;
   }
 
-  peer_pair : Addr → ℕ → PeerPair
-  peer_pair addr id = record { addr = addr; id = id }
-
-  peer_pair-same : (a b : Addr) (m n : ℕ) → a ≡ b → m ≡ n → peer_pair a m ≡ peer_pair b n
-  peer_pair-same a b m n addr id = cc
-
   -- a history that begins as connected names its peer so
-  pub names-peer : (h : History C) (addr : Addr) (id : ℕ) → Begins w h → h.opening.peer.addr ≡ addr → h.opening.peer.id ≡ id
+  pub names-peer : (h : History C) (addr : Addr) (id : ℕ) → Begins w h → h.opening.peer.addr ≡ addr
+      → h.opening.peer.id ≡ id
       → own_peer w h ≡ Some (record { addr = addr; id = id })
-  unfolding peer_pair
   names-peer h addr id begins addr_is id_is =
       begins_names w h begins
-      ∙ ap (λ (p : PeerPair). Some p) (peer_pair-same h.opening.peer.addr addr h.opening.peer.id id addr_is id_is)
+      ∙ ap (λ (p : PeerPair). Some p) (pair-same h.opening.peer.addr addr h.opening.peer.id id addr_is id_is)
 
-  ways-connected : (addr : Addr) (own : ℕ) (way : Way) (h : History C) (other_addr : Addr) (other_own : ℕ) (other_way : Way) (g : History C)
-      → ArePaired addr own way other_addr other_own other_way → IsWay own way → h.opening ≡ opened_by w own way → IsLegal w h
+  ways-connected : (addr : Addr) (own : ℕ) (way : Way) (h : History C) (other_addr : Addr) (other_own : ℕ)
+      (other_way : Way) (g : History C)
+      → ArePaired addr own way other_addr other_own other_way → IsWay own way → h.opening ≡ opened_by w own way
+      → IsLegal w h
       → IsWay other_own other_way → g.opening ≡ opened_by w other_own other_way → IsLegal w g
       → AreConnected addr own h other_addr other_own g
-  ways-connected addr own (PairedAt config peer now start) h other_addr other_own (PairedAt config' peer' now' start') g paired
+  ways-connected addr own (PairedAt config peer now start) h other_addr other_own (PairedAt config' peer' now' start')
+      g paired
       in_range is legal other_in_range other_is other_legal =
       let peer_is = opened_peer own config peer now start h is in
       let back_is = opened_peer other_own config' peer' now' start' g other_is in
@@ -123,13 +124,17 @@ module _ {C : Type 0} (w : Ways C) where
         back_id = ap (λ (p : Peer). p.id) back_is ∙ paired.3;
         isn = ap (λ (p : Peer). p.isn) peer_is ∙ sym paired.5 ∙ sym other_isn;
         back_isn = ap (λ (p : Peer). p.isn) back_is ∙ paired.5 ∙ sym (opened_isn own config peer now start h is);
-        same_start = opened_start other_own config' peer' now' start' g other_is ∙ paired.6 ∙ sym (opened_start own config peer now start h is);
-        same_kind = opened_kind other_own config' peer' now' start' g other_is ∙ paired.4 ∙ sym (opened_kind own config peer now start h is);
+        same_start = opened_start other_own config' peer' now' start' g other_is ∙ paired.6
+            ∙ sym (opened_start own config peer now start h is);
+        same_kind = opened_kind other_own config' peer' now' start' g other_is ∙ paired.4
+            ∙ sym (opened_kind own config peer now start h is);
       }
-  ways-connected addr own _ h other_addr other_own _ g paired in_range is legal other_in_range other_is other_legal = absurd paired
+  ways-connected addr own _ h other_addr other_own _ g paired in_range is legal other_in_range other_is other_legal =
+      absurd paired
 
   -- the histories of two sockets that were made as a pair begin so
-  pub paired-connected : (addr : Addr) (socket : Enrolled C) (other_addr : Addr) (other : Enrolled C) → IsSocket w socket → IsSocket w other
+  pub paired-connected : (addr : Addr) (socket : Enrolled C) (other_addr : Addr) (other : Enrolled C)
+      → IsSocket w socket → IsSocket w other
       → ArePaired addr socket.own socket.way other_addr other.own other.way
       → AreConnected addr socket.own socket.history other_addr other.own other.history
   paired-connected addr socket other_addr other is other_is paired =
