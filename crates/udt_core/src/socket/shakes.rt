@@ -1,6 +1,7 @@
 // What handshakes do, as they arrive and as time passes.
 
-ghost use Rattle.std.specs.Prelude.{◌≡◌, ◌<◌, ◌≤◌, ◌^◌, [], ◌++◌, ◌∷◌, length};
+ghost use Rattle.std.specs.Prelude.{◌≡◌, ◌+◌, ◌<◌, ◌≤◌, ◌^◌, [], ◌++◌, ◌∷◌, length, nat_le};
+ghost use Rattle.udt_model.specs.declared.limits.TheConstants.{SHAKE_LIMIT};
 ghost use Rattle.udt_model.specs.Arrivals.{packet_in};
 ghost use Rattle.udt_model.specs.Connections.{shake_emission};
 ghost use Rattle.udt_model.specs.Counted.{count_control};
@@ -240,7 +241,7 @@ impl<C: Control> Socket<C> {
             return;
         };
         let caller = client.caller();
-        if self.last.saturating_sub(caller.began) >= SHAKE_LIMIT {
+        if has_waited(caller.began, self.last) {
             self.phase = Phase::Failed(Failure::TimedOut);
         } else if self.last >= *again {
             *again = self.last + SHAKE_INTERVAL;
@@ -260,7 +261,7 @@ impl<C: Control> Socket<C> {
             return;
         };
         let caller = meeting.caller();
-        if self.last.saturating_sub(caller.began) >= SHAKE_LIMIT {
+        if has_waited(caller.began, self.last) {
             self.phase = Phase::Failed(Failure::TimedOut);
         } else if self.last >= *again {
             *again = self.last + SHAKE_INTERVAL;
@@ -285,4 +286,11 @@ fn answer_again(origin: Origin, asked: Asked) -> Option<Asked>
         (Origin::Rendezvous, Asked::Answers) => Some(Asked::Agrees),
         _ => None,
     }
+}
+
+// A socket that waits since a moment has waited for as long as it may.
+fn has_waited(since: u64, now: u64) -> bool
+    ensures { result ≡ nat_le (since + SHAKE_LIMIT) now }
+{
+    now.saturating_sub(since) >= SHAKE_LIMIT
 }
