@@ -1,6 +1,6 @@
 -- What an event does to a network.
 use Rattle.std.proofs.Common.{◌≡◌, ℕ, suc, ◌+◌, ◌≤◌, Bool, true, false, ◌||◌, List, [], ◌∷◌, ◌++◌, length, map, take, get_or, Some, refl, ap, ◌∙◌, sym, arith, append_assoc}
-use Rattle.std.specs.Prelude.{slice_get, Option, None, Result, Ok, Err, OnErr, if◌then◌else◌}
+use Rattle.std.specs.Prelude.{slice_get, Option, None, Result, Ok, Err, OnErr, nat_le, if◌then◌else◌}
 use Rattle.std.specs.List.{list_any}
 use Rattle.std.proofs.lemmas.List.{append-nil, length-append, map-set, map_more, take_at, take-take}
 use Rattle.std.proofs.lemmas.Option.{slice_get-map, slice_get_within, get_or_from_slice_get}
@@ -11,8 +11,11 @@ use Rattle.udt_model.specs.State.{State, Datagram, Emission}
 use Rattle.udt_model.specs.Phases.{Phase, Link, Stands, Lost, Absent, link_of}
 use Rattle.udt_model.specs.Phases as phase
 use Rattle.udt_model.specs.Step.{step}
-use Rattle.udt_model.specs.Connections.{repeats}
-use Rattle.udt_model.specs.Events.{Listen, Connect, Meet, Shake, Accept, Offer, Withdraw, Send, Recv, SendMessage, RecvMessage, Tick, Close, Measure, DidWithdraw, DidTick, DidClose, Event, Reply, Outcome, event, at_moment, outs_of}
+use Rattle.udt_model.specs.declared.answers.Failure.TheVariants as failure
+use Rattle.udt_model.specs.declared.limits.TheConstants.{SHAKE_INTERVAL, SHAKE_LIMIT}
+use Rattle.udt_model.specs.Connections.{adopted_id, repeats, shake_emission}
+use Rattle.udt_model.specs.Handshakes.{client_request, meet_request}
+use Rattle.udt_model.specs.Events.{Listen, Connect, Meet, Shake, Accept, Offer, Withdraw, Send, Recv, SendMessage, RecvMessage, Tick, Close, Measure, DidWithdraw, DidTick, DidClose, Event, Reply, Outcome, answered, event, at_moment, outs_of}
 use Rattle.udt_model.specs.Calls.{send_in, send_as, recv_in, recv_as, send_message_in, send_message_as, recv_message_in, recv_message_as}
 use Rattle.udt_model.specs.Ticks.{tick_in}
 use Rattle.udt_model.specs.History.{Item, item_of, state_of, happened}
@@ -153,13 +156,27 @@ module _ {C : Type 0} (w : Ways C) where
   either-ticks false x y one other = other
 
   repeats-ticks : (s : State C) (began again : ℕ) (next : Phase) (emission : Emission) → (repeats s began again next emission).reply ≡ DidTick
-  repeats-ticks s began again next emission = either-ticks _ _ _ refl (either-ticks _ _ _ refl refl)
+  repeats-ticks s began again next emission =
+      either-ticks (nat_le (began + SHAKE_LIMIT) s.last)
+      (answered (record s { phase = phase.Failed failure.TimedOut }) DidTick)
+      (if nat_le again s.last
+      then record { after = record s { phase = next }; reply = DidTick; emissions = emission ∷ [] }
+      else answered s DidTick)
+      refl
+      (either-ticks (nat_le again s.last)
+      (record { after = record s { phase = next }; reply = DidTick; emissions = emission ∷ [] })
+      (answered s DidTick)
+      refl refl)
 
   tick-reply_in : (s : State C) (p : Phase) → (tick_in w s p).reply ≡ DidTick
   tick-reply_in s phase.Opened = refl
   tick-reply_in s (phase.Listening b) = refl
-  tick-reply_in s (phase.Connecting c again) = repeats-ticks s c.caller.began again _ _
-  tick-reply_in s (phase.Meeting m again) = repeats-ticks s m.caller.began again _ _
+  tick-reply_in s (phase.Connecting c again) =
+      repeats-ticks s c.caller.began again
+      (phase.Connecting c (s.last + SHAKE_INTERVAL)) (shake_emission s c.caller.to 0 (client_request c))
+  tick-reply_in s (phase.Meeting m again) =
+      repeats-ticks s m.caller.began again
+      (phase.Meeting m (s.last + SHAKE_INTERVAL)) (shake_emission s m.caller.to (adopted_id m.adopted) (meet_request m))
   tick-reply_in s phase.Connected = refl
   tick-reply_in s (phase.Broken why) = refl
   tick-reply_in s (phase.Failed why) = refl

@@ -1,2 +1,14 @@
 pub mod EventLemmas
 pub mod PlaceLemmas
+pub mod ClosedLemmas
+pub mod HostLemmas
+pub mod KnownLemmas
+pub mod CallLemmas
+pub mod RouteLemmas
+pub mod LineLemmas
+pub mod ArriveLemmas
+pub mod MessageLemmas
+pub mod TranscriptLemmas
+pub mod WorldLemmas
+pub mod CountedLemmas
+pub mod RunLemmas

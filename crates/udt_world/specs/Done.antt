@@ -3,8 +3,8 @@ use Rattle.std.specs.Prelude.{◌≡◌, ℕ, Bool, true, false, List, ◌++◌,
 use Rattle.udt_model.specs.Network as model
 use Rattle.udt_model.specs.Rate.{Ways}
 use Rattle.udt_model.specs.Script as model_script
-use Rattle.udt_world.specs.declared.deliveries.Route.{Route}
-use Rattle.udt_world.specs.declared.deliveries.Route.TheVariants as to
+use Rattle.udt_world.specs.declared.arrivals.Route.{Route}
+use Rattle.udt_world.specs.declared.arrivals.Route.TheVariants as to
 use Rattle.udt_world.specs.Views.{View, Shows}
 
 module _ {C : Type 0} (w : Ways C) where
@@ -19,9 +19,9 @@ module _ {C : Type 0} (w : Ways C) where
   abbrev pub GoesTo : model.Network C → model.ScriptDatagram → ℕ → Type 0
   GoesTo network datagram place =
       (socket : model.ScriptSocket C) × (slice_get network.sockets place ≡ Some socket)
-      × (model.route w network.sockets datagram ≡ model.ToSocket place socket)
+      × (model.route w network datagram ≡ model.ToSocket place socket)
 
   -- the route of a datagram in the network
   abbrev pub IsRoute : model.Network C → model.ScriptDatagram → Route → Type 0
   IsRoute network datagram (to.To place) = GoesTo network datagram place
-  IsRoute network datagram (to.Nowhere word) = model.route w network.sockets datagram ≡ model.Nowhere word.now
+  IsRoute network datagram (to.Nowhere word) = model.route w network datagram ≡ model.Nowhere word.now

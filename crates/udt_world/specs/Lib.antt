@@ -5,5 +5,5 @@ pub mod Runs
 pub mod ScriptLines
 pub mod Kept
 pub mod Transcripts
-pub mod InStep
 pub mod Worlds
+pub mod InStep

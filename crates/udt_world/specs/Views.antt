@@ -4,6 +4,7 @@ use Rattle.udt_model.specs.declared.addresses.Addr.{Addr}
 use Rattle.udt_model.specs.State.{State}
 use Rattle.udt_model.specs.Step.{step}
 use Rattle.udt_model.specs.Events.{Accept, Offer, Withdraw, Arrive, Event, Reply, event, outs_of}
+use Rattle.udt_model.specs.Events as model_events
 use Rattle.udt_model.specs.History.{state_of}
 use Rattle.udt_model.specs.Network as model
 use Rattle.udt_model.specs.Rate.{Ways}
@@ -30,13 +31,16 @@ pub record View (C : Type 0) : Type 0 where
   pub sockets : List (Sight C)
   pub datagrams : List model.ScriptDatagram
 
--- an event of the code's, at a moment
+-- an act of the code's, and its event at a moment
+abbrev pub act_in : Act → model_events.Act
+act_in (code.Call call) = act_of call.now
+act_in code.Accept = Accept
+act_in (code.Offer id) = Offer id
+act_in code.Withdraw = Withdraw
+act_in (code.Arrive from bytes) = Arrive from bytes.now
+
 abbrev pub event_of : ℕ → Act → Event
-event_of now (code.Call call) = event now (act_of call.now)
-event_of now code.Accept = event now Accept
-event_of now (code.Offer id) = event now (Offer id)
-event_of now code.Withdraw = event now Withdraw
-event_of now (code.Arrive from bytes) = event now (Arrive from bytes.now)
+event_of now act = event now (act_in act)
 
 abbrev pub host_of : ScriptHost → model.ScriptHost
 host_of host = record { name = host.name.items; addr = host.addr }

@@ -1,9 +1,14 @@
 // Datagrams that arrive: where each goes, and the sockets that are made for requests.
 
-ghost use Rattle.std.specs.Prelude.{◌≡◌, ◌<◌, ◌^◌, IfOk};
+ghost use Rattle.std.specs.Prelude.{◌≡◌, ◌<◌, ◌^◌, Some, slice_get, vec_len, IfOk};
 ghost use Rattle.udt_model.specs.Connections.{config_of};
 ghost use Rattle.udt_model.specs.Handshakes as model;
+ghost use Rattle.udt_model.specs.Network as network;
 ghost use Rattle.udt_model.specs.Opening.{opening};
+ghost use Rattle.udt_model.specs.Routes as routes;
+ghost use Rattle.udt_world.specs.declared.hosts.Endpoint.{Endpoint};
+ghost use Rattle.udt_world.specs.Views.{view_of, Shows};
+ghost use Rattle.udt_world.specs.Wiring.{IsWired};
 
 use crate::network::{Act, Network};
 use crate::opening::{named, opened};
@@ -52,12 +57,22 @@ fn made_for<C: Control + Drop>(
 }
 
 impl<C: Control> Network<C> {
+    // Where bytes go that come from this address, by what the endpoint at this place knows.
+    fn destination(&self, endpoint: usize, from: Addr, bytes: &[u8]) -> Routed
+        requires { endpoint < vec_len self.now.endpoints }
+        ensures { (n : network.Network C) (known : Endpoint) → Shows C.ways n (view_of self.now) → IsWired self.now
+            → slice_get self.now.endpoints.items endpoint ≡ Some known
+            → result ≡ routes.route (network.known_at C.ways n.sockets known.addr) from bytes.now }
+    {
+        self.endpoints[endpoint].routes.destination_of(from, bytes)
+    }
+
     /// Where bytes go that come from this address, at the endpoint at this place. There is none where no
     /// host has the address.
     pub fn route(&self, endpoint: Option<usize>, from: Addr, bytes: &[u8]) -> Route {
         match endpoint {
             None => Route::Nowhere(b"host"),
-            Some(place) => route_by(self.endpoints[place].routes.destination_of(from, bytes)),
+            Some(place) => route_by(self.destination(place, from, bytes)),
         }
     }
 }

@@ -1,6 +1,8 @@
 // The hosts of a script, and what the endpoint at each knows of the sockets there.
 
-ghost use Rattle.std.specs.Prelude.{◌≡◌, ◌<◌, ◌+◌, [], length, map, vec_len, None, Some, IfOk};
+ghost use Rattle.std.specs.Prelude.{◌≡◌, ◌<◌, length, map, position, vec_len, None, IfSome, IfOk};
+ghost use Rattle.udt_model.specs.Addresses.{same_addr};
+ghost use Rattle.udt_model.specs.Words.{is_word};
 ghost use Rattle.udt_model.specs.Network as model;
 ghost use Rattle.udt_routes.specs.Pairs.{pair_of};
 ghost use Rattle.udt_routes.specs.Tables.{empty_table};
@@ -96,25 +98,44 @@ fn tell<C: Control>(routes: &mut Routes<()>, id: u32, socket: &ScriptSocket<C>)
 }
 
 impl<C: Control> Network<C> {
+    // The place of the host with this address.
+    fn host_at(&self, addr: Addr) -> Option<usize>
+        ensures { result ≡ position (λ host. same_addr addr host.addr) self.now.hosts.items }
+    {
+        self.hosts.iter().position(|host| addr.is_same(host.addr))
+    }
+
+    // The place of the host with this name.
+    fn place_of_host(&self, name: &[u8]) -> Option<usize>
+        ensures value { result ≡ position (λ host. is_word host.name.items name.now) self.now.hosts.items }
+        ensures within { IfSome result (λ place. place < vec_len self.now.hosts) }
+    {
+        self.hosts
+            .iter()
+            .position(|host| host.name.as_slice() == name)
+    }
+
     // A host has this address. Those of paired sockets are there from the start.
     fn is_host(&self, addr: Addr) -> bool
         ensures { result ≡ model.is_host (map host_of self.now.hosts.items) addr }
     {
-        addr.is_same(FIRST_HOST)
-            || addr.is_same(SECOND_HOST)
-            || self.hosts.iter().any(|host| addr.is_same(host.addr))
+        if addr.is_same(FIRST_HOST) {
+            return true;
+        }
+        if addr.is_same(SECOND_HOST) {
+            return true;
+        }
+        self.host_at(addr).is_some()
     }
 
     /// The address of the host with this name.
     pub fn host_named(&self, name: &[u8]) -> Option<Addr>
         ensures { result ≡ model.address_of_host name.now (map host_of self.now.hosts.items) }
     {
-        for host in &self.hosts {
-            if host.name.as_slice() == name {
-                return Some(host.addr);
-            }
+        match self.place_of_host(name) {
+            Some(place) => Some(self.hosts[place].addr),
+            None => None,
         }
-        None
     }
 
     /// A socket or a host has this name.

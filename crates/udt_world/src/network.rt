@@ -6,10 +6,10 @@ ghost use Rattle.udt_model.specs.Lines.{no_secret};
 ghost use Rattle.udt_model.specs.Network.{first_met, is_listening, meets_by};
 ghost use Rattle.udt_model.specs.Script.{from_host};
 ghost use Rattle.udt_model.specs.Step.{step};
-ghost use Rattle.udt_model.specs.Texts.{datagrams_text, told};
+ghost use Rattle.udt_model.specs.Texts.{datagrams_text, reply_text, told};
 ghost use Rattle.udt_script.specs.CodeAnswers.{reply_of, text_of};
 ghost use Rattle.udt_script.specs.CodeLines.{act_of, datagram_of};
-ghost use Rattle.udt_world.specs.Views.{view_of, event_of, HasEvent};
+ghost use Rattle.udt_world.specs.Views.{act_in, view_of, event_of, HasEvent};
 
 use crate::hosts::Endpoint;
 use std::alloc::{AllocError, Global};
@@ -86,6 +86,7 @@ fn receive<C: Control>(
         ≡ (step C.ways socket.old (event now (Recv room))).reply) }
     ensures next { OnOk result (socket.new
         ≡ (step C.ways socket.old (event now (Recv room))).after) }
+    ensures text { IfOk result (λ reply. text_of reply ≡ reply_text (reply_of reply)) }
 {
     let mut into = vec![in alloc; 0; room as usize]?;
     match socket.recv(now, &mut into) {
@@ -108,6 +109,7 @@ fn receive_message<C: Control>(
         ≡ (step C.ways socket.old (event now (RecvMessage room))).reply) }
     ensures next { OnOk result (socket.new
         ≡ (step C.ways socket.old (event now (RecvMessage room))).after) }
+    ensures text { IfOk result (λ reply. text_of reply ≡ reply_text (reply_of reply)) }
 {
     let mut into = vec![in alloc; 0; room as usize]?;
     match socket.recv_message(now, &mut into) {
@@ -125,6 +127,7 @@ fn listen<C: Control>(socket: &mut Socket<C>, now: u64, most: u32) -> Result<Rep
         ≡ (step C.ways socket.old (event now (Listen most no_secret))).reply) }
     ensures next { OnOk result (socket.new
         ≡ (step C.ways socket.old (event now (Listen most no_secret))).after) }
+    ensures text { IfOk result (λ reply. text_of reply ≡ reply_text (reply_of reply)) }
 {
     match socket.listen(now, most, NO_SECRET) {
         Err(Refusal::OutOfMemory) => Err(AllocError),
@@ -147,6 +150,7 @@ fn answer<C: Control>(
         ≡ (step C.ways socket.old (event now (act_of call.now))).after) }
     ensures outs { OnOk result (outs.new
         ≡ outs_of (step C.ways socket.old (event now (act_of call.now)))) }
+    ensures text { IfOk result (λ reply. text_of reply ≡ told (act_of call.now) (reply_of reply)) }
 {
     outs.clear();
     match call {
@@ -186,7 +190,7 @@ pub fn happen<C: Control>(
         ≡ (step C.ways socket.old (event_of now act.now)).reply) }
     ensures next { OnOk result (socket.new ≡ (step C.ways socket.old (event_of now act.now)).after) }
     ensures outs { OnOk result (outs.new ≡ outs_of (step C.ways socket.old (event_of now act.now))) }
-    ensures text { IfOk result (λ reply. text_of reply ≡ told (event_of now act.now).act (reply_of reply)) }
+    ensures text { IfOk result (λ reply. text_of reply ≡ told (act_in act.now) (reply_of reply)) }
 {
     match act {
         Act::Call(call) => answer(alloc, socket, now, call, outs),
@@ -232,20 +236,39 @@ fn keep_emitted(
     Ok(())
 }
 
+// The answer says that the socket began to listen.
+fn listens(reply: &Reply) -> bool
+    ensures { result ≡ is_listening (reply_of reply.now) }
+{
+    match reply {
+        Reply::Listened(answer) => answer.is_ok(),
+        _ => false,
+    }
+}
+
+// The address that the socket began to meet, by what it was asked and what it answered.
+fn meets(act: &Act, reply: &Reply) -> Option<Addr>
+    ensures { result ≡ meets_by (act_in act.now) (reply_of reply.now) }
+{
+    match (act, reply) {
+        (Act::Call(Call::Meet(to)), Reply::Met(Ok(()))) => Some(*to),
+        _ => None,
+    }
+}
+
 impl<C> ScriptSocket<C> {
     /// Notes that the socket began to listen, or to meet an address, where it answers so.
     pub fn note(&mut self, act: &Act, reply: &Reply)
         ensures { self.new ≡ record self.old {
           listened = self.old.listened || is_listening (reply_of reply.now);
-          met = first_met self.old.met (meets_by (event_of 0 act.now).act (reply_of reply.now));
+          met = first_met self.old.met (meets_by (act_in act.now) (reply_of reply.now));
         } }
     {
-        match (act, reply) {
-            (_, Reply::Listened(Ok(()))) => self.listened = true,
-            (Act::Call(Call::Meet(to)), Reply::Met(Ok(()))) => {
-                self.met = Some(self.met.unwrap_or(*to))
-            }
-            _ => {}
+        if listens(reply) {
+            self.listened = true;
+        }
+        if self.met.is_none() {
+            self.met = meets(act, reply);
         }
     }
 }
@@ -264,9 +287,9 @@ impl<C: Control> Network<C> {
         }
     }
 
-    /// An event of the socket at this place, which is printed; and then what the socket emitted is
-    /// printed and kept. The answer comes back.
-    pub fn event(
+    /// The socket at this place has an event, which is printed; and then what it emitted is printed and
+    /// kept. The answer comes back.
+    fn react(
         &mut self,
         place: usize,
         now: u64,
@@ -286,6 +309,18 @@ impl<C: Control> Network<C> {
         print_reply(out, &socket.name, &reply)?;
         keep_emitted(self.alloc, &mut self.datagrams, host, &outs, out)?;
         self.outs = Some(outs);
+        Ok(reply)
+    }
+
+    /// The same, and the endpoint at its host is told of the socket.
+    pub fn event(
+        &mut self,
+        place: usize,
+        now: u64,
+        act: &Act,
+        out: &mut Vec<u8>,
+    ) -> Result<Reply, AllocError> {
+        let reply = self.react(place, now, act, out)?;
         self.enter(place);
         Ok(reply)
     }

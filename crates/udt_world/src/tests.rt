@@ -8,7 +8,7 @@ use udt_rate::Native;
 fn plays_a_line_of_each_form(rt: HostRuntime) {
     let mut world = World::<Native>::new(rt.alloc());
     let mut out = Vec::new(rt.alloc());
-    let lines: [(&[u8], Result<(), LineNo>, &[u8]); 24] = [
+    let lines: [(&[u8], Result<(), LineNo>, &[u8]); 33] = [
         (b"pair stream a b 4 5 4", Ok(()), b"pair a 1 b 2\n"),
         (b"a send 1000 68656c6c6f", Ok(()), b"a send 5\n"),
         (
@@ -72,6 +72,19 @@ fn plays_a_line_of_each_form(rt: HostRuntime) {
             Ok(()),
             b"b sendmsg refused 5009\n",
         ),
+        (b"host h 10.0.0.7:80", Ok(()), b"host h\n"),
+        (b"host h 10.0.0.6:80", Err(LineNo::Refused), b""),
+        (b"open stream s h 4 0 4", Ok(()), b"open s 5\n"),
+        (b"s listen 0 1", Ok(()), b"s listen\n"),
+        (b"s accept 0 z", Ok(()), b"s accept again\n"),
+        (
+            b"s connect 0 10.0.0.9:1",
+            Ok(()),
+            b"s connect refused 5002\n",
+        ),
+        (b"s shake 0", Ok(()), b"s shake idle\n"),
+        (b"open stream t h 4 0 4", Ok(()), b"open t 6\n"),
+        (b"t meet 0 10.0.0.9:1", Ok(()), b"t meet\n"),
     ];
     for (line, answer, printed) in lines {
         let before = out.len();
