@@ -39,7 +39,7 @@ opening_of o = record {
 abbrev pub datagram_of : ScriptDatagram → ModelDatagram
 datagram_of datagram = record { from = datagram.from; to = datagram.to; bytes = datagram.bytes.items }
 
--- a call of a socket. A script's listeners have no secret
+-- a call of a socket. The secret of a script's listeners is sixteen zero bytes
 abbrev pub act_of : Call → Act
 act_of (code_call.Listen most) = Listen most model.no_secret
 act_of (code_call.Connect to) = Connect to
