@@ -1,7 +1,8 @@
 -- The code's lines, as the definitions of the script language see them.
 use Rattle.std.specs.Prelude.{◌≤◌, ◌<◌, ◌^◌}
 use Rattle.udt_model.specs.declared.limits.TheConstants.{MOST_PAYLOAD, FEWEST_BLOCKS, MOST_BLOCKS, LAST_START, LAST_MOMENT}
-use Rattle.udt_model.specs.Events.{Act, Listen, Connect, Meet, Shake, Send, Recv, SendMessage, RecvMessage, Pack, Tick, Close, Measure, event}
+use Rattle.udt_model.specs.Events.{Act, Listen, Connect, Meet, Shake, Send, Recv, SendMessage, RecvMessage}
+use Rattle.udt_model.specs.Events.{Pack, Tick, Close, Measure, event}
 use Rattle.udt_model.specs.Network.{ScriptDatagram as ModelDatagram}
 use Rattle.udt_model.specs.Lines as model
 use Rattle.udt_script.specs.declared.lines.Call.{Call}
