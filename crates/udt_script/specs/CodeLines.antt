@@ -1,7 +1,8 @@
 -- The code's lines, as the definitions of the script language see them.
 use Rattle.std.specs.Prelude.{◌≤◌, ◌<◌, ◌^◌}
 use Rattle.udt_model.specs.declared.limits.TheConstants.{MOST_PAYLOAD, FEWEST_BLOCKS, MOST_BLOCKS, LAST_START, LAST_MOMENT}
-use Rattle.udt_model.specs.Events.{Act, Listen, Connect, Meet, Shake, Send, Recv, SendMessage, RecvMessage, Pack, Tick, Close, Measure, event}
+use Rattle.udt_model.specs.Events.{Act, Listen, Connect, Meet, Shake, Send, Recv, SendMessage, RecvMessage}
+use Rattle.udt_model.specs.Events.{Pack, Tick, Close, Measure, event}
 use Rattle.udt_model.specs.Network.{ScriptDatagram as ModelDatagram}
 use Rattle.udt_model.specs.Lines as model
 use Rattle.udt_script.specs.declared.lines.Call.{Call}
@@ -39,7 +40,7 @@ opening_of o = record {
 abbrev pub datagram_of : ScriptDatagram → ModelDatagram
 datagram_of datagram = record { from = datagram.from; to = datagram.to; bytes = datagram.bytes.items }
 
--- a call of a socket. A script's listeners have no secret
+-- a call of a socket. The secret of a script's listeners is sixteen zero bytes
 abbrev pub act_of : Call → Act
 act_of (code_call.Listen most) = Listen most model.no_secret
 act_of (code_call.Connect to) = Connect to

@@ -4,7 +4,8 @@ ghost use Rattle.std.specs.Prelude.{◌≡◌, ◌++◌, ◌<◌, take, vec_len,
 ghost use Rattle.std.specs.List.{flat_map};
 ghost use Rattle.udt_model.specs.Words as spec;
 ghost use Rattle.udt_model.specs.Words.{hex_pairs, hex_word};
-ghost use Rattle.udt_model.specs.Texts.{spaced, ended, done_text, sent_text, received_text, counted, path_text, blocks_text, others_text, perf_text};
+ghost use Rattle.udt_model.specs.Texts.{spaced, ended, done_text, sent_text, received_text};
+ghost use Rattle.udt_model.specs.Texts.{counted, path_text, blocks_text, others_text, perf_text};
 ghost use Rattle.udt_script.specs.CodeAnswers.{read_of};
 
 use crate::texts::no_text;

@@ -3,7 +3,8 @@
 ghost use Rattle.std.specs.Prelude.{◌≡◌, ◌+◌, ◌++◌, ◌<◌, ◌^◌, take, vec_len, codes, OnOk, OnErr};
 ghost use Rattle.udt_model.specs.Addresses.{address_text};
 ghost use Rattle.udt_model.specs.Script.{refused_at};
-ghost use Rattle.udt_model.specs.Texts.{datagram_text, pair_text, host_text, open_text, accept_text, listen_twice_text, meet_taken_text, spaced, ended};
+ghost use Rattle.udt_model.specs.Texts.{spaced, ended, datagram_text, pair_text, host_text, open_text};
+ghost use Rattle.udt_model.specs.Texts.{accept_text, listen_twice_text, meet_taken_text};
 ghost use Rattle.udt_script.specs.CodeAnswers.{text_of};
 ghost use Rattle.udt_script.specs.CodeLines.{pairing_of, opening_of, datagram_of};
 
