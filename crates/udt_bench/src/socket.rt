@@ -65,6 +65,7 @@ struct Pair<C> {
 }
 
 /// One of two sockets, the other of which has this address and ID.
+#[tactic(auto, unfolding(udt_model::specs::Opening::opening))]
 pub fn open<C: Control + Drop>(
     alloc: Global,
     own: u32,
