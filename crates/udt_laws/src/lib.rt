@@ -4,6 +4,7 @@
 ghost use Rattle.udt_laws.specs.Laws.{OneHistory, EmittedBlocks, AllNamed, Addressed, Named};
 ghost use Rattle.udt_laws.specs.Laws.{MutualAdoption, Prefix, PairPrefix, PairArrived, PairHonest};
 ghost use Rattle.udt_laws.specs.Laws.{Messages};
+ghost use Rattle.udt_laws.specs.Scripts.{ScriptLawful, ScriptAdoption, ScriptPrefix, ScriptMessages};
 
 use udt_rate::Control;
 
@@ -72,4 +73,25 @@ pub fn pair_honest<C: Control>()
 /// their order. What is acknowledged of the peer has arrived, or was dropped.
 pub fn messages<C: Control>()
     ensures { Messages C.ways }
+{}
+
+/// Whatever the lines of a script say, and whatever bytes they give, the records of its sockets are
+/// lawful.
+pub fn script_lawful<C: Control>()
+    ensures { ScriptLawful C.ways }
+{}
+
+/// Mutual adoption for each socket of a script, where no line gives bytes of its own.
+pub fn script_adoption<C: Control>()
+    ensures { ScriptAdoption C.ways }
+{}
+
+/// Prefix for each stream socket of a script and its own peer, where no line gives bytes of its own.
+pub fn script_prefix<C: Control>()
+    ensures { ScriptPrefix C.ways }
+{}
+
+/// Messages for each message socket of a script and its own peer, where no line gives bytes of its own.
+pub fn script_messages<C: Control>()
+    ensures { ScriptMessages C.ways }
 {}
