@@ -9,6 +9,7 @@ use Rattle.udt_model.specs.Rate.{Ways}
 use Rattle.udt_world.specs.declared.generated.Run.{Run}
 use Rattle.udt_world.specs.declared.generated.TheConstants.{MOST_SENT, PATTERN}
 use Rattle.udt_world.specs.Views.{view_of, Shows}
+use Rattle.udt_world.specs.Wiring.{IsWired}
 
 -- how many bytes an answer counts
 abbrev pub count_in : Result ℕ Refusal → ℕ
@@ -34,6 +35,7 @@ pub record IsRun {C : Type 0} (w : Ways C) (run : model.Run C) (code : Run C) : 
 
 -- there are two sockets, bytes to be sent, and room for those that are received
 pub record IsSet {C : Type 0} (code : Run C) : Type 0 where
+  pub wired : IsWired code.network
   pub sockets : vec_len code.network.sockets ≡ 2
   pub pattern : code.pattern.items ≡ counted_bytes 0 PATTERN
   pub length : vec_len code.pattern ≡ PATTERN

@@ -114,3 +114,8 @@ module _ {C : Type 0} (w : Ways C) where
   pub record Answers (place : ℕ) (event : Event) (reply : Reply) (old new : View C) : Type 0 where
     pub moves : Moves place event old new
     pub reply_is : reply ≡ (step w moves.sight.state event).reply
+
+  -- the socket at this place answers the event so
+  abbrev pub RepliesTo : ℕ → Event → Reply → View C → Type 0
+  RepliesTo place event reply view =
+      (sight : Sight C) → slice_get view.sockets place ≡ Some sight → reply ≡ (step w sight.state event).reply

@@ -1,13 +1,18 @@
 -- What the endpoints of a script know of its sockets, and where the sockets of a name stand.
-use Rattle.std.specs.Prelude.{◌≡◌, ℕ, ◌+◌, ◌-◌, ◌≤◌, ◌==◌, Bool, false, not, ◌&&◌, List, [], ◌∷◌, ◌++◌, length, map, Option, Some, None, slice_get, position, is_some, option_map, sum_by, vec_len, if◌then◌else◌}
+use Rattle.std.specs.Prelude.{◌≡◌, ℕ, ◌+◌, ◌-◌, ◌≤◌, ◌<◌, ◌==◌, Bool, false, not, ◌&&◌, List, [], ◌∷◌, ◌++◌, length, map, Option, Some, None, slice_get, position, is_some, option_map, sum_by, vec_len, if◌then◌else◌}
+use Rattle.std.specs.List.{Contains}
+use Rattle.std.specs.Map.{lookup}
 use Rattle.udt_model.specs.declared.addresses.Addr.{Addr}
 use Rattle.udt_model.specs.declared.limits.TheConstants.{MOST_SOCKETS}
+use Rattle.udt_model.specs.declared.packets.Shake.{Shake}
 use Rattle.udt_model.specs.Addresses.{same_addr}
-use Rattle.udt_model.specs.Network.{is_met, is_pair}
-use Rattle.udt_model.specs.Phases.{is_closed}
+use Rattle.udt_model.specs.Events.{Act, Listen, Meet, Offer, Arrive}
+use Rattle.udt_model.specs.Network.{is_host, is_met, is_pair}
+use Rattle.udt_model.specs.Phases.{Phase, Listening, is_closed}
 use Rattle.udt_model.specs.Records.{PeerPair, peer_by}
-use Rattle.udt_model.specs.Routes.{Known}
+use Rattle.udt_model.specs.Routes.{Known, handshake_in}
 use Rattle.udt_model.specs.State.{State}
+use Rattle.udt_model.specs.Wire.{read}
 use Rattle.udt_model.specs.Words.{is_word}
 use Rattle.udt_routes.specs.Meets.{IsMetOnce, can_meet}
 use Rattle.udt_routes.specs.Pairs.{Pair, adopter_of, pair_of, IsAdoptedOnce}
@@ -17,7 +22,7 @@ use Rattle.udt_world.specs.declared.hosts.TheConstants.{MOST_ENROLLED}
 use Rattle.udt_world.specs.declared.hosts.Endpoint.{Endpoint}
 use Rattle.udt_world.specs.declared.network.Network.{Network}
 use Rattle.udt_world.specs.declared.network.ScriptSocket.{ScriptSocket}
-use Rattle.udt_world.specs.Views.{Sight, sight_of}
+use Rattle.udt_world.specs.Views.{Sight, host_of, sight_of}
 
 -- ---- what is seen of the sockets at a host
 
@@ -123,22 +128,100 @@ module _ {C : Type 0} where
   abbrev pub sights_of : Network C → List (Sight C)
   sights_of network = map sight_of network.sockets.items
 
-  -- the socket's endpoint has the address of its host
-  pub record StandsIn (endpoints : List Endpoint) (socket : ScriptSocket C) : Type 0 where
+  -- the endpoint at this place has this address
+  pub record HasAddress (endpoints : List Endpoint) (place : ℕ) (addr : Addr) : Type 0 where
     pub endpoint : Endpoint
-    pub found : slice_get endpoints socket.endpoint ≡ Some endpoint
-    pub addr : endpoint.addr ≡ socket.host
+    pub found : slice_get endpoints place ≡ Some endpoint
+    pub addr_is : endpoint.addr ≡ addr
 
+  -- where an address has an endpoint, it is the one at this place, and a host has the address; where it has none, no host has it
+  abbrev pub IsEndpoint : Network C → Option ℕ → Addr → Type 0
+  IsEndpoint network (Some place) addr =
+      HasAddress network.endpoints.items place addr × (is_host (map host_of network.hosts.items) addr ≡ Bool.true)
+  IsEndpoint network None addr = is_host (map host_of network.hosts.items) addr ≡ Bool.false
+
+  -- the place that is kept under a name
+  abbrev pub place_under : Network C → List ℕ → Option ℕ
+  place_under network name = lookup (λ key. is_word key.items name) network.names.entries
+
+  -- the place of the socket that is seen under a name
+  abbrev pub place_seen : List (Sight C) → List ℕ → Option ℕ
+  place_seen sights name = position (λ s. is_word s.name name) sights
+
+  -- the connections that wait at a listener to be accepted
+  abbrev pub waiting_at : Phase → List ℕ
+  waiting_at (Listening backlog) = backlog.offered
+  waiting_at other = []
+
+  -- the sockets and the endpoints fit together
   pub record IsWired (network : Network C) : Type 0 where
     pub few : vec_len network.sockets ≤ MOST_SOCKETS
+    -- the endpoint of a socket has the address of its host
     pub stands : (place : ℕ) (socket : ScriptSocket C) → slice_get network.sockets.items place ≡ Some socket
-        → StandsIn network.endpoints.items socket
+        → HasAddress network.endpoints.items socket.endpoint socket.host
+    -- an address has one endpoint
     pub apart : (i j : ℕ) (e f : Endpoint) → slice_get network.endpoints.items i ≡ Some e
         → slice_get network.endpoints.items j ≡ Some f → e.addr ≡ f.addr → i ≡ j
+    -- an endpoint knows of the sockets at its address what is seen of them
     pub knows : (place : ℕ) (e : Endpoint) → slice_get network.endpoints.items place ≡ Some e
         → Knows e.routes (sights_of network) e.addr
-    -- at most one socket of a host listens, and one meets an address
+    -- each socket stands under its name
+    pub names : (name : List ℕ) → place_under network name ≡ place_seen (sights_of network) name
+    -- its ID is the number after its place
+    pub owns : (place : ℕ) (s : Sight C) → slice_get (sights_of network) place ≡ Some s → s.state.own ≡ place + 1
+    -- what waits at a listener are sockets
+    pub waits : (place id : ℕ) (s : Sight C) → slice_get (sights_of network) place ≡ Some s
+        → Contains (waiting_at s.state.phase) id → (0 < id) × (id ≤ length (sights_of network))
+    -- at most one socket of a host listens, one meets an address, and one has adopted a pair
     pub listens_once : (host : Addr) (i j : ℕ) (s t : Sight C) → slice_get (sights_of network) i ≡ Some s
         → slice_get (sights_of network) j ≡ Some t → listens host s ≡ Bool.true → listens host t ≡ Bool.true → i ≡ j
     pub meets_once : (host addr : Addr) (i j : ℕ) (s t : Sight C) → slice_get (sights_of network) i ≡ Some s
         → slice_get (sights_of network) j ≡ Some t → meets host addr s ≡ Bool.true → meets host addr t ≡ Bool.true → i ≡ j
+    pub adopts_once : (host addr : Addr) (id i j : ℕ) (s t : Sight C) → slice_get (sights_of network) i ≡ Some s
+        → slice_get (sights_of network) j ≡ Some t → adopts host addr id s ≡ Bool.true → adopts host addr id t ≡ Bool.true
+        → i ≡ j
+
+  -- a pair that a socket names as its peer is adopted by none of these at its host
+  abbrev pub IsUnadopted : List (Sight C) → Addr → Option PeerPair → Type 0
+  IsUnadopted sights host None = Unit {0}
+  IsUnadopted sights host (Some peer) = first_with (adopts host peer.addr peer.id) sights ≡ None
+
+  -- a socket may be added: it is as one that is opened, with its endpoint, the next ID, a new name, and a peer that none
+  -- of the others at its host has adopted
+  pub record IsNew (network : Network C) (socket : ScriptSocket C) : Type 0 where
+    pub room : vec_len network.sockets < MOST_SOCKETS
+    pub stands : HasAddress network.endpoints.items socket.endpoint socket.host
+    pub own : socket.socket.own ≡ vec_len network.sockets + 1
+    pub name : place_seen (sights_of network) socket.name.items ≡ None
+    pub live : is_closed socket.socket.phase ≡ Bool.false
+    pub waits : waiting_at socket.socket.phase ≡ []
+    pub listened : socket.listened ≡ Bool.false
+    pub met : socket.met ≡ None
+    pub peer : IsUnadopted (sights_of network) socket.host (peer_in (sight_of socket))
+
+  -- what an act may need so that the sockets and the endpoints fit together after it: one that listens finds no listener at
+  -- its host; one that meets an address finds none that meets it, and meets none yet; a connection that is offered is a
+  -- socket; and an arrival at a socket without a peer is of a pair that none at its host has adopted
+  pub record MayHappen (sights : List (Sight C)) (place : ℕ) (act : Act) : Type 0 where
+    pub listens : (s : Sight C) (most : ℕ) (secret : List ℕ) → slice_get sights place ≡ Some s → act ≡ Listen most secret
+        → first_with (listens s.host) sights ≡ None
+    pub meets : (s : Sight C) (to : Addr) → slice_get sights place ≡ Some s → act ≡ Meet to
+        → (first_with (meets s.host to) sights ≡ None) × (is_here s.host s && is_some s.met ≡ Bool.false)
+    pub offers : (id : ℕ) → act ≡ Offer id → (0 < id) × (id ≤ length sights)
+    pub hears : (s : Sight C) (from : Addr) (bytes : List ℕ) (shake : Shake) → slice_get sights place ≡ Some s
+        → act ≡ Arrive from bytes → handshake_in (read bytes) ≡ Some shake → peer_in s ≡ None
+        → first_with (adopts s.host from shake.id) sights ≡ None
+
+  -- each endpoint stands where it stood
+  abbrev pub KeepsAddresses : Network C → Network C → Type 0
+  KeepsAddresses old new =
+      (place : ℕ) (addr : Addr) → HasAddress old.endpoints.items place addr → HasAddress new.endpoints.items place addr
+
+  -- nothing changed but what is seen of the sockets and the datagrams: the endpoints and the names are as they were, and each
+  -- socket has the endpoint that it had
+  pub record KeepsPlaces (old new : Network C) : Type 0 where
+    pub endpoints : new.endpoints ≡ old.endpoints
+    pub names : new.names ≡ old.names
+    pub count : vec_len new.sockets ≡ vec_len old.sockets
+    pub endpoint_of : (place : ℕ) (socket later : ScriptSocket C) → slice_get old.sockets.items place ≡ Some socket
+        → slice_get new.sockets.items place ≡ Some later → later.endpoint ≡ socket.endpoint

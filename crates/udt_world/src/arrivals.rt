@@ -1,14 +1,19 @@
 // Datagrams that arrive: where each goes, and the sockets that are made for requests.
 
-ghost use Rattle.std.specs.Prelude.{◌≡◌, ◌<◌, ◌^◌, Some, slice_get, vec_len, IfOk};
+ghost use Rattle.std.specs.Prelude.{◌≡◌, ℕ, ◌<◌, ◌^◌, true, take, Some, slice_get, vec_len, ForSome, IfOk, OnOk, OnErr};
 ghost use Rattle.udt_model.specs.Connections.{config_of};
+ghost use Rattle.udt_model.specs.Events.{Arrive};
 ghost use Rattle.udt_model.specs.Handshakes as model;
+ghost use Rattle.udt_model.specs.Lines.{DeliverLine};
 ghost use Rattle.udt_model.specs.Network as network;
 ghost use Rattle.udt_model.specs.Opening.{opening};
 ghost use Rattle.udt_model.specs.Routes as routes;
+ghost use Rattle.udt_model.specs.Script.{arrived, delivery, on_line};
+ghost use Rattle.udt_script.specs.CodeLines.{datagram_of};
 ghost use Rattle.udt_world.specs.declared.hosts.Endpoint.{Endpoint};
+ghost use Rattle.udt_world.specs.Done.{DoesLine, IsRoute};
 ghost use Rattle.udt_world.specs.Views.{view_of, Shows};
-ghost use Rattle.udt_world.specs.Wiring.{IsWired};
+ghost use Rattle.udt_world.specs.Wiring.{sights_of, IsEndpoint, IsWired, MayHappen};
 
 use crate::network::{Act, Network};
 use crate::opening::{named, opened};
@@ -69,7 +74,16 @@ impl<C: Control> Network<C> {
 
     /// Where bytes go that come from this address, at the endpoint at this place. There is none where no
     /// host has the address.
-    pub fn route(&self, endpoint: Option<usize>, from: Addr, bytes: &[u8]) -> Route {
+    pub fn route(&self, endpoint: Option<usize>, from: Addr, bytes: &[u8]) -> Route
+        requires wired { IsWired self.now }
+        requires endpoint { ForSome endpoint (λ place. place < vec_len self.now.endpoints) }
+        ensures value { (n : network.Network C) (to : Addr) → Shows C.ways n (view_of self.now)
+            → IsEndpoint self.now endpoint to
+            → IsRoute C.ways n (record { from = from; to = to; bytes = bytes.now }) result }
+        ensures within { (place : ℕ) → result ≡ Route.To place → place < vec_len self.now.sockets }
+        ensures may { (to : Addr) (place : ℕ) → IsEndpoint self.now endpoint to → result ≡ Route.To place
+            → MayHappen (sights_of self.now) place (Arrive from bytes.now) }
+    {
         match endpoint {
             None => Route::Nowhere(b"host"),
             Some(place) => route_by(self.destination(place, from, bytes)),
@@ -84,7 +98,14 @@ impl<C: Control + Drop> Network<C> {
         now: u64,
         datagram: &ScriptDatagram,
         out: &mut Vec<u8>,
-    ) -> Result<(), AllocError> {
+    ) -> Result<(), AllocError>
+        requires { IsWired self.old }
+        ensures done { OnOk result ((n : network.Network C) → Shows C.ways n (view_of self.old)
+            → DoesLine C.ways n (delivery C.ways n now (Some (datagram_of datagram.now))) true
+            (view_of self.new) out.old.items out.new.items) }
+        ensures wired { OnOk result (IsWired self.new) }
+        ensures err { OnErr result (take (vec_len out.old) out.new.items ≡ out.old.items) }
+    {
         let endpoint = self.endpoint_at(datagram.to)?;
         match self.route(endpoint, datagram.from, &datagram.bytes) {
             Route::To(place) => self.arrive_at(place, now, datagram, out),
@@ -100,7 +121,18 @@ impl<C: Control + Drop> Network<C> {
         now: u64,
         datagram: &ScriptDatagram,
         out: &mut Vec<u8>,
-    ) -> Result<(), AllocError> {
+    ) -> Result<(), AllocError>
+        requires place { place < vec_len self.old.sockets }
+        requires wired { IsWired self.old }
+        requires may { MayHappen (sights_of self.old) place (Arrive datagram.now.from datagram.now.bytes.items) }
+        ensures done { OnOk result ((n : network.Network C) (socket : network.ScriptSocket C)
+            → Shows C.ways n (view_of self.old)
+            → network.route C.ways n (datagram_of datagram.now) ≡ network.ToSocket place socket
+            → DoesLine C.ways n (Some (arrived C.ways n now (datagram_of datagram.now) (network.ToSocket place socket)))
+            true (view_of self.new) out.old.items out.new.items) }
+        ensures wired { OnOk result (IsWired self.new) }
+        ensures err { OnErr result (take (vec_len out.old) out.new.items ≡ out.old.items) }
+    {
         let act = Act::Arrive(datagram.from, &datagram.bytes);
         let reply = self.event(place, now, &act, out)?;
         match (handshake(&datagram.bytes), reply) {
@@ -151,7 +183,14 @@ impl<C: Control + Drop> Network<C> {
         number: u64,
         now: u64,
         out: &mut Vec<u8>,
-    ) -> Result<bool, AllocError> {
+    ) -> Result<bool, AllocError>
+        requires { IsWired self.old }
+        ensures done { IfOk result (λ did. (n : network.Network C) → Shows C.ways n (view_of self.old)
+            → DoesLine C.ways n (on_line C.ways n (DeliverLine number now)) did
+            (view_of self.new) out.old.items out.new.items) }
+        ensures wired { OnOk result (IsWired self.new) }
+        ensures err { OnErr result (take (vec_len out.old) out.new.items ≡ out.old.items) }
+    {
         if number >= self.datagrams.len() as u64 {
             return Ok(false);
         }

@@ -1,5 +1,15 @@
 // The calls of the sockets that have a name.
 
+ghost use Rattle.std.specs.Prelude.{◌≡◌, ◌-◌, ◌<◌, ◌≤◌, ◌&&◌, ◌||◌, take, slice_get, slice_set, is_some, true, Some, None, vec_len, IfOk, OnOk, OnErr};
+ghost use Rattle.udt_model.specs.Events.{event};
+ghost use Rattle.udt_model.specs.Lines.{AcceptLine, CallLine};
+ghost use Rattle.udt_model.specs.Network as model;
+ghost use Rattle.udt_model.specs.Script.{call_at, on_line};
+ghost use Rattle.udt_script.specs.CodeLines.{act_of};
+ghost use Rattle.udt_world.specs.Done.{DoesLine};
+ghost use Rattle.udt_world.specs.Views.{view_of, Shows, Sight};
+ghost use Rattle.udt_world.specs.Wiring.{first_with, is_here, listens, meets, place_seen, sights_of, IsWired};
+
 use crate::network::{Act, Network};
 use std::alloc::AllocError;
 use udt_model::Addr;
@@ -8,13 +18,24 @@ use udt_script::{Call, Reply, print_accept, print_listen_twice, print_meet_taken
 
 impl<C: Control + Drop> Network<C> {
     // Another socket of the host listens, or this one does.
-    fn has_listener(&self, place: usize) -> bool {
+    fn has_listener(&self, place: usize) -> bool
+        requires place { place < vec_len self.now.sockets }
+        requires wired { IsWired self.now }
+        ensures { (sight : Sight C) → slice_get (sights_of self.now) place ≡ Some sight
+            → result ≡ is_some (first_with (listens sight.host) (sights_of self.now)) }
+    {
         let socket = &self.sockets[place];
         self.endpoints[socket.endpoint].routes.listener().is_some()
     }
 
     // A socket of the host meets this address, or this one meets any.
-    fn has_meeting(&self, place: usize, to: Addr) -> bool {
+    fn has_meeting(&self, place: usize, to: Addr) -> bool
+        requires place { place < vec_len self.now.sockets }
+        requires wired { IsWired self.now }
+        ensures { (sight : Sight C) → slice_get (sights_of self.now) place ≡ Some sight
+            → result ≡ (is_some (first_with (meets sight.host to) (sights_of self.now))
+            || (is_here sight.host sight && is_some sight.met)) }
+    {
         let socket = &self.sockets[place];
         let routes = &self.endpoints[socket.endpoint].routes;
         routes.meeting(to).is_some()
@@ -28,7 +49,16 @@ impl<C: Control + Drop> Network<C> {
         now: u64,
         call: &Call,
         out: &mut Vec<u8>,
-    ) -> Result<(), AllocError> {
+    ) -> Result<(), AllocError>
+        requires place { place < vec_len self.old.sockets }
+        requires wired { IsWired self.old }
+        ensures done { OnOk result ((n : model.Network C) (socket : model.ScriptSocket C)
+            → Shows C.ways n (view_of self.old) → slice_get n.sockets place ≡ Some socket
+            → DoesLine C.ways n (Some (call_at C.ways n place socket (event now (act_of call.now)))) true
+            (view_of self.new) out.old.items out.new.items) }
+        ensures wired { OnOk result (IsWired self.new) }
+        ensures err { OnErr result (take (vec_len out.old) out.new.items ≡ out.old.items) }
+    {
         match call {
             Call::Listen(_) if self.has_listener(place) => {
                 print_listen_twice(out, &self.sockets[place].name)
@@ -50,7 +80,14 @@ impl<C: Control + Drop> Network<C> {
         now: u64,
         call: &Call,
         out: &mut Vec<u8>,
-    ) -> Result<bool, AllocError> {
+    ) -> Result<bool, AllocError>
+        requires { IsWired self.old }
+        ensures done { IfOk result (λ did. (n : model.Network C) → Shows C.ways n (view_of self.old)
+            → DoesLine C.ways n (on_line C.ways n (CallLine name.now (event now (act_of call.now)))) did
+            (view_of self.new) out.old.items out.new.items) }
+        ensures wired { OnOk result (IsWired self.new) }
+        ensures err { OnErr result (take (vec_len out.old) out.new.items ≡ out.old.items) }
+    {
         match self.place_of(name) {
             None => Ok(false),
             Some(place) => {
@@ -61,7 +98,17 @@ impl<C: Control + Drop> Network<C> {
     }
 
     // The socket with this ID has this name from now on.
-    fn rename(&mut self, id: u32, name: &[u8]) -> Result<(), AllocError> {
+    fn rename(&mut self, id: u32, name: &[u8]) -> Result<(), AllocError>
+        requires wired { IsWired self.old }
+        requires id { 0 < id }
+        requires within { id ≤ vec_len self.old.sockets }
+        requires name { place_seen (sights_of self.old) name.now ≡ None }
+        ensures view { OnOk result ((sight : Sight C) → slice_get (sights_of self.old) (id - 1) ≡ Some sight
+            → view_of self.new ≡ record (view_of self.old) {
+              sockets = slice_set (sights_of self.old) (id - 1) (record sight { name = name.now });
+            }) }
+        ensures wired { OnOk result (IsWired self.new) }
+    {
         let place = id as usize - 1;
         let old = &self.sockets[place].name;
         let _ = self.names.remove(old.as_slice());
@@ -79,7 +126,14 @@ impl<C: Control + Drop> Network<C> {
         now: u64,
         accepted: &[u8],
         out: &mut Vec<u8>,
-    ) -> Result<bool, AllocError> {
+    ) -> Result<bool, AllocError>
+        requires { IsWired self.old }
+        ensures done { IfOk result (λ did. (n : model.Network C) → Shows C.ways n (view_of self.old)
+            → DoesLine C.ways n (on_line C.ways n (AcceptLine name.now now accepted.now)) did
+            (view_of self.new) out.old.items out.new.items) }
+        ensures wired { OnOk result (IsWired self.new) }
+        ensures err { OnErr result (take (vec_len out.old) out.new.items ≡ out.old.items) }
+    {
         if self.is_taken(accepted) {
             return Ok(false);
         }

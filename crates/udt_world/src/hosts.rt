@@ -1,13 +1,17 @@
 // The hosts of a script, and what the endpoint at each knows of the sockets there.
 
-ghost use Rattle.std.specs.Prelude.{◌≡◌, ◌<◌, length, map, position, vec_len, None, IfSome, IfOk};
+ghost use Rattle.std.specs.Prelude.{◌≡◌, ◌<◌, ◌+◌, ◌^◌, length, map, position, take, slice_get, slice_set, vec_len, Some, None, IfSome, IfOk, OnOk, OnErr};
+ghost use Rattle.udt_model.specs.Lines.{HostLine};
+ghost use Rattle.udt_model.specs.Script.{may_host, on_line};
 ghost use Rattle.udt_model.specs.Addresses.{same_addr};
 ghost use Rattle.udt_model.specs.Words.{is_word};
 ghost use Rattle.udt_model.specs.Network as model;
 ghost use Rattle.udt_routes.specs.Pairs.{pair_of};
 ghost use Rattle.udt_routes.specs.Tables.{empty_table};
-ghost use Rattle.udt_world.specs.Views.{host_of, sight_of};
+ghost use Rattle.udt_world.specs.Done.{DoesLine};
+ghost use Rattle.udt_world.specs.Views.{host_of, sight_of, view_of, Shows};
 ghost use Rattle.udt_world.specs.Wiring.{with_listener, with_met, with_pair, with_told};
+ghost use Rattle.udt_world.specs.Wiring.{HasAddress, IsEndpoint, IsWired, KeepsAddresses};
 
 use crate::network::{Network, ScriptHost, ScriptSocket};
 use std::alloc::{AllocError, Global};
@@ -139,18 +143,30 @@ impl<C: Control> Network<C> {
     }
 
     /// A socket or a host has this name.
-    pub fn is_taken(&self, name: &[u8]) -> bool {
+    pub fn is_taken(&self, name: &[u8]) -> bool
+        requires { IsWired self.now }
+        ensures { (n : model.Network C) → Shows C.ways n (view_of self.now) → result ≡ model.is_taken name.now n }
+    {
         self.names.contains_key(name) || self.host_named(name).is_some()
     }
 
     // The name and the address of a host are new, and there is room for it.
-    fn may_host(&self, name: &[u8], addr: Addr) -> bool {
+    fn may_host(&self, name: &[u8], addr: Addr) -> bool
+        requires { IsWired self.now }
+        ensures { (n : model.Network C) → Shows C.ways n (view_of self.now) → result ≡ may_host n name.now addr }
+    {
         (self.hosts.len() as u64) < MOST_HOSTS && !self.is_taken(name) && !self.is_host(addr)
     }
 
     /// The place of the endpoint at this address, where a host has it. It is made where it is first
     /// asked for.
-    pub fn endpoint_at(&mut self, addr: Addr) -> Result<Option<usize>, AllocError> {
+    pub fn endpoint_at(&mut self, addr: Addr) -> Result<Option<usize>, AllocError>
+        requires { IsWired self.old }
+        ensures value { IfOk result (λ place. IsEndpoint self.new place addr) }
+        ensures wired { OnOk result (IsWired self.new) }
+        ensures kept { self.new ≡ record self.old { endpoints = self.new.endpoints } }
+        ensures stands { OnOk result (KeepsAddresses self.old self.new) }
+    {
         if !self.is_host(addr) {
             return Ok(None);
         }
@@ -158,7 +174,13 @@ impl<C: Control> Network<C> {
     }
 
     /// The place of the endpoint at the address of a host.
-    pub fn endpoint_of(&mut self, addr: Addr) -> Result<usize, AllocError> {
+    pub fn endpoint_of(&mut self, addr: Addr) -> Result<usize, AllocError>
+        requires { IsWired self.old }
+        ensures value { IfOk result (λ place. HasAddress self.new.endpoints.items place addr) }
+        ensures wired { OnOk result (IsWired self.new) }
+        ensures kept { self.new ≡ record self.old { endpoints = self.new.endpoints } }
+        ensures stands { OnOk result (KeepsAddresses self.old self.new) }
+    {
         match self
             .endpoints
             .iter()
@@ -174,7 +196,14 @@ impl<C: Control> Network<C> {
     }
 
     /// A new host, with its endpoint. False where its name or its address is taken, or there are too many.
-    pub fn host(&mut self, name: &[u8], addr: Addr, out: &mut Vec<u8>) -> Result<bool, AllocError> {
+    pub fn host(&mut self, name: &[u8], addr: Addr, out: &mut Vec<u8>) -> Result<bool, AllocError>
+        requires { IsWired self.old }
+        ensures done { IfOk result (λ did. (n : model.Network C) → Shows C.ways n (view_of self.old)
+            → DoesLine C.ways n (on_line C.ways n (HostLine name.now addr)) did
+            (view_of self.new) out.old.items out.new.items) }
+        ensures wired { OnOk result (IsWired self.new) }
+        ensures err { OnErr result (take (vec_len out.old) out.new.items ≡ out.old.items) }
+    {
         if !self.may_host(name, addr) {
             return Ok(false);
         }
@@ -186,7 +215,24 @@ impl<C: Control> Network<C> {
     }
 
     /// Has the endpoint know of the socket at this place what there is to know.
-    pub fn enter(&mut self, place: usize) {
+    pub fn enter(&mut self, place: usize)
+        requires place { place < vec_len self.old.sockets }
+        requires endpoint { (socket : ScriptSocket C) → slice_get self.old.sockets.items place ≡ Some socket
+            → socket.endpoint < vec_len self.old.endpoints }
+        requires room { (socket : ScriptSocket C) (endpoint : Endpoint)
+            → slice_get self.old.sockets.items place ≡ Some socket
+            → slice_get self.old.endpoints.items socket.endpoint ≡ Some endpoint
+            → pair_of endpoint.routes.adoptions (place + 1) ≡ None
+            → length endpoint.routes.adoptions < endpoint.routes.ids }
+        requires id { place + 1 < 2 ^ 32 }
+        ensures kept { self.new ≡ record self.old { endpoints = self.new.endpoints } }
+        ensures told { (socket : ScriptSocket C) (endpoint : Endpoint)
+            → slice_get self.old.sockets.items place ≡ Some socket
+            → slice_get self.old.endpoints.items socket.endpoint ≡ Some endpoint
+            → self.new.endpoints.items ≡ slice_set self.old.endpoints.items socket.endpoint (record endpoint {
+              routes = with_told endpoint.routes (place + 1) (sight_of socket);
+            }) }
+    {
         let socket = &self.sockets[place];
         tell(
             &mut self.endpoints[socket.endpoint].routes,

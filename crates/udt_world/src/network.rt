@@ -1,6 +1,6 @@
 // The sockets of a script, and the datagrams that they emitted.
 
-ghost use Rattle.std.specs.Prelude.{◌≡◌, ◌<◌, ◌++◌, ◌||◌, map, take, vec_len, IfOk, OnOk, OnErr};
+ghost use Rattle.std.specs.Prelude.{◌≡◌, ◌<◌, ◌++◌, ◌||◌, [], map, take, vec_len, IfOk, OnOk, OnErr};
 ghost use Rattle.udt_model.specs.Events.{Listen, Recv, RecvMessage, event, outs_of};
 ghost use Rattle.udt_model.specs.Lines.{no_secret};
 ghost use Rattle.udt_model.specs.Network.{first_met, is_listening, meets_by};
@@ -9,7 +9,8 @@ ghost use Rattle.udt_model.specs.Step.{step};
 ghost use Rattle.udt_model.specs.Texts.{datagrams_text, reply_text, told};
 ghost use Rattle.udt_script.specs.CodeAnswers.{reply_of, text_of};
 ghost use Rattle.udt_script.specs.CodeLines.{act_of, datagram_of};
-ghost use Rattle.udt_world.specs.Views.{act_in, view_of, event_of, HasEvent};
+ghost use Rattle.udt_world.specs.Views.{act_in, view_of, event_of, HasEvent, RepliesTo};
+ghost use Rattle.udt_world.specs.Wiring.{sights_of, IsWired, KeepsAddresses, KeepsPlaces, MayHappen};
 
 use crate::hosts::Endpoint;
 use std::alloc::{AllocError, Global};
@@ -275,7 +276,10 @@ impl<C> ScriptSocket<C> {
 
 impl<C: Control> Network<C> {
     /// A network without hosts and sockets.
-    pub fn new(alloc: Global) -> Network<C> {
+    pub fn new(alloc: Global) -> Network<C>
+        ensures view { view_of result ≡ record { hosts = []; sockets = []; datagrams = [] } }
+        ensures wired { IsWired result }
+    {
         Network {
             alloc,
             hosts: Vec::new(alloc),
@@ -299,6 +303,9 @@ impl<C: Control> Network<C> {
         requires { place < vec_len self.old.sockets }
         ensures ok { OnOk result (HasEvent C.ways place (event_of now act.now)
             (view_of self.old) (view_of self.new) out.old.items out.new.items) }
+        ensures reply { IfOk result (λ reply. RepliesTo C.ways place (event_of now act.now) (reply_of reply)
+            (view_of self.old)) }
+        ensures kept { OnOk result (KeepsPlaces self.old self.new) }
         ensures err { OnErr result (take (vec_len out.old) out.new.items ≡ out.old.items) }
     {
         let mut outs = room(self.alloc, &mut self.outs)?;
@@ -319,7 +326,18 @@ impl<C: Control> Network<C> {
         now: u64,
         act: &Act,
         out: &mut Vec<u8>,
-    ) -> Result<Reply, AllocError> {
+    ) -> Result<Reply, AllocError>
+        requires place { place < vec_len self.old.sockets }
+        requires wired { IsWired self.old }
+        requires may { MayHappen (sights_of self.old) place (act_in act.now) }
+        ensures ok { OnOk result (HasEvent C.ways place (event_of now act.now)
+            (view_of self.old) (view_of self.new) out.old.items out.new.items) }
+        ensures reply { IfOk result (λ reply. RepliesTo C.ways place (event_of now act.now) (reply_of reply)
+            (view_of self.old)) }
+        ensures wired { OnOk result (IsWired self.new) }
+        ensures stands { OnOk result (KeepsAddresses self.old self.new) }
+        ensures err { OnErr result (take (vec_len out.old) out.new.items ≡ out.old.items) }
+    {
         let reply = self.react(place, now, act, out)?;
         self.enter(place);
         Ok(reply)

@@ -1,12 +1,15 @@
 // New sockets: a pair, each the other's peer, and one without a connection.
 
-ghost use Rattle.std.specs.Prelude.{◌≡◌, ◌+◌, ◌≤◌, ◌↔◌, IsTrue, Ok, IfOk, vec_len};
+ghost use Rattle.std.specs.Prelude.{◌≡◌, ◌+◌, ◌<◌, ◌≤◌, ◌↔◌, ◌++◌, ◌∷◌, [], IsTrue, Ok, IfOk, IfSome, OnOk, OnErr, take, vec_len};
 ghost use Rattle.udt_model.specs.declared.limits.TheConstants.{MOST_SOCKETS};
+ghost use Rattle.udt_model.specs.Lines.{OpenLine, PairLine};
+ghost use Rattle.udt_model.specs.Network as network;
 ghost use Rattle.udt_model.specs.Opening as model;
-ghost use Rattle.udt_model.specs.Script.{open_config, pair_config, peer_of};
+ghost use Rattle.udt_model.specs.Script.{may_pair, on_line, open_config, pair_config, peer_of};
 ghost use Rattle.udt_script.specs.CodeLines.{opening_of, pairing_of, IsOpenable, IsPairable};
-ghost use Rattle.udt_world.specs.Views.{sight_of};
-ghost use Rattle.udt_world.specs.Wiring.{new_sight};
+ghost use Rattle.udt_world.specs.Done.{DoesLine};
+ghost use Rattle.udt_world.specs.Views.{sight_of, view_of, Shows};
+ghost use Rattle.udt_world.specs.Wiring.{new_sight, sights_of, IsNew, IsWired, KeepsAddresses};
 
 use crate::hosts::{FIRST_HOST, SECOND_HOST};
 use crate::network::{Network, ScriptSocket};
@@ -102,7 +105,12 @@ fn unconnected<C: Control + Drop>(
 
 impl<C: Control + Drop> Network<C> {
     /// The place of the socket with this name.
-    pub fn place_of(&self, name: &[u8]) -> Option<usize> {
+    pub fn place_of(&self, name: &[u8]) -> Option<usize>
+        requires { IsWired self.now }
+        ensures value { (n : network.Network C) → Shows C.ways n (view_of self.now)
+            → result ≡ network.place_of name.now n.sockets }
+        ensures within { IfSome result (λ place. place < vec_len self.now.sockets) }
+    {
         self.names.get(name).copied()
     }
 
@@ -115,7 +123,15 @@ impl<C: Control + Drop> Network<C> {
     }
 
     /// Adds a socket, with its name. Its endpoint enrols it.
-    pub fn add(&mut self, socket: ScriptSocket<C>) -> Result<(), AllocError> {
+    pub fn add(&mut self, socket: ScriptSocket<C>) -> Result<(), AllocError>
+        requires wired { IsWired self.old }
+        requires new { IsNew self.old socket }
+        ensures view { OnOk result (view_of self.new ≡ record (view_of self.old) {
+          sockets = sights_of self.old ++ sight_of socket ∷ [];
+        }) }
+        ensures wired { OnOk result (IsWired self.new) }
+        ensures stands { OnOk result (KeepsAddresses self.old self.new) }
+    {
         let place = self.sockets.len();
         let name = Vec::from_slice(self.alloc, &socket.name)?;
         self.names.insert(name, place)?;
@@ -128,7 +144,11 @@ impl<C: Control + Drop> Network<C> {
     }
 
     // Both names are new, and there is room for two sockets.
-    fn may_pair(&self, pairing: &Pairing) -> bool {
+    fn may_pair(&self, pairing: &Pairing) -> bool
+        requires { IsWired self.now }
+        ensures { (n : network.Network C) → Shows C.ways n (view_of self.now)
+            → result ≡ may_pair n (pairing_of pairing.now) }
+    {
         self.has_room(2)
             && pairing.a != pairing.b
             && !self.is_taken(pairing.a)
@@ -136,7 +156,15 @@ impl<C: Control + Drop> Network<C> {
     }
 
     /// Opens two sockets, each the other's peer. False where a name is taken or there are too many.
-    pub fn pair(&mut self, pairing: &Pairing, out: &mut Vec<u8>) -> Result<bool, AllocError> {
+    pub fn pair(&mut self, pairing: &Pairing, out: &mut Vec<u8>) -> Result<bool, AllocError>
+        requires pairable { IsPairable pairing.now }
+        requires wired { IsWired self.old }
+        ensures done { IfOk result (λ did. (n : network.Network C) → Shows C.ways n (view_of self.old)
+            → DoesLine C.ways n (on_line C.ways n (PairLine (pairing_of pairing.now))) did
+            (view_of self.new) out.old.items out.new.items) }
+        ensures wired { OnOk result (IsWired self.new) }
+        ensures err { OnErr result (take (vec_len out.old) out.new.items ≡ out.old.items) }
+    {
         if !self.may_pair(pairing) {
             return Ok(false);
         }
@@ -161,7 +189,15 @@ impl<C: Control + Drop> Network<C> {
 
     /// Opens a socket without a connection. False where its name is taken, no host has the name that is
     /// given, or there are too many.
-    pub fn open(&mut self, opening: &Opening, out: &mut Vec<u8>) -> Result<bool, AllocError> {
+    pub fn open(&mut self, opening: &Opening, out: &mut Vec<u8>) -> Result<bool, AllocError>
+        requires openable { IsOpenable opening.now }
+        requires wired { IsWired self.old }
+        ensures done { IfOk result (λ did. (n : network.Network C) → Shows C.ways n (view_of self.old)
+            → DoesLine C.ways n (on_line C.ways n (OpenLine (opening_of opening.now))) did
+            (view_of self.new) out.old.items out.new.items) }
+        ensures wired { OnOk result (IsWired self.new) }
+        ensures err { OnErr result (take (vec_len out.old) out.new.items ≡ out.old.items) }
+    {
         if !self.has_room(1) || self.is_taken(opening.name) {
             return Ok(false);
         }

@@ -7,7 +7,8 @@ ghost use Rattle.udt_model.specs.Network as model;
 ghost use Rattle.udt_model.specs.Script.{from_host};
 ghost use Rattle.udt_script.specs.CodeLines.{datagram_of};
 ghost use Rattle.udt_world.specs.Done.{IsRoute};
-ghost use Rattle.udt_world.specs.Views.{view_of, event_of, Answers, Moves, Shows};
+ghost use Rattle.udt_world.specs.Views.{act_in, view_of, event_of, Answers, Moves, Shows};
+ghost use Rattle.udt_world.specs.Wiring.{sights_of, IsWired, MayHappen};
 
 use crate::arrivals::Route;
 use crate::network::{Act, Network, happen, room};
@@ -39,9 +40,11 @@ impl<C: Control> Network<C> {
     /// The socket at this place takes bytes.
     #[tactic(auto, using(crate::proofs::EventLemmas::send_outs))]
     pub fn send(&mut self, place: usize, now: u64, bytes: &[u8]) -> Result<usize, Refusal>
-        requires { place < vec_len self.old.sockets }
-        ensures { Answers C.ways place (event now (Send bytes.now)) (Sent result)
+        requires place { place < vec_len self.old.sockets }
+        requires wired { IsWired self.old }
+        ensures value { Answers C.ways place (event now (Send bytes.now)) (Sent result)
             (view_of self.old) (view_of self.new) }
+        ensures wired { IsWired self.new }
     {
         self.sockets[place].socket.send(now, bytes)
     }
@@ -49,7 +52,9 @@ impl<C: Control> Network<C> {
     /// The socket at this place gives bytes.
     #[tactic(auto, using(crate::proofs::EventLemmas::recv_outs))]
     pub fn recv(&mut self, place: usize, now: u64, into: &mut [u8]) -> Result<usize, Refusal>
-        requires { place < vec_len self.old.sockets }
+        requires place { place < vec_len self.old.sockets }
+        requires wired { IsWired self.old }
+        ensures wired { IsWired self.new }
         ensures value { Answers C.ways place (event now (Recv (length into.old)))
             (Received (received_in result into.new)) (view_of self.old) (view_of self.new) }
         ensures within { IfOk result (λ count. count ≤ length into.old) }
@@ -59,9 +64,12 @@ impl<C: Control> Network<C> {
 
     /// An event of the socket at this place.
     pub fn move_on(&mut self, place: usize, now: u64, act: &Act) -> Result<(), AllocError>
-        requires { place < vec_len self.old.sockets }
-        ensures { OnOk result (Moves C.ways place (event_of now act.now)
+        requires place { place < vec_len self.old.sockets }
+        requires wired { IsWired self.old }
+        requires may { MayHappen (sights_of self.old) place (act_in act.now) }
+        ensures moves { OnOk result (Moves C.ways place (event_of now act.now)
             (view_of self.old) (view_of self.new)) }
+        ensures wired { OnOk result (IsWired self.new) }
     {
         let mut outs = room(self.alloc, &mut self.outs)?;
         let socket = &mut self.sockets[place];
@@ -76,12 +84,18 @@ impl<C: Control> Network<C> {
 
     /// The route of the datagram with this number.
     pub fn route_of(&mut self, number: usize) -> Result<Route, AllocError>
-        requires { number < vec_len self.now.datagrams }
-        ensures value { (n : model.Network C) (datagram : model.ScriptDatagram)
-            → Shows C.ways n (view_of self.now)
-            → slice_get (view_of self.now).datagrams number ≡ Some datagram
-            → IsRoute C.ways n datagram result }
-        ensures within { (place : ℕ) → result ≡ Route.To place → place < vec_len self.now.sockets }
+        requires number { number < vec_len self.old.datagrams }
+        requires wired { IsWired self.old }
+        ensures value { IfOk result (λ route. (n : model.Network C) (datagram : model.ScriptDatagram)
+            → Shows C.ways n (view_of self.old)
+            → slice_get (view_of self.old).datagrams number ≡ Some datagram
+            → IsRoute C.ways n datagram route) }
+        ensures may { IfOk result (λ route. (place : ℕ) (datagram : model.ScriptDatagram) → route ≡ Route.To place
+            → slice_get (view_of self.old).datagrams number ≡ Some datagram
+            → (place < vec_len self.new.sockets)
+            × MayHappen (sights_of self.new) place (Arrive datagram.from datagram.bytes)) }
+        ensures kept { self.new ≡ record self.old { endpoints = self.new.endpoints } }
+        ensures wired { OnOk result (IsWired self.new) }
     {
         let to = self.datagrams[number].to;
         let endpoint = self.endpoint_at(to)?;
@@ -93,10 +107,15 @@ impl<C: Control> Network<C> {
     pub fn hear(&mut self, place: usize, number: usize, now: u64) -> Result<(), AllocError>
         requires place { place < vec_len self.old.sockets }
         requires number { number < vec_len self.old.datagrams }
-        ensures { OnOk result ((datagram : model.ScriptDatagram)
+        requires wired { IsWired self.old }
+        requires may { (datagram : model.ScriptDatagram)
+            → slice_get (view_of self.old).datagrams number ≡ Some datagram
+            → MayHappen (sights_of self.old) place (Arrive datagram.from datagram.bytes) }
+        ensures moves { OnOk result ((datagram : model.ScriptDatagram)
             → slice_get (view_of self.old).datagrams number ≡ Some datagram
             → Moves C.ways place (event now (Arrive datagram.from datagram.bytes))
             (view_of self.old) (view_of self.new)) }
+        ensures wired { OnOk result (IsWired self.new) }
     {
         let mut outs = room(self.alloc, &mut self.outs)?;
         let emitted = &self.datagrams[number];

@@ -1,6 +1,6 @@
 // The network of a script, line by line.
 
-ghost use Rattle.std.specs.Prelude.{◌≡◌, ◌+◌, ◌≤◌, [], List, ℕ, Some, true, length, map, take, vec_len, IfOk, OnErr};
+ghost use Rattle.std.specs.Prelude.{◌≡◌, ◌+◌, ◌≤◌, [], List, ℕ, Some, true, length, map, take, vec_len, IfOk, OnOk, OnErr};
 ghost use Rattle.udt_model.specs.Network as model;
 ghost use Rattle.udt_model.specs.Script.{on_line, played_line, size_of, fits_after};
 ghost use Rattle.udt_model.specs.declared.limits.TheConstants.{LONGEST_SCRIPT};
@@ -9,8 +9,9 @@ ghost use Rattle.udt_world.specs.Views.{view_of, Shows};
 ghost use Rattle.udt_world.specs.Done.{DoesLine};
 ghost use Rattle.udt_world.specs.Kept.{kept_lines, items_of};
 ghost use Rattle.udt_world.specs.ScriptLines.{AnswersLine};
-ghost use Rattle.udt_world.specs.InStep.{AreAllInStep, AllShowMessages};
+ghost use Rattle.udt_world.specs.InStep.{AllAdoptBack, AreAllInStep, AllShowMessages};
 ghost use Rattle.udt_world.specs.Transcripts.{KeepsPrefix};
+ghost use Rattle.udt_world.specs.Wiring.{IsWired};
 
 use crate::network::Network;
 use std::alloc::{AllocError, Global};
@@ -54,10 +55,12 @@ fn do_line<C: Control + Drop>(
     line: &Line,
     out: &mut Vec<u8>,
 ) -> Result<bool, AllocError>
-    requires { IsInRange line.now }
+    requires range { IsInRange line.now }
+    requires wired { IsWired network.old }
     ensures done { IfOk result (λ did. (n : model.Network C) → Shows C.ways n (view_of network.old)
         → DoesLine C.ways n (on_line C.ways n (line_of line.now)) did
         (view_of network.new) out.old.items out.new.items) }
+    ensures wired { OnOk result (IsWired network.new) }
     ensures err { OnErr result (take (vec_len out.old) out.new.items ≡ out.old.items) }
 {
     match line {
@@ -85,9 +88,11 @@ fn play_line<C: Control + Drop>(
     line: &[u8],
     out: &mut Vec<u8>,
 ) -> Result<bool, AllocError>
+    requires { IsWired network.old }
     ensures done { IfOk result (λ did. (n : model.Network C) → Shows C.ways n (view_of network.old)
         → DoesLine C.ways n (played_line C.ways n line.now) did
         (view_of network.new) out.old.items out.new.items) }
+    ensures wired { OnOk result (IsWired network.new) }
     ensures err { OnErr result (take (vec_len out.old) out.new.items ≡ out.old.items) }
 {
     match read_line(network.alloc, line)? {
@@ -103,11 +108,13 @@ fn keep_line<C: Control + Drop>(
     line: &[u8],
     out: &mut Vec<u8>,
 ) -> Result<bool, AllocError>
+    requires { IsWired network.old }
     ensures lines { IfOk result (λ did.
         map items_of lines.new.items ≡ kept_lines did (map items_of lines.old.items) line.now) }
     ensures done { IfOk result (λ did. (n : model.Network C) → Shows C.ways n (view_of network.old)
         → DoesLine C.ways n (played_line C.ways n line.now) did
         (view_of network.new) out.old.items out.new.items) }
+    ensures wired { OnOk result (IsWired network.new) }
     ensures err { OnErr result (take (vec_len out.old) out.new.items ≡ out.old.items) }
 {
     let kept = Vec::from_slice(network.alloc, line)?;
@@ -146,6 +153,7 @@ impl<C: Control + Drop> World<C> {
     /// nothing. Once memory has run out every line is answered so, and prints nothing.
     pub fn line(&mut self, line: &[u8], out: &mut Vec<u8>) -> Result<(), LineNo>
         ensures answer { AnswersLine C.ways self.old line.now result self.new out.old.items out.new.items }
+        ensures adoption { AllAdoptBack C.ways self.new }
         ensures in_step { AreAllInStep C.ways self.new }
         ensures shown { AllShowMessages C.ways self.new }
         ensures prefix { KeepsPrefix C.ways self.old line.now result out.old.items out.new.items }
