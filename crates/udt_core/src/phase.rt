@@ -52,7 +52,11 @@ impl Model for Backlog {
 
 impl Backlog {
     // No connections, with room for so many.
-    pub(crate) fn new(alloc: Global, listening: ListenShake, most: u32) -> Result<Backlog, OutOfMemory>
+    pub(crate) fn new(
+        alloc: Global,
+        listening: ListenShake,
+        most: u32,
+    ) -> Result<Backlog, OutOfMemory>
         requires { most ≤ MOST_BACKLOG }
         ensures { IfOk result (λ b. b ≡ record { listening = listening; most = most; offered = []; promised = 0 }) }
     {

@@ -178,12 +178,7 @@ impl<C: Control + Drop> Network<C> {
     }
 
     /// The arrival of the datagram with this number. False where none was printed under it.
-    pub fn deliver(
-        &mut self,
-        number: u64,
-        now: u64,
-        out: &mut Vec<u8>,
-    ) -> Result<bool, AllocError>
+    pub fn deliver(&mut self, number: u64, now: u64, out: &mut Vec<u8>) -> Result<bool, AllocError>
         requires { IsWired self.old }
         ensures done { IfOk result (λ did. (n : network.Network C) → Shows C.ways n (view_of self.old)
             → DoesLine C.ways n (on_line C.ways n (DeliverLine number now)) did

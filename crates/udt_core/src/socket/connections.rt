@@ -165,11 +165,8 @@ impl<C: Control> Socket<C> {
             | Phase::Connecting { .. }
             | Phase::Meeting { .. }
             | Phase::Connected => self.phase = Phase::Broken(Cause::PortDown),
-            Phase::Opened
-            | Phase::Broken(_)
-            | Phase::Failed(_)
-            | Phase::Closing
-            | Phase::Closed => {}
+            Phase::Opened | Phase::Broken(_) | Phase::Failed(_) | Phase::Closing | Phase::Closed =>
+                {}
         }
     }
 }

@@ -55,7 +55,8 @@ const COOKIE: &[u8] = b"\x80\x00\x00\x00\x00\x00\x00\x00\x00\x00\x03\xe8\x00\x00
     \x0a\x00\x00\x08\x00\x00\x00\x00\x00\x00\x00\x00\x00\x00\x00\x00";
 
 // the request with the cookie, and what answers it: socket 3, or a refusal
-const REQUEST_WITH_COOKIE: &[u8] = b"\x80\x00\x00\x00\x00\x00\x00\x00\x00\x00\x07\xd0\x00\x00\x00\x00\
+const REQUEST_WITH_COOKIE: &[u8] =
+    b"\x80\x00\x00\x00\x00\x00\x00\x00\x00\x00\x07\xd0\x00\x00\x00\x00\
     \x00\x00\x00\x04\x00\x00\x00\x01\x00\x00\x00\x05\x00\x00\x00\x30\
     \x00\x00\x00\x04\x00\x00\x00\x01\x00\x00\x00\x02\x83\x3a\x0d\x67\
     \x0a\x00\x00\x09\x00\x00\x00\x00\x00\x00\x00\x00\x00\x00\x00\x00";
@@ -212,7 +213,11 @@ fn a_client_asks_until_a_listener_answers(rt: HostRuntime) -> Result<(), Fail> {
         (0, Deed::Ticks, Some(REQUEST)),
         (0, Deed::Ticks, None),
         (0, Deed::IsNext(Some(250_000)), None),
-        (2_000, Deed::Arrives(COOKIE, Heard::Cookie), Some(REQUEST_WITH_COOKIE)),
+        (
+            2_000,
+            Deed::Arrives(COOKIE, Heard::Cookie),
+            Some(REQUEST_WITH_COOKIE),
+        ),
         (2_000, Deed::IsNext(Some(252_000)), None),
         (2_000, Deed::Shakes(Shaken::Waiting), None),
         (2_000, Deed::HasPeer(None), None),
@@ -254,12 +259,24 @@ fn a_listener_promises_a_place_for_a_cookie(rt: HostRuntime) -> Result<(), Fail>
         (0, Deed::Listens(1, Err(Refusal::Connected)), None),
         (1_000, Deed::Arrives(REQUEST, Heard::Cookie), Some(COOKIE)),
         (1_000, Deed::Offers(3, false), None),
-        (2_000, Deed::Arrives(REQUEST_WITH_COOKIE, Heard::Request), None),
+        (
+            2_000,
+            Deed::Arrives(REQUEST_WITH_COOKIE, Heard::Request),
+            None,
+        ),
         (2_000, Deed::Withdraws, None),
-        (2_000, Deed::Arrives(REQUEST_WITH_COOKIE, Heard::Request), None),
+        (
+            2_000,
+            Deed::Arrives(REQUEST_WITH_COOKIE, Heard::Request),
+            None,
+        ),
         (2_000, Deed::Is(0), None),
         // the place that was promised is the only one
-        (3_000, Deed::Arrives(REQUEST_WITH_COOKIE, Heard::Reject), Some(REFUSAL)),
+        (
+            3_000,
+            Deed::Arrives(REQUEST_WITH_COOKIE, Heard::Reject),
+            Some(REFUSAL),
+        ),
         (3_000, Deed::Accepts(Err(Refusal::AgainRecv)), None),
         (3_000, Deed::Offers(3, true), None),
         (3_000, Deed::Is(8), None),
@@ -267,15 +284,27 @@ fn a_listener_promises_a_place_for_a_cookie(rt: HostRuntime) -> Result<(), Fail>
         (3_000, Deed::Accepts(Err(Refusal::AgainRecv)), None),
         (3_000, Deed::IsNext(None), None),
         (4_000, Deed::LosesPort, None),
-        (4_000, Deed::Accepts(Err(Refusal::ConnLost(Cause::PortDown))), None),
+        (
+            4_000,
+            Deed::Accepts(Err(Refusal::ConnLost(Cause::PortDown))),
+            None,
+        ),
         (4_000, Deed::Shakes(Shaken::Lost(Cause::PortDown)), None),
         (4_000, Deed::Is(4), None),
     ];
     tell::<Native>(&rt, rt.alloc(), 1, 0, CLIENT, &listens)?;
     let answers = [
         (0, Deed::HasPeer(Some((CLIENT, 2))), None),
-        (3_000, Deed::Arrives(REQUEST_WITH_COOKIE, Heard::Answered), Some(ANSWER)),
-        (5_000, Deed::Arrives(REQUEST, Heard::Answered), Some(ANSWER_AGAIN)),
+        (
+            3_000,
+            Deed::Arrives(REQUEST_WITH_COOKIE, Heard::Answered),
+            Some(ANSWER),
+        ),
+        (
+            5_000,
+            Deed::Arrives(REQUEST, Heard::Answered),
+            Some(ANSWER_AGAIN),
+        ),
         (5_000, Deed::Arrives(REFUSAL, Heard::Stale), None),
     ];
     tell_paired::<Native>(&rt, rt.alloc(), &answers)
@@ -304,7 +333,11 @@ fn two_sockets_meet(rt: HostRuntime) -> Result<(), Fail> {
         (3_000, Deed::Arrives(AGREES, Heard::Connected), None),
         (3_000, Deed::Shakes(Shaken::Done), None),
         (3_000, Deed::Is(18), None),
-        (4_000, Deed::Arrives(MEETS, Heard::Answered), Some(MET_AGAIN)),
+        (
+            4_000,
+            Deed::Arrives(MEETS, Heard::Answered),
+            Some(MET_AGAIN),
+        ),
         (4_000, Deed::Arrives(AGREES, Heard::Stale), None),
     ];
     tell::<Native>(&rt, rt.alloc(), 2, 9, FIRST, &follows)
