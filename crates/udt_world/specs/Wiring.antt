@@ -1,5 +1,5 @@
 -- What the endpoints of a script know of its sockets, and where the sockets of a name stand.
-use Rattle.std.specs.Prelude.{◌≡◌, ℕ, ◌+◌, ◌-◌, ◌≤◌, ◌<◌, ◌==◌, Bool, false, not, ◌&&◌, List, [], ◌∷◌, ◌++◌, length, map, Option, Some, None, slice_get, position, is_some, option_map, sum_by, vec_len, if◌then◌else◌}
+use Rattle.std.specs.Prelude.{◌≡◌, ℕ, ◌+◌, ◌-◌, ◌≤◌, ◌<◌, ◌==◌, Bool, false, not, ◌&&◌, List, [], ◌∷◌, ◌++◌, length, map, Option, Some, None, slice_get, position, is_some, option_map, sum_by, vec_len, decimal, ◌⊎◌, if◌then◌else◌}
 use Rattle.std.specs.List.{Contains}
 use Rattle.std.specs.Map.{lookup}
 use Rattle.udt_model.specs.declared.addresses.Addr.{Addr}
@@ -13,7 +13,7 @@ use Rattle.udt_model.specs.Records.{PeerPair, peer_by}
 use Rattle.udt_model.specs.Routes.{Known, handshake_in}
 use Rattle.udt_model.specs.State.{State}
 use Rattle.udt_model.specs.Wire.{read}
-use Rattle.udt_model.specs.Words.{is_word}
+use Rattle.udt_model.specs.Words.{is_name, is_word}
 use Rattle.udt_routes.specs.Meets.{IsMetOnce, can_meet}
 use Rattle.udt_routes.specs.Pairs.{Pair, adopter_of, pair_of, IsAdoptedOnce}
 use Rattle.udt_routes.specs.Routing.{found_in, known_by}
@@ -148,6 +148,10 @@ module _ {C : Type 0} where
   abbrev pub place_seen : List (Sight C) → List ℕ → Option ℕ
   place_seen sights name = position (λ s. is_word s.name name) sights
 
+  -- the name of the socket at a place: its ID, or one that a line gave it
+  abbrev pub IsGiven : ℕ → List ℕ → Type 0
+  IsGiven place name = (name ≡ decimal (place + 1)) ⊎ (is_name name ≡ Bool.true)
+
   -- the connections that wait at a listener to be accepted
   abbrev pub waiting_at : Phase → List ℕ
   waiting_at (Listening backlog) = backlog.offered
@@ -167,6 +171,10 @@ module _ {C : Type 0} where
         → Knows e.routes (sights_of network) e.addr
     -- each socket stands under its name
     pub names : (name : List ℕ) → place_under network name ≡ place_seen (sights_of network) name
+    -- and no other one has that name
+    pub called : (place : ℕ) (s : Sight C) → slice_get (sights_of network) place ≡ Some s
+        → place_seen (sights_of network) s.name ≡ Some place
+    pub given : (place : ℕ) (s : Sight C) → slice_get (sights_of network) place ≡ Some s → IsGiven place s.name
     -- its ID is the number after its place
     pub owns : (place : ℕ) (s : Sight C) → slice_get (sights_of network) place ≡ Some s → s.state.own ≡ place + 1
     -- what waits at a listener are sockets
@@ -193,6 +201,7 @@ module _ {C : Type 0} where
     pub stands : HasAddress network.endpoints.items socket.endpoint socket.host
     pub own : socket.socket.own ≡ vec_len network.sockets + 1
     pub name : place_seen (sights_of network) socket.name.items ≡ None
+    pub given : IsGiven (vec_len network.sockets) socket.name.items
     pub live : is_closed socket.socket.phase ≡ Bool.false
     pub waits : waiting_at socket.socket.phase ≡ []
     pub listened : socket.listened ≡ Bool.false
