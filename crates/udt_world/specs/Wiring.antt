@@ -46,6 +46,10 @@ pair_in (Some peer) = Some (peer.addr, peer.id)
 abbrev pub one_if : Bool → ℕ
 one_if so = if so then 1 else 0
 
+-- the name of the socket at a place: its ID, or one that a line gave it
+abbrev pub IsGiven : ℕ → List ℕ → Type 0
+IsGiven place name = (name ≡ decimal (place + 1)) ⊎ (is_name name ≡ Bool.true)
+
 -- the connections that wait at a listener to be accepted
 abbrev pub waiting_at : Phase → List ℕ
 waiting_at (Listening backlog) = backlog.offered
@@ -172,10 +176,6 @@ module _ {C : Type 0} where
   -- the place of the socket that is seen under a name
   abbrev pub place_seen : List (Sight C) → List ℕ → Option ℕ
   place_seen sights name = position (λ s. is_word s.name name) sights
-
-  -- the name of the socket at a place: its ID, or one that a line gave it
-  abbrev pub IsGiven : ℕ → List ℕ → Type 0
-  IsGiven place name = (name ≡ decimal (place + 1)) ⊎ (is_name name ≡ Bool.true)
 
   -- the sockets and the endpoints fit together
   pub record IsWired (network : Network C) : Type 0 where
