@@ -1,5 +1,7 @@
 pub mod EventLemmas
 pub mod ActLemmas
+pub mod FirstLemmas
+pub mod KeyLemmas
 pub mod PlaceLemmas
 pub mod ClosedLemmas
 pub mod HostLemmas
