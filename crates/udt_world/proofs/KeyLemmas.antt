@@ -46,43 +46,44 @@ module _ {V : Type 0} where
   all_removed : (P : ℕ → Type 0) (test : ℕ → Bool) (es : List (ℕ × V)) → AllByRecursion P (keys_of es)
       → AllByRecursion P (keys_of (remove_entry test es))
   all_removed P test [] all = all
-  all_removed P test (e ∷ es) all = by (test e.0)
+  all_removed P test (e ∷ es) all = by (test e.0) (all_removed P test es all.1)
     where
-      by : (b : Bool) → AllByRecursion P (keys_of (cond b es (e ∷ remove_entry test es)))
-      by true = all.1
-      by false = (all.0, all_removed P test es all.1)
+      by : (b : Bool) → AllByRecursion P (keys_of (remove_entry test es)) → AllByRecursion P (keys_of (cond b es (e ∷ remove_entry test es)))
+      by true rest = all.1
+      by false rest = (all.0, rest)
 
   all_inserted : (P : ℕ → Type 0) (id : ℕ) (v : V) (es : List (ℕ × V)) → P id → AllByRecursion P (keys_of es)
       → AllByRecursion P (keys_of (insert_entry nat_cmp es id v))
   all_inserted P id v [] here all = (here, tt)
-  all_inserted P id v (e ∷ es) here all = by (nat_cmp id e.0)
+  all_inserted P id v (e ∷ es) here all = by (nat_cmp id e.0) (all_inserted P id v es here all.1)
     where
-      by : (c : Ordering)
+      by : (c : Ordering) → AllByRecursion P (keys_of (insert_entry nat_cmp es id v))
           → AllByRecursion P (keys_of (match_ordering c ((id, v) ∷ e ∷ es) ((e.0, v) ∷ es) (e ∷ insert_entry nat_cmp es id v)))
-      by Less = (here, all)
-      by Equal = all
-      by Greater = (all.0, all_inserted P id v es here all.1)
+      by Less rest = (here, all)
+      by Equal rest = all
+      by Greater rest = (all.0, rest)
 
   -- the order stays
   pub rising_removed : (id : ℕ) (es : List (ℕ × V)) → IsRising nat_cmp es → IsRising nat_cmp (remove_entry (is_at (nat_cmp id)) es)
   unfolding IsStrictlySortedBy
   rising_removed id [] rises = rises
-  rising_removed id (e ∷ es) rises = by (is_at (nat_cmp id) e.0)
+  rising_removed id (e ∷ es) rises = by (is_at (nat_cmp id) e.0) (rising_removed id es rises.1)
     where
-      by : (b : Bool) → IsRising nat_cmp (cond b es (e ∷ remove_entry (is_at (nat_cmp id)) es))
-      by true = rises.1
-      by false = (all_removed (λ y. nat_cmp e.0 y ≡ Less) (is_at (nat_cmp id)) es rises.0, rising_removed id es rises.1)
+      by : (b : Bool) → IsRising nat_cmp (remove_entry (is_at (nat_cmp id)) es)
+          → IsRising nat_cmp (cond b es (e ∷ remove_entry (is_at (nat_cmp id)) es))
+      by true rest = rises.1
+      by false rest = (all_removed (λ y. nat_cmp e.0 y ≡ Less) (is_at (nat_cmp id)) es rises.0, rest)
 
   pub rising_inserted : (id : ℕ) (v : V) (es : List (ℕ × V)) → IsRising nat_cmp es → IsRising nat_cmp (insert_entry nat_cmp es id v)
   unfolding IsStrictlySortedBy
   rising_inserted id v [] rises = (tt, tt)
-  rising_inserted id v (e ∷ es) rises = by (nat_cmp id e.0) refl
+  rising_inserted id v (e ∷ es) rises = by (nat_cmp id e.0) refl (rising_inserted id v es rises.1)
     where
-      by : (c : Ordering) → nat_cmp id e.0 ≡ c
+      by : (c : Ordering) → nat_cmp id e.0 ≡ c → IsRising nat_cmp (insert_entry nat_cmp es id v)
           → IsRising nat_cmp (match_ordering c ((id, v) ∷ e ∷ es) ((e.0, v) ∷ es) (e ∷ insert_entry nat_cmp es id v))
-      by Less is = ((is, all_less id e.0 es is rises.0), rises)
-      by Equal is = rises
-      by Greater is = (all_inserted (λ y. nat_cmp e.0 y ≡ Less) id v es (flip_greater id e.0 is) rises.0, rising_inserted id v es rises.1)
+      by Less is rest = ((is, all_less id e.0 es is rises.0), rises)
+      by Equal is rest = rises
+      by Greater is rest = (all_inserted (λ y. nat_cmp e.0 y ≡ Less) id v es (flip_greater id e.0 is) rises.0, rest)
 
   -- an ID that was taken out has nothing, and the others have what they had
   pub value_removed : (id : ℕ) (es : List (ℕ × V)) → IsRising nat_cmp es → (other : ℕ)
@@ -95,7 +96,7 @@ module _ {V : Type 0} where
   pub value_inserted : (id : ℕ) (v : V) (es : List (ℕ × V)) → value_at nat_cmp es id ≡ None → (other : ℕ)
       → value_at nat_cmp (insert_entry nat_cmp es id v) other ≡ cond (is_eq (nat_cmp other id)) (Some v) (value_at nat_cmp es other)
   value_inserted id v [] none other = refl
-  value_inserted id v (e ∷ es) none other = by (nat_cmp id e.0) refl none
+  value_inserted id v (e ∷ es) none other = by (nat_cmp id e.0) refl none (λ empty. value_inserted id v es empty other)
     where
       apart : nat_cmp id e.0 ≡ Greater → (b c : Bool) → is_eq (nat_cmp other e.0) ≡ b → is_eq (nat_cmp other id) ≡ c
           → value_at nat_cmp (insert_entry nat_cmp es id v) other ≡ cond c (Some v) (value_at nat_cmp es other)
@@ -111,25 +112,28 @@ module _ {V : Type 0} where
           absurd (cc)
 
       by : (c : Ordering) → nat_cmp id e.0 ≡ c → cond (is_eq c) (Some e.1) (value_at nat_cmp es id) ≡ None
+          → (value_at nat_cmp es id ≡ None → value_at nat_cmp (insert_entry nat_cmp es id v) other
+          ≡ cond (is_eq (nat_cmp other id)) (Some v) (value_at nat_cmp es other))
           → value_at nat_cmp (match_ordering c ((id, v) ∷ e ∷ es) ((e.0, v) ∷ es) (e ∷ insert_entry nat_cmp es id v)) other
           ≡ cond (is_eq (nat_cmp other id)) (Some v) (value_at nat_cmp (e ∷ es) other)
-      by Less is empty = refl
-      by Equal is empty = absurd (cc)
-      by Greater is empty = apart is _ _ refl refl (value_inserted id v es empty other)
+      by Less is empty rest = refl
+      by Equal is empty rest = absurd (cc)
+      by Greater is empty rest = apart is (is_eq (nat_cmp other e.0)) (is_eq (nat_cmp other id)) refl refl (rest empty)
 
   pub length_removed : (test : ℕ → Bool) (es : List (ℕ × V)) → length (remove_entry test es) ≤ length es
   length_removed test [] = omega arith
-  length_removed test (e ∷ es) = by (test e.0)
+  length_removed test (e ∷ es) = by (test e.0) (length_removed test es)
     where
-      by : (b : Bool) → length (cond b es (e ∷ remove_entry test es)) ≤ length (e ∷ es)
-      by true = omega arith
-      by false = omega (arith, length_removed test es)
+      by : (b : Bool) → length (remove_entry test es) ≤ length es → length (cond b es (e ∷ remove_entry test es)) ≤ length (e ∷ es)
+      by true rest = omega arith
+      by false rest = omega arith
 
   pub length_inserted : (id : ℕ) (v : V) (es : List (ℕ × V)) → length (insert_entry nat_cmp es id v) ≤ length es + 1
   length_inserted id v [] = omega arith
-  length_inserted id v (e ∷ es) = by (nat_cmp id e.0)
+  length_inserted id v (e ∷ es) = by (nat_cmp id e.0) (length_inserted id v es)
     where
-      by : (c : Ordering) → length (match_ordering c ((id, v) ∷ e ∷ es) ((e.0, v) ∷ es) (e ∷ insert_entry nat_cmp es id v)) ≤ length (e ∷ es) + 1
-      by Less = omega arith
-      by Equal = omega arith
-      by Greater = omega (arith, length_inserted id v es)
+      by : (c : Ordering) → length (insert_entry nat_cmp es id v) ≤ length es + 1
+          → length (match_ordering c ((id, v) ∷ e ∷ es) ((e.0, v) ∷ es) (e ∷ insert_entry nat_cmp es id v)) ≤ length (e ∷ es) + 1
+      by Less rest = omega arith
+      by Equal rest = omega arith
+      by Greater rest = omega arith
