@@ -204,7 +204,7 @@ module _ {C : Type 0} where
           fails : (j : ℕ) (x : Sight C) → slice_get sights j ≡ Some x → (b : Bool) → meets host a x ≡ b → b ≡ false
           fails j x at true passes =
               absurd (met_has_meeter met (j + 1) a (are.seen (j + 1) ∙ some-met host sights j x a at passes) e)
-          fails j x at false fails = refl
+          fails j x at false _ = refl
 
   met-once : (met : List (ℕ × Addr)) (sights : List (Sight C)) (host : Addr) (d : Sight C) → AreOnce sights → AreMet met sights host → IsMetOnce met
   met-once met sights host d once are = record {
@@ -237,3 +237,244 @@ module _ {C : Type 0} where
           let found = first-found (meets host a) sights id d first in
           sym (ap (λ (i : ℕ). met_at host (sight_with sights i)) found.2 ∙ some-met host sights found.0 found.1 a found.3 found.4)
       seen_by id None e = none_by id e (met_at host (sight_with sights id)) refl
+
+-- ---- a socket that changed
+
+or_then-none : {A : Type 0} (o : Option A) → or_then o None ≡ o
+or_then-none None = refl
+or_then-none (Some x) = refl
+
+and-false : (b : Bool) → (b && false) ≡ false
+and-false true = refl
+and-false false = refl
+
+none-either : {A : Type 0} (b : Bool) → cond {A = Option A} b None None ≡ None
+none-either true = refl
+none-either false = refl
+
+found-some : {A : Type 0} (o : Option A) (id : ℕ) → is_some (if is_some o then Some id else None) ≡ is_some o
+found-some None id = refl
+found-some (Some x) id = refl
+
+one-small : (b : Bool) → one_if b ≤ 1
+one-small true = omega arith
+one-small false = omega arith
+
+module _ {R : Type 0} where
+  pair-has : (t : Table R) (id : ℕ) (p q : Pair) → pair_of t.adoptions id ≡ Some q → with_pair t id (Some p) ≡ t
+  pair-has t id p q has = rw has refl
+
+  pair-new : (t : Table R) (id : ℕ) (p : Pair) → pair_of t.adoptions id ≡ None → adopter_of t.adoptions p ≡ None
+      → with_pair t id (Some p) ≡ record t { adoptions = t.adoptions ++ (id, p) ∷ [] }
+  pair-new t id p none free = rw (none, free) refl
+
+  met-taken : (t : Table R) (id by : ℕ) (to : Addr) → meeter_of t.meetings to ≡ Some by → with_met t id (Some to) ≡ t
+  met-taken t id by to taken = rw taken refl
+
+  met-new : (t : Table R) (id : ℕ) (to : Addr) → meeter_of t.meetings to ≡ None → met_by t.meetings id ≡ None → nat_lt (length t.meetings) t.live ≡ true
+      → with_met t id (Some to) ≡ record t { meetings = insert_entry nat_cmp t.meetings id to }
+  met-new t id to free none room = rw (free, none, room) refl
+
+module _ {C R : Type 0} (t : Table R) (sights : List (Sight C)) (host : Addr) (k : ℕ) (s next : Sight C)
+    (there : slice_get sights k ≡ Some s) (stands : s.host ≡ host) (few : length sights ≤ MOST_ENROLLED) (knows : Knows t sights host)
+    (once : AreOnce sights) (follows : Follows s next) (may : MayFollow sights s next) where
+  abbrev after : List (Sight C)
+  after = slice_set sights k next
+
+  kept : AreOnce after
+  kept = once-kept sights k s next there once follows may
+
+  here : slice_get after k ≡ Some next
+  here = set-same sights k s next there
+
+  now_stands : next.host ≡ host
+  now_stands = follows.host ∙ stands
+
+  -- ---- its pair
+
+  adopts-holds : (x : Sight C) (p : PeerPair) → x.host ≡ host → peer_in x ≡ Some p → adopts host p.addr p.id x ≡ true
+  adopts-holds x p at has = both _ _ (ap (same_addr x.host) (sym at) ∙ same-addr x.host) (is-pair p (peer_in x) has)
+
+  own-pair : pair_of t.adoptions (k + 1) ≡ pair_in (peer_in s)
+  own-pair = by (peer_in s) refl
+    where
+      none : peer_in s ≡ None → (o : Option Pair) → pair_of t.adoptions (k + 1) ≡ o → o ≡ None
+      none e None f = refl
+      none e (Some q) f =
+          let first = sym (knows.same.adopter q.0 q.1) ∙ knows.adopted_once.adopter (k + 1) q f in
+          let found = first-found (adopts host q.0 q.1) sights (k + 1) s first in
+          let place : found.0 ≡ k = omega (arith, found.2) in
+          let same : found.1 ≡ s = found-once sights k found.1 s (ap (slice_get sights) (sym place) ∙ found.3) there in
+          let passes = ap (adopts host q.0 q.1) (sym same) ∙ found.4 in
+          let has = pair-is q.0 q.1 (peer_in s) (and_parts _ _ passes).1 in
+          absurd (cc)
+
+      by : (o : Option PeerPair) → peer_in s ≡ o → pair_of t.adoptions (k + 1) ≡ pair_in o
+      by (Some p) e =
+          let first = only-first (adopts host p.addr p.id) sights k s there (adopts-holds s p stands e) (once.adopter host p.addr p.id) in
+          knows.adopted_once.pair (k + 1) (p.addr, p.id) (knows.same.adopter p.addr p.id ∙ first)
+      by None e = none e (pair_of t.adoptions (k + 1)) refl
+
+  record AreAdopted (adopted : List (ℕ × Pair)) : Type 0 where
+    same : (addr : Addr) (id : ℕ) → adopter_of adopted (addr, id) ≡ first_with (adopts host addr id) after
+    alone : IsAdoptedOnce adopted
+    count : length adopted ≤ sum_by (λ (x : Sight C). one_if (is_some (peer_in x))) after
+
+  record TellsPair (u : Table R) : Type 0 where
+    adopted : List (ℕ × Pair)
+    is : u ≡ record t { adoptions = adopted }
+    right : AreAdopted adopted
+
+  abbrev peer_counts : Sight C → ℕ
+  peer_counts x = one_if (is_some (peer_in x))
+
+  abbrev met_counts : Sight C → ℕ
+  met_counts x = one_if (is_some x.met)
+
+  peer-stays : peer_in next ≡ peer_in s → TellsPair t
+  peer-stays same = record {
+    adopted = t.adoptions;
+    is = refl;
+    right = record {
+      same = λ addr id.
+          let alike : adopts host addr id next ≡ adopts host addr id s =
+          ap (λ (h : Addr). same_addr h host && is_pair addr id (peer_in next)) follows.host
+          ∙ ap (λ (o : Option PeerPair). same_addr s.host host && is_pair addr id o) same in
+          knows.same.adopter addr id ∙ sym (first-set (adopts host addr id) sights k s next there alike);
+      alone = knows.adopted_once;
+      count =
+          omega (arith, sum-set peer_counts sights k s next there, ap (λ (o : Option PeerPair). one_if (is_some o)) same, knows.adoptions);
+    };
+  }
+
+  peer-comes : (p : PeerPair) → peer_in next ≡ Some p → peer_in s ≡ None → AreAdopted (t.adoptions ++ (k + 1, (p.addr, p.id)) ∷ [])
+  peer-comes p e f = record {
+    same = λ addr id. adopter-push t.adoptions (k + 1) (p.addr, p.id) (addr, id) ∙ by addr id (is_pair addr id (Some p)) refl;
+    alone = once-pushed t.adoptions (k + 1) (p.addr, p.id) knows.adopted_once (own-pair ∙ ap pair_in f) free;
+    count =
+        omega (arith, sum-set peer_counts sights k s next there, ap (λ (o : Option PeerPair). one_if (is_some o)) e, ap (λ (o : Option PeerPair). one_if (is_some o)) f, knows.adoptions, length-append t.adoptions ((k + 1, (p.addr, p.id)) ∷ []));
+  }
+    where
+      free : adopter_of t.adoptions (p.addr, p.id) ≡ None
+      free = knows.same.adopter p.addr p.id
+          ∙ subst (λ (h : Addr). first_with (adopts h p.addr p.id) sights ≡ None) stands (may.adopter p f e)
+
+      by : (addr : Addr) (id : ℕ) (b : Bool) → is_pair addr id (Some p) ≡ b
+          → or_then (adopter_of t.adoptions (addr, id)) (cond b (Some (k + 1)) None) ≡ first_with (adopts host addr id) after
+      by addr id true is =
+          let same : (addr, id) ≡ (p.addr, p.id) = same_pair-is (addr, id) (p.addr, p.id) is in
+          let none : adopter_of t.adoptions (addr, id) ≡ None = ap (adopter_of t.adoptions) same ∙ free in
+          let passes : adopts host addr id next ≡ true =
+          both _ _ (ap (same_addr next.host) (sym now_stands) ∙ same-addr next.host) (ap (is_pair addr id) e ∙ is) in
+          ap (λ (o : Option ℕ). or_then o (Some (k + 1))) none
+          ∙ sym (only-first (adopts host addr id) after k next here passes (kept.adopter host addr id))
+      by addr id false is =
+          let alike : adopts host addr id next ≡ adopts host addr id s =
+          ap (λ (b : Bool). same_addr next.host host && b) (ap (is_pair addr id) e ∙ is) ∙ (and-false (same_addr next.host host)
+          ∙ sym (ap (λ (o : Option PeerPair). same_addr s.host host && is_pair addr id o) f ∙ and-false (same_addr s.host host))) in
+          or_then-none (adopter_of t.adoptions (addr, id))
+          ∙ (knows.same.adopter addr id ∙ sym (first-set (adopts host addr id) sights k s next there alike))
+
+  tells-pair : TellsPair (with_pair t (k + 1) (pair_in (peer_in next)))
+  tells-pair = by (peer_in next) refl (peer_in s) refl
+    where
+      by : (o : Option PeerPair) → peer_in next ≡ o → (r : Option PeerPair) → peer_in s ≡ r → TellsPair (with_pair t (k + 1) (pair_in (peer_in next)))
+      by None e None f = subst (λ (o : Option PeerPair). TellsPair (with_pair t (k + 1) (pair_in o))) (sym e) (peer-stays (e ∙ sym f))
+      by None e (Some q) f = let still = follows.peer q f in absurd (cc)
+      by (Some p) e (Some q) f =
+          let still = follows.peer q f in
+          subst (λ (o : Option PeerPair). TellsPair (with_pair t (k + 1) (pair_in o))) (sym e)
+          (subst TellsPair (sym (pair-has t (k + 1) (p.addr, p.id) (q.addr, q.id) (own-pair ∙ ap pair_in f))) (peer-stays (still ∙ sym f)))
+      by (Some p) e None f =
+          let free : adopter_of t.adoptions (p.addr, p.id) ≡ None =
+          knows.same.adopter p.addr p.id
+          ∙ subst (λ (h : Addr). first_with (adopts h p.addr p.id) sights ≡ None) stands (may.adopter p f e) in
+          subst (λ (o : Option PeerPair). TellsPair (with_pair t (k + 1) (pair_in o))) (sym e) (record {
+            adopted = t.adoptions ++ (k + 1, (p.addr, p.id)) ∷ [];
+            is = pair-new t (k + 1) (p.addr, p.id) (own-pair ∙ ap pair_in f) free;
+            right = peer-comes p e f;
+          })
+
+  -- ---- its places
+
+  known-enrolled : (id : ℕ) → is_some (what_of t id) ≡ is_any (is_here host) (sight_with sights id)
+  known-enrolled id = sym (found-some (what_of t id) id) ∙ knows.same.enrolled id
+
+  old-met : AreMet t.meetings sights host
+  old-met = known-met t sights host s once knows
+
+  enrolled-after : (es : List (ℕ × R)) → is_some (value_at nat_cmp es (k + 1)) ≡ is_here host next
+      → ((id : ℕ) → (id ≡ k + 1 → ⊥) → value_at nat_cmp es id ≡ value_at nat_cmp t.enrolled id)
+      → (id : ℕ) → is_some (value_at nat_cmp es id) ≡ is_any (is_here host) (sight_with after id)
+  enrolled-after es own others id = elim (cases_eq id (k + 1)) [
+    | inl same ↦
+        ap (λ (i : ℕ). is_some (value_at nat_cmp es i)) same
+        ∙ (own ∙ sym (ap (λ (i : ℕ). is_any (is_here host) (sight_with after i)) same ∙ ap (is_any (is_here host)) (with-place after k ∙ here)))
+    | inr apart ↦
+        ap is_some (others id apart) ∙ (known-enrolled id ∙ sym (ap (is_any (is_here host)) (with-set sights k next id apart)))
+  ]
+
+  met-after : (met : List (ℕ × Addr)) → met_by met (k + 1) ≡ met_at host (Some next)
+      → ((id : ℕ) → (id ≡ k + 1 → ⊥) → met_by met id ≡ met_by t.meetings id)
+      → (id : ℕ) → met_by met id ≡ met_at host (sight_with after id)
+  met-after met own others id = elim (cases_eq id (k + 1)) [
+    | inl same ↦
+        ap (met_by met) same ∙ (own ∙ sym (ap (λ (i : ℕ). met_at host (sight_with after i)) same ∙ ap (met_at host) (with-place after k ∙ here)))
+    | inr apart ↦ others id apart ∙ (old-met.seen id ∙ sym (ap (met_at host) (with-set sights k next id apart)))
+  ]
+
+  own-met : met_by t.meetings (k + 1) ≡ met_at host (Some s)
+  own-met = old-met.seen (k + 1) ∙ ap (met_at host) (with-place sights k ∙ there)
+
+  -- what a table has to have
+  record HasPlaces (es : List (ℕ × R)) (listener : Option ℕ) (met : List (ℕ × Addr)) : Type 0 where
+    rises : IsRising nat_cmp es
+    enrolled : (id : ℕ) → is_some (value_at nat_cmp es id) ≡ is_any (is_here host) (sight_with after id)
+    few_enrolled : length es ≤ length t.enrolled
+    listens_is : listener ≡ first_with (listens host) after
+    are_met : AreMet met after host
+    few_met : length met ≤ sum_by (λ (x : Sight C). one_if (is_some x.met)) after
+
+  has-knows : (adopted : List (ℕ × Pair)) (es : List (ℕ × R)) (listener : Option ℕ) (met : List (ℕ × Addr)) → AreAdopted adopted
+      → HasPlaces es listener met
+      → Knows (record { ids = t.ids; live = t.live; enrolled = es; adoptions = adopted; listener = listener; meetings = met }) after host
+  has-knows adopted es listener met right has = record {
+    same = record {
+      enrolled = λ id. found-some (value_at nat_cmp es id) id ∙ has.enrolled id;
+      adopter = right.same;
+      listener = has.listens_is;
+      meeter = met-meeter met after host s kept has.are_met;
+    };
+    adopted_once = right.alone;
+    met_once = met-once met after host s kept has.are_met;
+    enrolled_rise = has.rises;
+    meetings_rise = has.are_met.rises;
+    ids = knows.ids;
+    live = knows.live;
+    enrolled = omega (arith, has.few_enrolled, knows.enrolled, length-set sights k next);
+    adoptions = right.count;
+    meetings = has.few_met;
+  }
+
+  -- a closed socket gives up its places
+  closed-places : is_closed next.state.phase ≡ true
+      → HasPlaces (remove_entry (is_at (nat_cmp (k + 1))) t.enrolled) (listener_without t.listener (k + 1))
+      (remove_entry (is_at (nat_cmp (k + 1))) t.meetings)
+  closed-places closed = ?
+
+  -- and another one holds what it began to hold
+  open-places : (adopted : List (ℕ × Pair)) → AreAdopted adopted → is_closed next.state.phase ≡ false
+      → Knows (with_met (with_listener (record t { adoptions = adopted }) (k + 1) next.listened) (k + 1) next.met) after host
+  open-places adopted right live = ?
+
+  told-places : (adopted : List (ℕ × Pair)) → AreAdopted adopted → (closed : Bool) → is_closed next.state.phase ≡ closed
+      → Knows (if closed then without (record t { adoptions = adopted }) (k + 1)
+      else with_met (with_listener (record t { adoptions = adopted }) (k + 1) next.listened) (k + 1) next.met) after host
+  told-places adopted right true is = has-knows adopted _ _ _ right (closed-places is)
+  told-places adopted right false is = open-places adopted right is
+
+  -- the table knows what is seen then
+  pub told-knows : Knows (with_told t (k + 1) next) after host
+  told-knows =
+      subst (λ (u : Table R). Knows (with_places u (k + 1) next) after host) (sym tells-pair.is)
+      (told-places tells-pair.adopted tells-pair.right (is_closed next.state.phase) refl)
