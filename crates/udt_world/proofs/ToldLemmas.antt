@@ -8,6 +8,7 @@ use Rattle.std.specs.Cmp.{eq_by_cmp_equiv, nat_cmp_total}
 use Rattle.std.specs.Map.{lookup, keys_of, remove_entry}
 use Rattle.std.specs.BTreeMap.{is_at, insert_entry}
 use Rattle.std.proofs.lemmas.Bool.{and_parts, cases_eq, ne_eqb}
+use Rattle.std.proofs.lemmas.Bool.Decides.{Decides-ltb}
 use Rattle.std.proofs.lemmas.List.{length-set, length-append}
 use Rattle.std.proofs.lemmas.Map.{lookup-none}
 use Rattle.std.proofs.lemmas.Map.Entries.{none_past_head}
@@ -28,7 +29,7 @@ use Rattle.udt_routes.specs.Tables.{Table, what_of, listener_without, without}
 use Rattle.udt_world.specs.declared.hosts.TheConstants.{MOST_ENROLLED}
 use Rattle.udt_world.specs.Views.{Sight}
 use Rattle.udt_world.specs.Wiring.{AreSame, Knows, adopts, first_with, is_any, is_here, listens, meets, one_if, pair_in, peer_in, seen_at, sight_with, with_listener, with_met, with_pair, with_places, with_told}
-use Rattle.udt_world.proofs.FirstLemmas.{Only, Fails, first-found, first-fails, none-first, only-first, first-set, with-place, with-set, sum-set, sum-below}
+use Rattle.udt_world.proofs.FirstLemmas.{Only, Fails, first-found, first-fails, none-first, only-first, first-set, with-place, with-set, replaced-cases, sum-set, sum-below}
 use Rattle.udt_world.proofs.FollowLemmas.{AreOnce, Follows, MayFollow, both, met-is, is-met, pair-is, is-pair, here-parts, is-here, open-before, once-kept}
 use Rattle.udt_world.proofs.KeyLemmas.{same_id, is_same_id, other_id, rising_removed, rising_inserted, value_removed, value_inserted, length_removed, length_inserted}
 
@@ -268,6 +269,12 @@ module _ {R : Type 0} where
       → with_pair t id (Some p) ≡ record t { adoptions = t.adoptions ++ (id, p) ∷ [] }
   pair-new t id p none free = rw (none, free) refl
 
+  listener-has : (t : Table R) (id by : ℕ) → t.listener ≡ Some by → with_listener t id true ≡ t
+  listener-has t id by has = rw has refl
+
+  listener-new : (t : Table R) (id : ℕ) → t.listener ≡ None → with_listener t id true ≡ record t { listener = Some id }
+  listener-new t id none = rw none refl
+
   met-taken : (t : Table R) (id by : ℕ) (to : Addr) → meeter_of t.meetings to ≡ Some by → with_met t id (Some to) ≡ t
   met-taken t id by to taken = rw taken refl
 
@@ -457,21 +464,191 @@ module _ {C R : Type 0} (t : Table R) (sights : List (Sight C)) (host : Addr) (k
   }
 
   -- a closed socket gives up its places
+  here-gone : is_closed next.state.phase ≡ true → is_here host next ≡ false
+  here-gone closed = ap (λ (b : Bool). same_addr next.host host && not b) closed ∙ and-false (same_addr next.host host)
+
+  met-grows : met_counts s ≤ met_counts next
+  met-grows = by s.met refl
+    where
+      by : (o : Option Addr) → s.met ≡ o → one_if (is_some s.met) ≤ one_if (is_some next.met)
+      by None e = rw e (omega arith)
+      by (Some to) e = rw (e, follows.met to e) (omega arith)
+
+  listener-gone : is_closed next.state.phase ≡ true → listener_without t.listener (k + 1) ≡ first_with (listens host) after
+  listener-gone closed = ap (λ (o : Option ℕ). listener_without o (k + 1)) knows.same.listener ∙ by (listens host s) refl
+    where
+      gone : listens host next ≡ false
+      gone = ap (λ (b : Bool). b && next.listened) (here-gone closed)
+
+      others : listens host s ≡ false → (o : Option ℕ) → first_with (listens host) sights ≡ o → listener_without o (k + 1) ≡ o
+      others e None f = refl
+      others e (Some id) f =
+          let found = first-found (listens host) sights id s f in
+          rw (ne_eqb id (k + 1) (λ same.
+          let place : found.0 ≡ k = omega (arith, found.2, same) in
+          let is : found.1 ≡ s = found-once sights k found.1 s (ap (slice_get sights) (sym place) ∙ found.3) there in
+          let passes : listens host s ≡ true = ap (listens host) (sym is) ∙ found.4 in
+          cc)) refl
+
+      none : listens host s ≡ true → Fails (listens host) after
+      none e i x at = fails (listens host x) refl
+        where
+          fails : (b : Bool) → listens host x ≡ b → b ≡ false
+          fails false f = refl
+          fails true f =
+              absurd (replaced-cases sights k s next there i x at
+              (λ _ is. let passes = ap (listens host) (sym is) ∙ f in cc)
+              (λ apart before. apart (once.listener host i k x s before there f e)))
+
+      by : (b : Bool) → listens host s ≡ b
+          → listener_without (first_with (listens host) sights) (k + 1) ≡ first_with (listens host) after
+      by false e = others e (first_with (listens host) sights) refl ∙ sym (first-set (listens host) sights k s next there (gone ∙ sym e))
+      by true e =
+          ap (λ (o : Option ℕ). listener_without o (k + 1)) (only-first (listens host) sights k s there e (once.listener host))
+          ∙ (ap (λ (b : Bool). if b then None else Some (k + 1)) (eq-eqb (k + 1) (k + 1) refl)
+          ∙ sym (none-first (listens host) after next (none e)))
+
   closed-places : is_closed next.state.phase ≡ true
       → HasPlaces (remove_entry (is_at (nat_cmp (k + 1))) t.enrolled) (listener_without t.listener (k + 1))
       (remove_entry (is_at (nat_cmp (k + 1))) t.meetings)
-  closed-places closed = ?
+  closed-places closed = record {
+    rises = rising_removed (k + 1) t.enrolled knows.enrolled_rise;
+    enrolled = enrolled-after (remove_entry (is_at (nat_cmp (k + 1))) t.enrolled)
+        (ap is_some (value_removed (k + 1) t.enrolled knows.enrolled_rise (k + 1)
+        ∙ ap (λ (b : Bool). cond b None (value_at nat_cmp t.enrolled (k + 1))) (is_same_id (k + 1))) ∙ sym (here-gone closed))
+        (λ id apart. value_removed (k + 1) t.enrolled knows.enrolled_rise id
+        ∙ ap (λ (b : Bool). cond b None (value_at nat_cmp t.enrolled id)) (other_id (k + 1) id (λ same. apart (sym same))));
+    few_enrolled = length_removed (is_at (nat_cmp (k + 1))) t.enrolled;
+    listens_is = listener-gone closed;
+    are_met = record {
+      rises = rising_removed (k + 1) t.meetings knows.meetings_rise;
+      seen = met-after (remove_entry (is_at (nat_cmp (k + 1))) t.meetings)
+          (value_removed (k + 1) t.meetings knows.meetings_rise (k + 1)
+          ∙ (ap (λ (b : Bool). cond b None (met_by t.meetings (k + 1))) (is_same_id (k + 1))
+          ∙ sym (ap (λ (b : Bool). cond b next.met None) (here-gone closed))))
+          (λ id apart. value_removed (k + 1) t.meetings knows.meetings_rise id
+          ∙ ap (λ (b : Bool). cond b None (met_by t.meetings id)) (other_id (k + 1) id (λ same. apart (sym same))));
+    };
+    few_met =
+        omega (arith, length_removed (is_at (nat_cmp (k + 1))) t.meetings, knows.meetings, sum-set met_counts sights k s next there, met-grows);
+  }
 
   -- and another one holds what it began to hold
-  open-places : (adopted : List (ℕ × Pair)) → AreAdopted adopted → is_closed next.state.phase ≡ false
-      → Knows (with_met (with_listener (record t { adoptions = adopted }) (k + 1) next.listened) (k + 1) next.met) after host
-  open-places adopted right live = ?
+  module _ (live : is_closed next.state.phase ≡ false) where
+    here-now : is_here host next ≡ true
+    here-now = is-here host next now_stands live
+
+    here-then : is_here host s ≡ true
+    here-then = is-here host s stands (open-before sights k s next there once follows may live)
+
+    open-has : (met : List (ℕ × Addr)) → AreMet met after host → length met ≤ sum_by (λ (x : Sight C). one_if (is_some x.met)) after
+        → HasPlaces t.enrolled (first_with (listens host) after) met
+    open-has met are few_met = record {
+      rises = knows.enrolled_rise;
+      enrolled = enrolled-after t.enrolled
+          (known-enrolled (k + 1) ∙ (ap (is_any (is_here host)) (with-place sights k ∙ there) ∙ (here-then ∙ sym here-now)))
+          (λ id apart. refl);
+      few_enrolled = omega arith;
+      listens_is = refl;
+      are_met = are;
+      few_met = few_met;
+    }
+
+    listener-after : (adopted : List (ℕ × Pair)) → with_listener (record t { adoptions = adopted }) (k + 1) next.listened
+        ≡ record t { adoptions = adopted; listener = first_with (listens host) after }
+    listener-after adopted = by next.listened refl s.listened refl
+      where
+        stays : listens host next ≡ listens host s
+            → record t { adoptions = adopted } ≡ record t { adoptions = adopted; listener = first_with (listens host) after }
+        stays alike =
+            ap (λ (o : Option ℕ). record t { adoptions = adopted; listener = o })
+            (knows.same.listener ∙ sym (first-set (listens host) sights k s next there alike))
+
+        by : (b : Bool) → next.listened ≡ b → (c : Bool) → s.listened ≡ c → with_listener (record t { adoptions = adopted }) (k + 1) next.listened
+            ≡ record t { adoptions = adopted; listener = first_with (listens host) after }
+        by false e true f = let still = follows.listened f in absurd (cc)
+        by false e false f =
+            rw e (stays (ap (λ (b : Bool). is_here host next && b) e ∙ (and-false (is_here host next)
+            ∙ sym (ap (λ (b : Bool). is_here host s && b) f ∙ and-false (is_here host s)))))
+        by true e true f =
+            let has : t.listener ≡ Some (k + 1) =
+            knows.same.listener ∙ only-first (listens host) sights k s there (both _ _ here-then f) (once.listener host) in
+            ap (λ (b : Bool). with_listener (record t { adoptions = adopted }) (k + 1) b) e
+            ∙ (listener-has (record t { adoptions = adopted }) (k + 1) (k + 1) has
+            ∙ stays (both _ _ here-now e ∙ sym (both _ _ here-then f)))
+        by true e false f =
+            let none : t.listener ≡ None =
+            knows.same.listener ∙ subst (λ (h : Addr). first_with (listens h) sights ≡ None) stands (may.listener f e) in
+            ap (λ (b : Bool). with_listener (record t { adoptions = adopted }) (k + 1) b) e
+            ∙ (listener-new (record t { adoptions = adopted }) (k + 1) none
+            ∙ ap (λ (o : Option ℕ). record t { adoptions = adopted; listener = o })
+            (sym (only-first (listens host) after k next here (both _ _ here-now e) (kept.listener host))))
+
+    met-stays : next.met ≡ s.met → AreMet t.meetings after host
+    met-stays same = record {
+      rises = knows.meetings_rise;
+      seen = met-after t.meetings
+          (own-met ∙ (ap (λ (b : Bool). cond b s.met None) here-then
+          ∙ (sym same ∙ sym (ap (λ (b : Bool). cond b next.met None) here-now))))
+          (λ id apart. refl);
+    }
+
+    few-stay : length t.meetings ≤ sum_by (λ (x : Sight C). one_if (is_some x.met)) after
+    few-stay = omega (arith, knows.meetings, sum-set met_counts sights k s next there, met-grows)
+
+    met-comes : (to : Addr) → next.met ≡ Some to → s.met ≡ None → met_by t.meetings (k + 1) ≡ None
+        → AreMet (insert_entry nat_cmp t.meetings (k + 1) to) after host
+    met-comes to e f none = record {
+      rises = rising_inserted (k + 1) to t.meetings knows.meetings_rise;
+      seen = met-after (insert_entry nat_cmp t.meetings (k + 1) to)
+          (value_inserted (k + 1) to t.meetings none (k + 1)
+          ∙ (ap (λ (b : Bool). cond b (Some to) (met_by t.meetings (k + 1))) (is_same_id (k + 1))
+          ∙ (sym e ∙ sym (ap (λ (b : Bool). cond b next.met None) here-now))))
+          (λ id apart. value_inserted (k + 1) to t.meetings none id
+          ∙ ap (λ (b : Bool). cond b (Some to) (met_by t.meetings id)) (other_id id (k + 1) apart));
+    }
+
+    open-places : (adopted : List (ℕ × Pair)) → AreAdopted adopted
+        → Knows (with_met (with_listener (record t { adoptions = adopted }) (k + 1) next.listened) (k + 1) next.met) after host
+    open-places adopted right =
+        subst (λ (u : Table R). Knows (with_met u (k + 1) next.met) after host) (sym (listener-after adopted)) (by next.met refl s.met refl)
+      where
+        abbrev base : Table R
+        base = record t { adoptions = adopted; listener = first_with (listens host) after }
+
+        by : (o : Option Addr) → next.met ≡ o → (r : Option Addr) → s.met ≡ r → Knows (with_met base (k + 1) next.met) after host
+        by None e (Some q) f = let still = follows.met q f in absurd (cc)
+        by None e None f =
+            subst (λ (o : Option Addr). Knows (with_met base (k + 1) o) after host) (sym e)
+            (has-knows adopted t.enrolled _ t.meetings right (open-has t.meetings (met-stays (e ∙ sym f)) few-stay))
+        by (Some to) e (Some q) f =
+            let still = follows.met q f in
+            let same : s.met ≡ Some to = f ∙ (sym still ∙ e) in
+            let taken : meeter_of t.meetings to ≡ Some (k + 1) =
+            knows.same.meeter to
+            ∙ only-first (meets host to) sights k s there (both _ _ here-then (is-met to s.met same)) (once.meeter host to) in
+            subst (λ (o : Option Addr). Knows (with_met base (k + 1) o) after host) (sym e)
+            (subst (λ (u : Table R). Knows u after host) (sym (met-taken base (k + 1) (k + 1) to taken))
+            (has-knows adopted t.enrolled _ t.meetings right (open-has t.meetings (met-stays (e ∙ sym same)) few-stay)))
+        by (Some to) e None f =
+            let free : meeter_of t.meetings to ≡ None =
+            knows.same.meeter to ∙ subst (λ (h : Addr). first_with (meets h to) sights ≡ None) stands (may.meeter to f e) in
+            let none : met_by t.meetings (k + 1) ≡ None =
+            own-met ∙ (ap (λ (o : Option Addr). cond (is_here host s) o None) f ∙ none-either (is_here host s)) in
+            let below : sum_by (λ (x : Sight C). one_if (is_some x.met)) sights < length sights =
+            sum-below met_counts sights k s (λ x. one-small (is_some x.met)) there (ap (λ (o : Option Addr). one_if (is_some o)) f) in
+            let room : nat_lt (length t.meetings) t.live ≡ true =
+            (Decides-ltb (length t.meetings) t.live).1 (omega (arith, below, knows.meetings, knows.live, few)) in
+            subst (λ (o : Option Addr). Knows (with_met base (k + 1) o) after host) (sym e)
+            (subst (λ (u : Table R). Knows u after host) (sym (met-new base (k + 1) to free none room))
+            (has-knows adopted t.enrolled _ _ right (open-has _ (met-comes to e f none)
+            (omega (arith, length_inserted (k + 1) to t.meetings, knows.meetings, sum-set met_counts sights k s next there, ap (λ (o : Option Addr). one_if (is_some o)) e, ap (λ (o : Option Addr). one_if (is_some o)) f)))))
 
   told-places : (adopted : List (ℕ × Pair)) → AreAdopted adopted → (closed : Bool) → is_closed next.state.phase ≡ closed
       → Knows (if closed then without (record t { adoptions = adopted }) (k + 1)
       else with_met (with_listener (record t { adoptions = adopted }) (k + 1) next.listened) (k + 1) next.met) after host
   told-places adopted right true is = has-knows adopted _ _ _ right (closed-places is)
-  told-places adopted right false is = open-places adopted right is
+  told-places adopted right false is = open-places is adopted right
 
   -- the table knows what is seen then
   pub told-knows : Knows (with_told t (k + 1) next) after host
