@@ -497,7 +497,7 @@ module _ {C R : Type 0} (t : Table R) (sights : List (Sight C)) (host : Addr) (k
           fails false f = refl
           fails true f =
               absurd (replaced-cases sights k s next there i x at
-              (λ _ is. let passes = ap (listens host) (sym is) ∙ f in cc)
+              (λ _ is. let passes = ap (listens host) (sym is) ∙ f in let fails = gone in cc)
               (λ apart before. apart (once.listener host i k x s before there f e)))
 
       by : (b : Bool) → listens host s ≡ b
@@ -568,8 +568,9 @@ module _ {C R : Type 0} (t : Table R) (sights : List (Sight C)) (host : Addr) (k
             ≡ record t { adoptions = adopted; listener = first_with (listens host) after }
         by false e true f = let still = follows.listened f in absurd (cc)
         by false e false f =
-            rw e (stays (ap (λ (b : Bool). is_here host next && b) e ∙ (and-false (is_here host next)
-            ∙ sym (ap (λ (b : Bool). is_here host s && b) f ∙ and-false (is_here host s)))))
+            ap (λ (b : Bool). with_listener (record t { adoptions = adopted }) (k + 1) b) e
+            ∙ stays (ap (λ (b : Bool). is_here host next && b) e ∙ (and-false (is_here host next)
+            ∙ sym (ap (λ (b : Bool). is_here host s && b) f ∙ and-false (is_here host s))))
         by true e true f =
             let has : t.listener ≡ Some (k + 1) =
             knows.same.listener ∙ only-first (listens host) sights k s there (both _ _ here-then f) (once.listener host) in
@@ -608,18 +609,18 @@ module _ {C R : Type 0} (t : Table R) (sights : List (Sight C)) (host : Addr) (k
           ∙ ap (λ (b : Bool). cond b (Some to) (met_by t.meetings id)) (other_id id (k + 1) apart));
     }
 
+    abbrev settled : List (ℕ × Pair) → Table R
+    settled adopted = record t { adoptions = adopted; listener = first_with (listens host) after }
+
     open-places : (adopted : List (ℕ × Pair)) → AreAdopted adopted
         → Knows (with_met (with_listener (record t { adoptions = adopted }) (k + 1) next.listened) (k + 1) next.met) after host
     open-places adopted right =
         subst (λ (u : Table R). Knows (with_met u (k + 1) next.met) after host) (sym (listener-after adopted)) (by next.met refl s.met refl)
       where
-        abbrev base : Table R
-        base = record t { adoptions = adopted; listener = first_with (listens host) after }
-
-        by : (o : Option Addr) → next.met ≡ o → (r : Option Addr) → s.met ≡ r → Knows (with_met base (k + 1) next.met) after host
+        by : (o : Option Addr) → next.met ≡ o → (r : Option Addr) → s.met ≡ r → Knows (with_met (settled adopted) (k + 1) next.met) after host
         by None e (Some q) f = let still = follows.met q f in absurd (cc)
         by None e None f =
-            subst (λ (o : Option Addr). Knows (with_met base (k + 1) o) after host) (sym e)
+            subst (λ (o : Option Addr). Knows (with_met (settled adopted) (k + 1) o) after host) (sym e)
             (has-knows adopted t.enrolled _ t.meetings right (open-has t.meetings (met-stays (e ∙ sym f)) few-stay))
         by (Some to) e (Some q) f =
             let still = follows.met q f in
@@ -627,8 +628,8 @@ module _ {C R : Type 0} (t : Table R) (sights : List (Sight C)) (host : Addr) (k
             let taken : meeter_of t.meetings to ≡ Some (k + 1) =
             knows.same.meeter to
             ∙ only-first (meets host to) sights k s there (both _ _ here-then (is-met to s.met same)) (once.meeter host to) in
-            subst (λ (o : Option Addr). Knows (with_met base (k + 1) o) after host) (sym e)
-            (subst (λ (u : Table R). Knows u after host) (sym (met-taken base (k + 1) (k + 1) to taken))
+            subst (λ (o : Option Addr). Knows (with_met (settled adopted) (k + 1) o) after host) (sym e)
+            (subst (λ (u : Table R). Knows u after host) (sym (met-taken (settled adopted) (k + 1) (k + 1) to taken))
             (has-knows adopted t.enrolled _ t.meetings right (open-has t.meetings (met-stays (e ∙ sym same)) few-stay)))
         by (Some to) e None f =
             let free : meeter_of t.meetings to ≡ None =
@@ -639,8 +640,8 @@ module _ {C R : Type 0} (t : Table R) (sights : List (Sight C)) (host : Addr) (k
             sum-below met_counts sights k s (λ x. one-small (is_some x.met)) there (ap (λ (o : Option Addr). one_if (is_some o)) f) in
             let room : nat_lt (length t.meetings) t.live ≡ true =
             (Decides-ltb (length t.meetings) t.live).1 (omega (arith, below, knows.meetings, knows.live, few)) in
-            subst (λ (o : Option Addr). Knows (with_met base (k + 1) o) after host) (sym e)
-            (subst (λ (u : Table R). Knows u after host) (sym (met-new base (k + 1) to free none room))
+            subst (λ (o : Option Addr). Knows (with_met (settled adopted) (k + 1) o) after host) (sym e)
+            (subst (λ (u : Table R). Knows u after host) (sym (met-new (settled adopted) (k + 1) to free none room))
             (has-knows adopted t.enrolled _ _ right (open-has _ (met-comes to e f none)
             (omega (arith, length_inserted (k + 1) to t.meetings, knows.meetings, sum-set met_counts sights k s next there, ap (λ (o : Option Addr). one_if (is_some o)) e, ap (λ (o : Option Addr). one_if (is_some o)) f)))))
 
