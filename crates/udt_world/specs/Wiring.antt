@@ -1,5 +1,5 @@
 -- What the endpoints of a script know of its sockets, and where the sockets of a name stand.
-use Rattle.std.specs.Prelude.{◌≡◌, ℕ, ◌+◌, ◌-◌, ◌≤◌, ◌<◌, ◌==◌, Bool, false, not, ◌&&◌, List, [], ◌∷◌, ◌++◌, length, map, Option, Some, None, slice_get, position, is_some, option_map, sum_by, vec_len, if◌then◌else◌}
+use Rattle.std.specs.Prelude.{◌≡◌, ℕ, ◌+◌, ◌-◌, ◌≤◌, ◌<◌, ◌==◌, Bool, false, not, ◌&&◌, List, [], ◌∷◌, ◌++◌, length, map, Option, Some, None, slice_get, position, is_some, option_map, sum_by, vec_len, decimal, ◌⊎◌, if◌then◌else◌}
 use Rattle.std.specs.List.{Contains}
 use Rattle.std.specs.Map.{lookup}
 use Rattle.std.specs.Ordering.{nat_cmp}
@@ -17,7 +17,7 @@ use Rattle.udt_model.specs.Records.{PeerPair, peer_by}
 use Rattle.udt_model.specs.Routes.{Known, handshake_in}
 use Rattle.udt_model.specs.State.{State}
 use Rattle.udt_model.specs.Wire.{read}
-use Rattle.udt_model.specs.Words.{is_word}
+use Rattle.udt_model.specs.Words.{is_name, is_word}
 use Rattle.udt_routes.specs.Meets.{IsMetOnce, can_meet}
 use Rattle.udt_routes.specs.Pairs.{Pair, adopter_of, pair_of, IsAdoptedOnce}
 use Rattle.udt_routes.specs.Routing.{found_in, known_by}
@@ -45,6 +45,10 @@ pair_in (Some peer) = Some (peer.addr, peer.id)
 
 abbrev pub one_if : Bool → ℕ
 one_if so = if so then 1 else 0
+
+-- the name of the socket at a place: its ID, or one that a line gave it
+abbrev pub IsGiven : ℕ → List ℕ → Type 0
+IsGiven place name = (name ≡ decimal (place + 1)) ⊎ (is_name name ≡ Bool.true)
 
 -- the connections that wait at a listener to be accepted
 abbrev pub waiting_at : Phase → List ℕ
@@ -187,6 +191,10 @@ module _ {C : Type 0} where
         → Knows e.routes (sights_of network) e.addr
     -- each socket stands under its name
     pub names : (name : List ℕ) → place_under network name ≡ place_seen (sights_of network) name
+    -- and no other one has that name
+    pub called : (place : ℕ) (s : Sight C) → slice_get (sights_of network) place ≡ Some s
+        → place_seen (sights_of network) s.name ≡ Some place
+    pub given : (place : ℕ) (s : Sight C) → slice_get (sights_of network) place ≡ Some s → IsGiven place s.name
     -- its ID is the number after its place
     pub owns : (place : ℕ) (s : Sight C) → slice_get (sights_of network) place ≡ Some s → s.state.own ≡ place + 1
     -- what waits at a listener are sockets
@@ -216,6 +224,7 @@ module _ {C : Type 0} where
     pub stands : HasAddress network.endpoints.items socket.endpoint socket.host
     pub own : socket.socket.own ≡ vec_len network.sockets + 1
     pub name : place_seen (sights_of network) socket.name.items ≡ None
+    pub given : IsGiven (vec_len network.sockets) socket.name.items
     pub live : is_closed socket.socket.phase ≡ Bool.false
     pub waits : waiting_at socket.socket.phase ≡ []
     pub listened : socket.listened ≡ Bool.false
