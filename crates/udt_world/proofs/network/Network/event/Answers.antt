@@ -1,5 +1,3 @@
-use Rattle.std.proofs.Common.{arith}
-use Rattle.udt_model.specs.Rate.{Ways}
 use Rattle.udt_world.specs.Views.{act_in}
 use Rattle.udt_world.proofs.WiredLemmas.{event-endpoint, event-room, entered-wired, entered-stands}
 use Rattle.udt_world.proofs.network.Network.event.Goals as goal
