@@ -13,3 +13,6 @@ pub mod TranscriptLemmas
 pub mod WorldLemmas
 pub mod CountedLemmas
 pub mod RunLemmas
+pub mod FirstLemmas
+pub mod NameLemmas
+pub mod RisingLemmas
