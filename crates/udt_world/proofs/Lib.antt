@@ -1,5 +1,11 @@
 pub mod EventLemmas
 pub mod ActLemmas
+pub mod FirstLemmas
+pub mod KeyLemmas
+pub mod FollowLemmas
+pub mod ToldLemmas
+pub mod MovedLemmas
+pub mod WiredLemmas
 pub mod PlaceLemmas
 pub mod ClosedLemmas
 pub mod HostLemmas
@@ -13,6 +19,6 @@ pub mod TranscriptLemmas
 pub mod WorldLemmas
 pub mod CountedLemmas
 pub mod RunLemmas
-pub mod FirstLemmas
 pub mod NameLemmas
 pub mod RisingLemmas
+pub mod PushLemmas
