@@ -20,5 +20,4 @@ pub mod WorldLemmas
 pub mod CountedLemmas
 pub mod RunLemmas
 pub mod NameLemmas
-pub mod RisingLemmas
 pub mod PushLemmas

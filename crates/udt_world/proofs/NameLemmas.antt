@@ -44,7 +44,7 @@ kept_after old new word value updates name = by (is_word word name) refl
   where
     by : (b : Bool) → is_word word name ≡ b → lookup (is_named name) new.entries ≡ cond b value (lookup (is_named name) old.entries)
     by true is =
-        rw (sym (same_word word name is)) (sym (kept_under word new.entries) ∙ updates.2)
+        rw (sym (same_word word name is)) (sym (kept_under word new.entries) ∙ updates.1)
     by false other =
         updates.3 (is_named name)
         (λ x y same. is_word-turned y.items name ∙ (rw (sym (same_word x.items name same)) (sym (is_eq-slice_cmp x.items y.items))))
