@@ -21,3 +21,4 @@ pub mod CountedLemmas
 pub mod RunLemmas
 pub mod NameLemmas
 pub mod PushLemmas
+pub mod EmptyLemmas
