@@ -22,3 +22,4 @@ pub mod RunLemmas
 pub mod NameLemmas
 pub mod PushLemmas
 pub mod EmptyLemmas
+pub mod AddedLemmas
