@@ -20,3 +20,7 @@ pub mod TranscriptLemmas
 pub mod WorldLemmas
 pub mod CountedLemmas
 pub mod RunLemmas
+pub mod NameLemmas
+pub mod PushLemmas
+pub mod EmptyLemmas
+pub mod AddedLemmas
