@@ -10,3 +10,5 @@ pub mod StandsThere
 pub mod HostReached
 pub mod EventPeer
 pub mod KeptPeers
+pub mod LineRanges
+pub mod KeptByLines
