@@ -12,3 +12,4 @@ pub mod EventPeer
 pub mod KeptPeers
 pub mod LineRanges
 pub mod KeptByLines
+pub mod ScriptNetworks
