@@ -13,3 +13,4 @@ pub mod KeptPeers
 pub mod LineRanges
 pub mod KeptByLines
 pub mod ScriptNetworks
+pub mod MadeSockets

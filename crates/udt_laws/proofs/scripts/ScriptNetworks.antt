@@ -41,6 +41,10 @@ named_addresses hosts = map (λ (host : ScriptHost). host.addr) hosts
 abbrev pub addresses : List ScriptHost → List Addr
 addresses hosts = (first_host ∷ second_host ∷ []) ++ named_addresses hosts
 
+-- ways stay as they are, and others may follow
+abbrev pub WaysGrow : List Way → List Way → Type 0
+WaysGrow ways more = (k : ℕ) (way : Way) → slice_get ways k ≡ Some way → slice_get more k ≡ Some way
+
 module _ {C : Type 0} where
   -- a listener at this host, of this kind, has promised a place to a request of this peer
   pub record WasRequested (sockets : List (ScriptSocket C)) (host : Addr) (config : Config) (peer : Peer) : Type 0 where
@@ -87,9 +91,6 @@ module _ {C : Type 0} where
 
   abbrev pub Grow : List (ScriptSocket C) → List (ScriptSocket C) → Type 0
   Grow sockets more = Each sockets (StillThere more)
-
-  abbrev pub WaysGrow : List Way → List Way → Type 0
-  WaysGrow ways more = (k : ℕ) (way : Way) → slice_get ways k ≡ Some way → slice_get more k ≡ Some way
 
   requested-still : (sockets more : List (ScriptSocket C)) (host : Addr) (config : Config) (peer : Peer) → Grow sockets more
       → WasRequested sockets host config peer → WasRequested more host config peer
