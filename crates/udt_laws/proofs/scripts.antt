@@ -14,3 +14,4 @@ pub mod LineRanges
 pub mod KeptByLines
 pub mod ScriptNetworks
 pub mod MadeSockets
+pub mod KeepsNetwork

@@ -70,15 +70,15 @@ same-shake result stamp dest other_stamp other_dest shake other one two = same_S
 
 -- ---- listeners
 
-way-can_open : (own : ℕ) (way : Way) → IsWay own way → CanOpen (config_by way)
-way-can_open own (Opened isn config now) is = is.values
-way-can_open own (Paired config peer now) is = is.values.config_fits
-way-can_open own (PairedAt config peer now start) is = is.values.config_fits
-
 no-peer : (from : Origin) (peer : Peer) → from ≡ origin.Nobody → (pair : PeerPair) → peer_by from peer ≡ Some pair → ⊥
 no-peer from peer is pair names = cc
 
 module _ {C : Type 0} (w : Ways C) where
+  way-can_open : (own : ℕ) (way : Way) → IsWay own way → CanOpen (config_by w way)
+  way-can_open own (Opened isn config now) is = is.values
+  way-can_open own (Paired config peer now) is = is.values.config_fits
+  way-can_open own (PairedAt config peer now start) is = is.values.config_fits
+
   unlinked-can_open : (config : Config) (start : ℕ) (s : State C) → CanOpen config → IsUnlinked w config start s → CanOpen (config_of s)
   unlinked-can_open config start s values unlinked = record {
     payload = subst (λ (x : Sending C). 1 ≤ x.blocks.room) (sym unlinked.sending) values.payload;
@@ -110,10 +110,10 @@ module _ {C : Type 0} (w : Ways C) where
     unfolding step
     promised-so = request-promised w (at_moment listener now) from bytes (read bytes) refl promises
 
-    listener-known : IsKnown w (config_by socket.way) (start_by socket.way) listener
+    listener-known : IsKnown w (config_by w socket.way) (start_by w socket.way) listener
     listener-known = known-after w socket.own socket.way socket.history.opening is.opened socket.history.items
 
-    is-unlinked : IsUnlinked w (config_by socket.way) (start_by socket.way) listener
+    is-unlinked : IsUnlinked w (config_by w socket.way) (start_by w socket.way) listener
     is-unlinked = elim listener-known.begins [
       | inl unlinked ↦ unlinked
       | inr settled ↦ absurd (not-settled listener.phase promised-so.backlog promised-so.listens settled)
@@ -138,7 +138,7 @@ module _ {C : Type 0} (w : Ways C) where
         let same = reads-handshake (read bytes) promised-so.stamp 0 promised-so.shake shake promised-so.reads reads in
         let so : read bytes ≡ Ok (Handshake promised-so.stamp 0 shake) =
         promised-so.reads ∙ ap (λ (x : Shake). Ok (Handshake promised-so.stamp 0 x)) same in
-        let values = unlinked-can_open (config_by socket.way) (start_by socket.way) listener (way-can_open socket.own socket.way is.in_range)
+        let values = unlinked-can_open (config_by w socket.way) (start_by w socket.way) listener (way-can_open socket.own socket.way is.in_range)
         is-unlinked in
         let packet = subst (λ (x : Shake). SIZE_OVER_PAYLOAD < x.packet) same
         (request-packet promised-so.backlog.listening promised-so.shake from _ _ promised-so.judges) in

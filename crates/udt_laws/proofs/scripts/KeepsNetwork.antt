@@ -1,0 +1,222 @@
+-- Whatever the lines of a script say, its network is one: each change keeps it.
+use Rattle.std.proofs.Common.{◌≡◌, ℕ, zero, suc, ◌+◌, ◌^◌, ◌<◌, ◌≤◌, true, false, Bool, Option, List, [], ◌∷◌, ◌++◌, length, Some, None, Ok, refl, ap, ◌∙◌, sym, subst, inl, inr, ◌⊎◌, arith}
+use Rattle.std.specs.Prelude.{slice_get, slice_set, map, ◌||◌, if◌then◌else◌}
+use Rattle.std.specs.List.{Contains}
+use Rattle.std.proofs.lemmas.Bool.{cases_eq, or_parts}
+use Rattle.std.proofs.lemmas.List.{append_assoc, length-append}
+use Rattle.std.proofs.lemmas.List.Elements.{Contains-append_left, Contains-append_right, Contains-push}
+use Rattle.std.proofs.lemmas.Option.{same_Some}
+use Rattle.udt_model.specs.declared.limits.TheConstants.{MOST_SOCKETS}
+use Rattle.udt_model.specs.declared.addresses.Addr.{Addr}
+use Rattle.udt_model.specs.declared.packets.Shake.{Shake}
+use Rattle.udt_model.specs.Addresses.{same_addr}
+use Rattle.udt_model.specs.Connections.{config_of}
+use Rattle.udt_model.specs.Events.{Act, Arrive, Event, event, DidHear, at_moment}
+use Rattle.udt_model.specs.Handshakes.{peer_in}
+use Rattle.udt_model.specs.History.{Item, History, state_of, happened, item_of, after_items, AreLegal}
+use Rattle.udt_model.specs.Lines.{Pairing, OpeningLine, is_arrival, AreEmitted}
+use Rattle.udt_model.specs.Network.{ScriptHost, ScriptSocket, ScriptDatagram, Network, empty_network, first_host, second_host, is_host, address_of_host, ToSocket, route}
+use Rattle.udt_model.specs.Opening.{opened, opening, CanOpen, CanPair}
+use Rattle.udt_model.specs.Rate.{Ways}
+use Rattle.udt_model.specs.Records.{Way, Opened, Paired, PairedAt, Enrolled, IsSocket, PeerPair, peer_by, own_peer}
+use Rattle.udt_model.specs.Routes.{handshake_in}
+use Rattle.udt_model.specs.Script.{pair_config, peer_of, open_config, paired_socket, with_host, with_socket, paired, event_at, made_for, network_after}
+use Rattle.udt_model.specs.State.{State}
+use Rattle.udt_model.specs.Step.{step}
+use Rattle.udt_model.specs.Wire.{Handshake, read}
+use Rattle.udt_model.specs.Words.{is_word}
+use Rattle.udt_model.proofs.HistoryLemmas.{IsLegal-happened, state_of-happened}
+use Rattle.udt_model.proofs.PeerLemmas.{has_peer, IsIntroduced}
+use Rattle.udt_model.proofs.StepLemmas.{after_items-keeps_name}
+use Rattle.udt_laws.specs.Scripts.{enrolled_at}
+use Rattle.udt_laws.proofs.scripts.EachSocket.{Each, each-one}
+use Rattle.udt_laws.proofs.scripts.EventPeer.{event-peer}
+use Rattle.udt_laws.proofs.scripts.KeptByLines.{arrival_of, opened_socket, IsMadeFor, Comes, GetsPlace, KeptByLines, event-here, event-elsewhere, event-count, lines-keep}
+use Rattle.udt_laws.proofs.scripts.KeptPeers.{HaveOwnPeers, MayTake, add-keeps_peers}
+use Rattle.udt_laws.proofs.scripts.LineRanges.{IsPairing, IsOpeningLine}
+use Rattle.udt_laws.proofs.scripts.MadeSockets.{Promised, is-promised}
+use Rattle.udt_laws.proofs.scripts.ReplacedOne.{set-same, append-first, append-second, append-found, found-once}
+use Rattle.udt_laws.proofs.scripts.ScriptNetworks.{IsFixed, IsPairedAt, named_addresses, addresses, WasRequested, HasMate, WasAsked, HasWay, IsNetwork, set-keeps, add-keeps, host-keeps, paired-peer, fixed-below}
+use Rattle.udt_laws.proofs.scripts.UnadoptedPair.{same-addr, unadopted}
+
+-- ---- addresses
+
+not-fixed : (hosts : List ScriptHost) (addr : Addr) → is_host hosts addr ≡ false → IsFixed addr → ⊥
+not-fixed hosts addr unknown (inl first) =
+    let test : same_addr addr first_host ≡ true = ap (same_addr addr) (sym first) ∙ same-addr addr in
+    let none = (or_parts _ _ (or_parts _ _ unknown).0).0 in
+    cc
+not-fixed hosts addr unknown (inr second) =
+    let test : same_addr addr second_host ≡ true = ap (same_addr addr) (sym second) ∙ same-addr addr in
+    let none = (or_parts _ _ (or_parts _ _ unknown).0).1 in
+    cc
+
+-- the address of a named host is among theirs
+named-among : (name : List ℕ) (hosts : List ScriptHost) (addr : Addr) → address_of_host name hosts ≡ Some addr
+    → Contains (named_addresses hosts) addr
+named-among name [] addr is = absurd (cc)
+named-among name (host ∷ hosts) addr is =
+    elim (is_word host.name name) as (λ same. (if same then Some host.addr else address_of_host name hosts) ≡ Some addr
+    → Contains (named_addresses (host ∷ hosts)) addr) [
+      | true ↦ λ e. subst (Contains (named_addresses (host ∷ hosts))) (same_Some _ _ e)
+          (Contains-append_left (host.addr ∷ []) (named_addresses hosts) host.addr (Contains-push [] host.addr))
+      | false ↦ λ e. Contains-append_right (host.addr ∷ []) (named_addresses hosts) addr (named-among name hosts addr e)
+    ] is
+
+first-among : (hosts : List ScriptHost) → Contains (addresses hosts) first_host
+first-among hosts = Contains-append_left (first_host ∷ second_host ∷ []) (named_addresses hosts) first_host
+    (Contains-append_left (first_host ∷ []) (second_host ∷ []) first_host (Contains-push [] first_host))
+
+second-among : (hosts : List ScriptHost) → Contains (addresses hosts) second_host
+second-among hosts = Contains-append_left (first_host ∷ second_host ∷ []) (named_addresses hosts) second_host
+    (Contains-push (first_host ∷ []) second_host)
+
+none-found : {X : Type 0} (k : ℕ) (x : X) → slice_get [] k ≡ Some x → ⊥
+none-found k x found = cc
+
+hosts-apart : first_host ≡ second_host → ⊥
+hosts-apart same = let ip : same_addr first_host second_host ≡ true = ap (same_addr first_host) (sym same) ∙ same-addr first_host in cc
+
+same-pair : (a b : PeerPair) → Some a ≡ Some b → a.id ≡ b.id
+same-pair a b is = cc
+
+arrives-not : (act : Act) (from : Addr) (bytes : List ℕ) → act ≡ Arrive from bytes → is_arrival act ≡ false → ⊥
+arrives-not act from bytes is calls = cc
+
+module _ {C : Type 0} (w : Ways C) where
+  -- ---- events
+
+  event-keeps : (n : Network C) (place : ℕ) (socket : ScriptSocket C) (event : Event) → slice_get n.sockets place ≡ Some socket
+      → ((is : IsNetwork w n) → IsIntroduced (at_moment (state_of w socket.history) event.now) event.act (step w (state_of w socket.history) event).after
+      → MayTake w n.sockets place (record socket { history = happened w socket.history 0 event }))
+      → IsNetwork w n → IsNetwork w (event_at w n place socket event).network
+  unfolding event_at
+  event-keeps n place socket event at new is =
+      let has = is.sockets place socket at in
+      let may : MayTake w n.sockets place (record socket { history = happened w socket.history 0 event }) =
+      elim (event-peer w (enrolled_at place has.way socket) 0 event has.is) [
+        | inl same ↦ record { alone = λ m other peer found host mine its.
+            is.peers m place other socket peer found at host its (sym same ∙ mine) }
+        | inr introduced ↦ new is introduced
+      ] in
+      set-keeps w n place socket (record socket { history = happened w socket.history 0 event }) at refl refl
+      (IsLegal-happened w socket.history 0 event has.is.legal) (λ item among. Contains-append_left socket.history.items _ item among) _ may is
+
+  call-keeps : (n : Network C) (place : ℕ) (socket : ScriptSocket C) (event : Event) → slice_get n.sockets place ≡ Some socket
+      → is_arrival event.act ≡ false → IsNetwork w n → IsNetwork w (event_at w n place socket event).network
+  call-keeps n place socket event at calls is = event-keeps n place socket event at
+      (λ made introduced. absurd (arrives-not event.act introduced.from introduced.raw introduced.arrives calls)) is
+
+  -- the pair that an event made the own peer
+  introduced-pair : (s t : State C) (from : Addr) (bytes : List ℕ) (introduced : IsIntroduced s (Arrive from bytes) t) (peer : PeerPair)
+      → peer_by t.origin t.peer ≡ Some peer → peer ≡ record { addr = from; id = introduced.shake.id }
+  introduced-pair s t from bytes introduced peer names = ?
+
+  arrival-keeps : (n : Network C) (now place : ℕ) (socket : ScriptSocket C) (datagram : ScriptDatagram) → Comes w (Unit {0}) n place socket datagram
+      → IsNetwork w n → IsNetwork w (event_at w n place socket (arrival_of now datagram)).network
+  arrival-keeps n now place socket datagram comes is = event-keeps n place socket (arrival_of now datagram) comes.at
+      (λ made introduced. elim comes.why [
+        | inl goes ↦ record { alone = λ m other peer found host mine its.
+            let bytes : datagram.bytes ≡ introduced.raw = ap raw_of introduced.arrives in
+            let reads : handshake_in (read datagram.bytes) ≡ Some introduced.shake = ap (λ (l : List ℕ). handshake_in (read l)) bytes
+            ∙ ap handshake_in introduced.reads in
+            let names = ap (λ (u : State C). peer_by u.origin u.peer) (sym (state_of-happened w socket.history 0 (arrival_of now datagram))) ∙ mine in
+            let pair = introduced-pair _ _ datagram.from datagram.bytes introduced peer names in
+            absurd (unadopted w n datagram place socket introduced.shake goes reads introduced.none_before m other found (host ∙ comes.host)
+            (its ∙ ap Some pair)) }
+        | inr begun ↦
+            let has : has_peer (state_of w socket.history).origin ≡ true = made-has place socket datagram begun in
+            let none = introduced.none_before in
+            absurd (cc)
+      ]) is
+    where
+      raw_of : Act → List ℕ
+      raw_of (Arrive from bytes) = bytes
+      raw_of act = []
+
+      made-has : (place : ℕ) (socket : ScriptSocket C) (datagram : ScriptDatagram) → IsMadeFor w place socket datagram
+          → has_peer (state_of w socket.history).origin ≡ true
+      unfolding after_items opening
+      made-has place socket datagram begun = ap (λ (h : History C). has_peer (state_of w h).origin) begun.begins
+
+  -- ---- openings
+
+  legal-none : (s : State C) → AreLegal w s []
+  unfolding AreLegal
+  legal-none s = tt
+
+  socket-keeps : (n : Network C) (o : OpeningLine) (addr : Addr) → IsOpeningLine o → length n.sockets < MOST_SOCKETS
+      → address_of_host o.host n.hosts ≡ Some addr → IsNetwork w n → IsNetwork w (with_socket n (opened_socket w n o addr))
+  unfolding after_items opened
+  socket-keeps n o addr in_range room at is =
+      let among = named-among o.host n.hosts addr at in
+      let way : Way = Opened o.isn (open_config o) 0 in
+      let new : ScriptSocket C = opened_socket w n o addr in
+      add-keeps w n is (way ∷ []) (new ∷ []) refl
+      (each-one new (λ j socket. HasWay w n.hosts (is.ways ++ way ∷ []) (n.sockets ++ new ∷ []) (length n.sockets + j) socket) (record {
+        way = way;
+        at = append-second is.ways (way ∷ []) (length n.sockets + 0) 0 way (omega (arith, is.count)) refl;
+        is = record {
+          in_range = record {
+            values = record {
+              payload = in_range.payload;
+              most_payload = in_range.most_payload;
+              snd_blocks = in_range.blocks;
+              most_snd_blocks = in_range.most_blocks;
+              rcv_blocks = in_range.blocks;
+              most_rcv_blocks = in_range.most_blocks;
+            };
+            own_fits = omega (arith, room);
+            isn_fits = in_range.isn;
+          };
+          opened = ap (λ (k : ℕ). opened w (k + 1) o.isn (open_config o) 0) (omega arith);
+          legal = legal-none _;
+        };
+        asked = tt;
+        fixed = λ fixed. absurd (is.apart addr among fixed);
+        housed = Contains-append_right (first_host ∷ second_host ∷ []) (named_addresses n.hosts) addr among;
+      }))
+      (add-keeps_peers w n.sockets new (λ m other peer found host mine its. cc) is.peers)
+
+  made-keeps : (n : Network C) (now place : ℕ) (listener : ScriptSocket C) (datagram : ScriptDatagram) (shake : Shake)
+      → GetsPlace w (Unit {0}) n now place listener datagram shake → IsNetwork w n
+      → IsNetwork w (event_at w n place listener (arrival_of now datagram)).network
+      → IsNetwork w (with_socket (event_at w n place listener (arrival_of now datagram)).network
+      (made_for w (event_at w n place listener (arrival_of now datagram)).network listener datagram.from shake))
+  made-keeps n now place listener datagram shake gets before is = ?
+
+  pair-keeps : (n : Network C) (p : Pairing) → IsPairing p → length n.sockets + 2 ≤ MOST_SOCKETS → IsNetwork w n → IsNetwork w (paired w n p).network
+  pair-keeps n p in_range room is = ?
+
+  -- ---- all changes
+
+  name-keeps : (n : Network C) (place : ℕ) (socket : ScriptSocket C) (name : List ℕ) → slice_get n.sockets place ≡ Some socket
+      → IsNetwork w n → IsNetwork w (record n { sockets = slice_set n.sockets place (record socket { name = name }) })
+  name-keeps n place socket name at is =
+      set-keeps w n place socket (record socket { name = name }) at refl refl (is.sockets place socket at).is.legal (λ item among. among) n.datagrams
+      (record { alone = λ m other peer found host mine its. is.peers m place other socket peer found at host its mine }) is
+
+  empty-is : IsNetwork w empty_network
+  empty-is = record {
+    ways = [];
+    count = refl;
+    sockets = λ k socket at. absurd (none-found k socket at);
+    peers = λ k m socket other peer at other_at host mine its. absurd (none-found k socket at);
+    apart = λ addr among fixed. omega (arith, among.1);
+  }
+
+  network-kept : KeptByLines w (Unit {0}) (λ size n. IsNetwork w n)
+  network-kept = record {
+    empty = empty-is;
+    more = λ size bytes n is. is;
+    pair = λ size n p in_range room is. pair-keeps n p in_range room is;
+    host = λ size n name addr unknown is. host-keeps w n (record { name = name; addr = addr }) (not-fixed n.hosts addr unknown) is;
+    socket = λ size n o addr in_range room at is. socket-keeps n o addr in_range room at is;
+    call = λ size n place socket event at calls is. call-keeps n place socket event at calls is;
+    name = λ size n place socket name at is. name-keeps n place socket name at is;
+    arrival = λ size n now place socket datagram comes is. arrival-keeps n now place socket datagram comes is;
+    made = λ size n now place listener datagram shake gets before is. made-keeps n now place listener datagram shake gets before is;
+  }
+
+  pub script-network : (lines : List (List ℕ)) → IsNetwork w (network_after w lines)
+  script-network lines = lines-keep w (Unit {0}) (λ size n. IsNetwork w n) network-kept lines (inl tt)
