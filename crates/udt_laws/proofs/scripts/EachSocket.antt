@@ -29,3 +29,8 @@ module _ {X : Type 0} where
   pub each-one : (one : X) (P : ℕ → X → Type 0) → P 0 one → Each (one ∷ []) P
   each-one one P holds zero x at = let same : one ≡ x = cc in subst (P 0) same holds
   each-one one P holds (suc k) x at = absurd (cc)
+
+  pub each-two : (one two : X) (P : ℕ → X → Type 0) → P 0 one → P 1 two → Each (one ∷ two ∷ []) P
+  each-two one two P holds also zero x at = let same : one ≡ x = cc in subst (P 0) same holds
+  each-two one two P holds also (suc zero) x at = let same : two ≡ x = cc in subst (P 1) same also
+  each-two one two P holds also (suc (suc k)) x at = absurd (cc)

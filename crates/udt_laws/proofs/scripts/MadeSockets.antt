@@ -70,7 +70,7 @@ same-shake result stamp dest other_stamp other_dest shake other one two = same_S
 
 -- ---- listeners
 
-no-peer : (from : Origin) (peer : Peer) → from ≡ origin.Nobody → (pair : PeerPair) → peer_by from peer ≡ Some pair → ⊥
+pub no-peer : (from : Origin) (peer : Peer) → from ≡ origin.Nobody → (pair : PeerPair) → peer_by from peer ≡ Some pair → ⊥
 no-peer from peer is pair names = cc
 
 module _ {C : Type 0} (w : Ways C) where
