@@ -15,3 +15,4 @@ pub mod KeptByLines
 pub mod ScriptNetworks
 pub mod MadeSockets
 pub mod KeepsNetwork
+pub mod ScriptLawful

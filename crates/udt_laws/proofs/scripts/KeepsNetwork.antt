@@ -1,7 +1,7 @@
 -- Whatever the lines of a script say, its network is one: each change keeps it.
 use Rattle.std.proofs.Common.{◌≡◌, ℕ, zero, suc, ◌+◌, ◌^◌, ◌<◌, ◌≤◌, true, false, Bool, Option, List, [], ◌∷◌, ◌++◌, length, Some, None, Ok, refl, ap, ◌∙◌, sym, subst, inl, inr, ◌⊎◌, arith}
 use Rattle.std.specs.Prelude.{slice_get, slice_set, map, ◌||◌, if◌then◌else◌}
-use Rattle.std.specs.List.{Contains}
+use Rattle.std.specs.List.{Contains, list_any}
 use Rattle.std.proofs.lemmas.Bool.{cases_eq, or_parts}
 use Rattle.std.proofs.lemmas.List.{append_assoc, length-append}
 use Rattle.std.proofs.lemmas.List.Elements.{Contains-append_left, Contains-append_right, Contains-push}
@@ -36,7 +36,7 @@ use Rattle.udt_laws.proofs.scripts.EventPeer.{event-peer}
 use Rattle.udt_laws.proofs.scripts.KeptByLines.{arrival_of, opened_socket, IsMadeFor, Comes, GetsPlace, KeptByLines, event-here, event-elsewhere, event-count, lines-keep}
 use Rattle.udt_laws.proofs.scripts.KeptPeers.{HaveOwnPeers, MayTake, add-keeps_peers}
 use Rattle.udt_laws.proofs.scripts.LineRanges.{IsPairing, IsOpeningLine}
-use Rattle.udt_laws.proofs.scripts.MadeSockets.{no-peer, Promised, is-promised}
+use Rattle.udt_laws.proofs.scripts.MadeSockets.{same-bytes, no-peer, Promised, is-promised}
 use Rattle.udt_laws.proofs.scripts.ReplacedOne.{set-same, append-first, append-second, append-found, found-once}
 use Rattle.udt_laws.proofs.scripts.ScriptNetworks.{IsFixed, IsPairedAt, named_addresses, addresses, WasRequested, HasMate, WasAsked, HasWay, IsNetwork, set-keeps, add-keeps, host-keeps, paired-peer, fixed-below}
 use Rattle.udt_laws.proofs.scripts.UnadoptedPair.{same-addr, unadopted}
@@ -44,14 +44,21 @@ use Rattle.udt_laws.proofs.scripts.UnadoptedPair.{same-addr, unadopted}
 -- ---- addresses
 
 not-fixed : (hosts : List ScriptHost) (addr : Addr) → is_host hosts addr ≡ false → IsFixed addr → ⊥
-not-fixed hosts addr unknown (inl first) =
-    let test : same_addr addr first_host ≡ true = ap (same_addr addr) (sym first) ∙ same-addr addr in
-    let none = (or_parts _ _ (or_parts _ _ unknown).0).0 in
-    cc
-not-fixed hosts addr unknown (inr second) =
-    let test : same_addr addr second_host ≡ true = ap (same_addr addr) (sym second) ∙ same-addr addr in
-    let none = (or_parts _ _ (or_parts _ _ unknown).0).1 in
-    cc
+not-fixed hosts addr unknown fixed =
+    let one = same_addr addr first_host in
+    let two = same_addr addr second_host in
+    let others = or_parts (one || two) (list_any (λ (host : ScriptHost). same_addr addr host.addr) hosts) unknown in
+    let both = or_parts one two others.0 in
+    elim fixed [
+      | inl first ↦
+          let test : same_addr addr first_host ≡ true = ap (same_addr addr) (sym first) ∙ same-addr addr in
+          let none : same_addr addr first_host ≡ false = both.0 in
+          cc
+      | inr second ↦
+          let test : same_addr addr second_host ≡ true = ap (same_addr addr) (sym second) ∙ same-addr addr in
+          let none : same_addr addr second_host ≡ false = both.1 in
+          cc
+    ]
 
 -- the address of a named host is among theirs
 named-among : (name : List ℕ) (hosts : List ScriptHost) (addr : Addr) → address_of_host name hosts ≡ Some addr
@@ -84,10 +91,6 @@ same-pair a b is = cc
 
 arrives-not : (act : Act) (from : Addr) (bytes : List ℕ) → act ≡ Arrive from bytes → is_arrival act ≡ false → ⊥
 arrives-not act from bytes is calls = cc
-
-raw_of : Act → List ℕ
-raw_of (Arrive from bytes) = bytes
-raw_of act = []
 
 same-from : (one other : Addr) (a b : List ℕ) → Arrive one a ≡ Arrive other b → one ≡ other
 same-from one other a b is = cc
@@ -134,7 +137,7 @@ module _ {C : Type 0} (w : Ways C) where
   arrival-keeps n now place socket datagram comes is = event-keeps n place socket (arrival_of now datagram) comes.at
       (λ made introduced. elim comes.why [
         | inl goes ↦ record { alone = λ m other peer found host mine its.
-            let bytes : datagram.bytes ≡ introduced.raw = ap raw_of introduced.arrives in
+            let bytes : datagram.bytes ≡ introduced.raw = same-bytes datagram.from introduced.from datagram.bytes introduced.raw introduced.arrives in
             let reads : handshake_in (read datagram.bytes) ≡ Some introduced.shake = ap (λ (l : List ℕ). handshake_in (read l)) bytes
             ∙ ap handshake_in introduced.reads in
             let names = ap (λ (u : State C). peer_by u.origin u.peer) (sym (state_of-happened w socket.history 0 (arrival_of now datagram))) ∙ mine in

@@ -61,7 +61,7 @@ reads-handshake : (result : Result Packet Malformed) (stamp dest : ℕ) (shake o
     → handshake_in result ≡ Some other → shake ≡ other
 reads-handshake result stamp dest shake other is reads = same_Some _ _ (ap handshake_in (sym is) ∙ reads)
 
-same-bytes : (one other : Addr) (a b : List ℕ) → Arrive one a ≡ Arrive other b → a ≡ b
+pub same-bytes : (one other : Addr) (a b : List ℕ) → Arrive one a ≡ Arrive other b → a ≡ b
 same-bytes one other a b is = cc
 
 same-shake : (result : Result Packet Malformed) (stamp dest other_stamp other_dest : ℕ) (shake other : Shake)
