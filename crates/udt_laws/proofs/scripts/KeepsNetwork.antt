@@ -1,9 +1,9 @@
 -- Whatever the lines of a script say, its network is one: each change keeps it.
-use Rattle.std.proofs.Common.{◌≡◌, ℕ, zero, suc, ◌+◌, ◌^◌, ◌<◌, ◌≤◌, true, false, Bool, Option, List, [], ◌∷◌, ◌++◌, length, Some, None, Ok, refl, ap, ◌∙◌, sym, subst, inl, inr, ◌⊎◌, arith}
-use Rattle.std.specs.Prelude.{slice_get, slice_set, map, ◌||◌, if◌then◌else◌}
+use Rattle.std.proofs.Common.{◌≡◌, ℕ, ◌+◌, ◌<◌, ◌≤◌, true, false, List, [], ◌∷◌, ◌++◌, length, Some, refl, ap, ◌∙◌, sym, subst, inl, inr, arith}
+use Rattle.std.specs.Prelude.{slice_get, slice_set, ◌||◌, if◌then◌else◌}
 use Rattle.std.specs.List.{Contains, list_any}
 use Rattle.std.proofs.lemmas.Bool.{cases_eq, or_parts}
-use Rattle.std.proofs.lemmas.List.{append_assoc, length-append}
+use Rattle.std.proofs.lemmas.List.{append_assoc}
 use Rattle.std.proofs.lemmas.List.Elements.{Contains-append_left, Contains-append_right, Contains-push}
 use Rattle.std.proofs.lemmas.Option.{same_Some}
 use Rattle.udt_model.specs.declared.limits.TheConstants.{MOST_SOCKETS}
@@ -12,33 +12,33 @@ use Rattle.udt_model.specs.declared.answers.Origin.TheVariants as origin
 use Rattle.udt_model.specs.declared.packets.Shake.{Shake}
 use Rattle.udt_model.specs.Addresses.{same_addr}
 use Rattle.udt_model.specs.Connections.{config_of}
-use Rattle.udt_model.specs.Events.{Act, Arrive, Event, event, DidHear, at_moment}
+use Rattle.udt_model.specs.Events.{Act, Arrive, Event, event, at_moment}
 use Rattle.udt_model.specs.Handshakes.{peer_in}
-use Rattle.udt_model.specs.History.{Item, History, state_of, happened, item_of, after_items, AreLegal}
-use Rattle.udt_model.specs.Lines.{Pairing, OpeningLine, is_arrival, AreEmitted}
-use Rattle.udt_model.specs.Network.{ScriptHost, ScriptSocket, ScriptDatagram, Network, empty_network, first_host, second_host, is_host, address_of_host, ToSocket, route}
-use Rattle.udt_model.specs.Opening.{opened, opening, CanOpen, CanPair}
+use Rattle.udt_model.specs.History.{History, state_of, happened, item_of, after_items, AreLegal}
+use Rattle.udt_model.specs.Lines.{Pairing, OpeningLine, is_arrival}
+use Rattle.udt_model.specs.Network.{ScriptHost, ScriptSocket, ScriptDatagram, Network, empty_network, first_host, second_host, is_host, address_of_host}
+use Rattle.udt_model.specs.Opening.{opened, opening, CanPair}
 use Rattle.udt_model.specs.Rate.{Ways}
 use Rattle.udt_model.specs.Records.{Way, Opened, Paired, PairedAt, Enrolled, IsSocket, PeerPair, opened_by, peer_by, own_peer}
 use Rattle.udt_model.specs.Routes.{handshake_in}
-use Rattle.udt_model.specs.Script.{pair_config, peer_of, open_config, paired_socket, with_host, with_socket, paired, event_at, made_for, network_after}
+use Rattle.udt_model.specs.Script.{pair_config, peer_of, open_config, paired_socket, with_socket, paired, event_at, made_for, network_after}
 use Rattle.udt_model.specs.State.{State}
 use Rattle.udt_model.specs.Step.{step}
-use Rattle.udt_model.specs.Wire.{Handshake, read}
+use Rattle.udt_model.specs.Wire.{read}
 use Rattle.udt_model.specs.Words.{is_word}
 use Rattle.udt_model.proofs.HistoryLemmas.{IsLegal-happened, state_of-happened}
 use Rattle.udt_model.proofs.PeerLemmas.{has_peer, IsIntroduced}
 use Rattle.udt_model.proofs.ShakeLemmas.{pair-same, has-names}
 use Rattle.udt_model.proofs.StepLemmas.{after_items-keeps_name}
 use Rattle.udt_laws.specs.Scripts.{enrolled_at}
-use Rattle.udt_laws.proofs.scripts.EachSocket.{Each, each-one, each-two}
+use Rattle.udt_laws.proofs.scripts.EachSocket.{each-one, each-two}
 use Rattle.udt_laws.proofs.scripts.EventPeer.{event-peer}
 use Rattle.udt_laws.proofs.scripts.KeptByLines.{arrival_of, opened_socket, IsMadeFor, Comes, GetsPlace, KeptByLines, event-here, event-elsewhere, event-count, lines-keep}
 use Rattle.udt_laws.proofs.scripts.KeptPeers.{HaveOwnPeers, MayTake, add-keeps_peers}
 use Rattle.udt_laws.proofs.scripts.LineRanges.{IsPairing, IsOpeningLine}
-use Rattle.udt_laws.proofs.scripts.MadeSockets.{same-bytes, no-peer, Promised, is-promised}
-use Rattle.udt_laws.proofs.scripts.ReplacedOne.{set-same, append-first, append-second, append-found, found-once}
-use Rattle.udt_laws.proofs.scripts.ScriptNetworks.{IsFixed, IsPairedAt, named_addresses, addresses, WasRequested, HasMate, WasAsked, HasWay, IsNetwork, set-keeps, add-keeps, host-keeps, paired-peer, fixed-below}
+use Rattle.udt_laws.proofs.scripts.MadeSockets.{same-bytes, no-peer, is-promised}
+use Rattle.udt_laws.proofs.scripts.ReplacedOne.{append-first, append-second, append-found, found-once}
+use Rattle.udt_laws.proofs.scripts.ScriptNetworks.{IsFixed, IsPairedAt, named_addresses, addresses, HasWay, IsNetwork, set-keeps, add-keeps, host-keeps, paired-peer, fixed-below}
 use Rattle.udt_laws.proofs.scripts.UnadoptedPair.{same-addr, unadopted}
 
 -- ---- addresses

@@ -1,6 +1,6 @@
 -- The values of a line that is read are in their ranges, no call of it is an arrival, and it has a socket take no more bytes than it has.
-use Rattle.std.proofs.Common.{◌≡◌, ℕ, suc, ◌+◌, ◌-◌, ◌^◌, ◌<◌, ◌≤◌, Bool, true, false, List, [], ◌∷◌, length, Some, None, Ok, Option, refl, ap, ◌∙◌, sym, subst, inl, inr, ◌⊎◌, arith}
-use Rattle.std.specs.Prelude.{◌==◌, codes, option_map, if◌then◌else◌}
+use Rattle.std.proofs.Common.{◌≡◌, ℕ, suc, ◌+◌, ◌-◌, ◌^◌, ◌<◌, ◌≤◌, Bool, true, false, List, [], ◌∷◌, length, Some, None, Ok, Option, refl, ap, subst, inl, inr, ◌⊎◌, arith}
+use Rattle.std.specs.Prelude.{◌==◌, codes, if◌then◌else◌}
 use Rattle.std.proofs.lemmas.Bool.Decides.{nat_tests}
 use Rattle.std.proofs.lemmas.List.{length-take}
 use Rattle.std.proofs.lemmas.Option.{same_Some}

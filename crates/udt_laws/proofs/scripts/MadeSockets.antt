@@ -1,6 +1,6 @@
 -- A listener that promises a place to a request has no peer, then or before, and what is made for the request can be opened so.
-use Rattle.std.proofs.Common.{◌≡◌, ℕ, ◌+◌, ◌^◌, ◌<◌, ◌≤◌, true, false, List, [], ◌∷◌, ◌++◌, Some, Ok, refl, ap, ◌∙◌, sym, subst, inl, inr, arith}
-use Rattle.std.specs.Prelude.{nat_lt, ◌==◌, ◌&&◌, Bool, Option, Result, if◌then◌else◌}
+use Rattle.std.proofs.Common.{◌≡◌, ℕ, ◌^◌, ◌<◌, ◌≤◌, true, false, List, Some, Ok, refl, ap, ◌∙◌, sym, subst, inl, inr, arith}
+use Rattle.std.specs.Prelude.{nat_lt, ◌==◌, ◌&&◌, Bool, Result, if◌then◌else◌}
 use Rattle.std.proofs.lemmas.Bool.{and_parts, ltb-true}
 use Rattle.std.proofs.lemmas.Option.{same_Some}
 use Rattle.udt_model.specs.declared.addresses.Addr.{Addr}
@@ -11,12 +11,12 @@ use Rattle.udt_model.specs.declared.answers.Peer.{Peer}
 use Rattle.udt_model.specs.declared.handshakes.Asked.TheVariants as asks
 use Rattle.udt_model.specs.declared.handshakes.TheConstants.{VERSION, SIZE_OVER_PAYLOAD}
 use Rattle.udt_model.specs.declared.handshakes.Verdict.TheVariants as verdict
-use Rattle.udt_model.specs.declared.limits.TheConstants.{LAST_START, MOST_PAYLOAD, FEWEST_BLOCKS, MOST_BLOCKS}
+use Rattle.udt_model.specs.declared.limits.TheConstants.{MOST_PAYLOAD, FEWEST_BLOCKS, MOST_BLOCKS}
 use Rattle.udt_model.specs.declared.packets.Config.{Config}
 use Rattle.udt_model.specs.declared.packets.Malformed.{Malformed}
 use Rattle.udt_model.specs.declared.packets.Shake.{Shake}
 use Rattle.udt_model.specs.Connections.{config_of}
-use Rattle.udt_model.specs.Events.{Act, Arrive, Event, event, DidHear, at_moment}
+use Rattle.udt_model.specs.Events.{Arrive, event, DidHear, at_moment}
 use Rattle.udt_model.specs.Handshakes.{Listening, asked, has_cookie, minute_of, kind_number, suits, judged, peer_in}
 use Rattle.udt_model.specs.History.{state_of, happened}
 use Rattle.udt_model.specs.Opening.{CanOpen, IsOpening}
@@ -30,7 +30,7 @@ use Rattle.udt_model.specs.SendHalf.{Sending}
 use Rattle.udt_model.specs.State.{State}
 use Rattle.udt_model.specs.Step.{step}
 use Rattle.udt_model.specs.Wire.{Packet, Handshake, read}
-use Rattle.udt_model.proofs.PeerLemmas.{IsIntroduced, IsKnown, config_by, start_by, standing_of, KnowsPeer}
+use Rattle.udt_model.proofs.PeerLemmas.{IsKnown, config_by, start_by, standing_of, KnowsPeer}
 use Rattle.udt_model.proofs.PhaseLemmas.{is_settled}
 use Rattle.udt_model.proofs.ShakeLemmas.{known-after}
 use Rattle.udt_model.proofs.SpellingLemmas.{read-in_range}

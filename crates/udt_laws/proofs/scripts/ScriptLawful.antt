@@ -1,6 +1,6 @@
 -- The records of a script's sockets, one record for each address of a host, are lawful.
-use Rattle.std.proofs.Common.{◌≡◌, ℕ, suc, zero, ◌+◌, true, false, Bool, List, [], ◌∷◌, ◌++◌, length, Some, refl, ap, ◌∙◌, sym, subst, inl, inr, ◌⊎◌, arith}
-use Rattle.std.specs.Prelude.{slice_get, map, if◌then◌else◌}
+use Rattle.std.proofs.Common.{◌≡◌, ℕ, suc, zero, ◌+◌, true, false, Bool, List, [], ◌∷◌, Some, refl, ap, ◌∙◌, sym, subst, inl, inr, ◌⊎◌, arith}
+use Rattle.std.specs.Prelude.{slice_get, map}
 use Rattle.std.specs.List.{Contains}
 use Rattle.std.proofs.lemmas.List.Elements.{Contains-append_left, Contains-append_right, Contains-append_cases, Contains-push, Contains-push_cases}
 use Rattle.udt_model.specs.declared.addresses.Addr.{Addr}
@@ -9,10 +9,10 @@ use Rattle.udt_model.specs.declared.packets.Config.{Config}
 use Rattle.udt_model.specs.Addresses.{same_addr}
 use Rattle.udt_model.specs.Network.{ScriptSocket, Network}
 use Rattle.udt_model.specs.Rate.{Ways}
-use Rattle.udt_model.specs.Records.{Way, Opened, Paired, PairedAt, Enrolled, EndpointRecord, PeerPair, StandsAt, IsPaired, IsRequested, IsAsked, ArePaired, IsSocket, own_peer, IsLawful, AreLawful}
+use Rattle.udt_model.specs.Records.{Way, Opened, Paired, PairedAt, Enrolled, EndpointRecord, StandsAt, IsPaired, IsRequested, IsAsked, ArePaired, IsSocket, own_peer, IsLawful, AreLawful}
 use Rattle.udt_model.specs.Script.{network_after}
 use Rattle.udt_model.proofs.AddressLemmas.{same_addr-is}
-use Rattle.udt_laws.specs.Scripts.{enrolled_at, StandsThere, IsAmong, HasLawfulRecords, ScriptLawful}
+use Rattle.udt_laws.specs.Scripts.{enrolled_at, IsAmong, HasLawfulRecords, ScriptLawful}
 use Rattle.udt_laws.proofs.scripts.KeepsNetwork.{script-network}
 use Rattle.udt_laws.proofs.scripts.ReplacedOne.{found-once, map-among}
 use Rattle.udt_laws.proofs.scripts.ScriptNetworks.{addresses, WasRequested, HasMate, WasAsked, HasWay, IsNetwork}
