@@ -84,7 +84,8 @@ none-found : {X : Type 0} (k : ℕ) (x : X) → slice_get [] k ≡ Some x → �
 none-found k x found = cc
 
 hosts-apart : first_host ≡ second_host → ⊥
-hosts-apart same = let ip : same_addr first_host second_host ≡ true = ap (same_addr first_host) (sym same) ∙ same-addr first_host in cc
+hosts-apart same = let ip : same_addr first_host second_host ≡ true = ap (same_addr first_host) (sym same)
+    ∙ same-addr first_host in cc
 
 same-pair : (a b : PeerPair) → Some a ≡ Some b → a.id ≡ b.id
 same-pair a b is = cc
@@ -104,7 +105,9 @@ module _ {C : Type 0} (w : Ways C) where
   made-has place socket datagram begun = ap (λ (h : History C). has_peer (state_of w h).origin) begun.begins
 
   event-keeps : (n : Network C) (place : ℕ) (socket : ScriptSocket C) (event : Event) → slice_get n.sockets place ≡ Some socket
-      → ((is : IsNetwork w n) → IsIntroduced (at_moment (state_of w socket.history) event.now) event.act (step w (state_of w socket.history) event).after
+      → ((is : IsNetwork w n)
+      → IsIntroduced (at_moment (state_of w socket.history) event.now) event.act
+      (step w (state_of w socket.history) event).after
       → MayTake w n.sockets place (record socket { history = happened w socket.history 0 event }))
       → IsNetwork w n → IsNetwork w (event_at w n place socket event).network
   unfolding event_at
@@ -112,12 +115,15 @@ module _ {C : Type 0} (w : Ways C) where
       let has = is.sockets place socket at in
       let may : MayTake w n.sockets place (record socket { history = happened w socket.history 0 event }) =
       elim (event-peer w (enrolled_at place has.way socket) 0 event has.is) [
-        | inl same ↦ record { alone = λ m other peer found host mine its.
-            is.peers m place other socket peer found at host its (sym same ∙ mine) }
+        | inl same ↦ record {
+          alone = λ m other peer found host mine its.
+              is.peers m place other socket peer found at host its (sym same ∙ mine);
+        }
         | inr introduced ↦ new is introduced
       ] in
       set-keeps w n place socket (record socket { history = happened w socket.history 0 event }) at refl refl
-      (IsLegal-happened w socket.history 0 event has.is.legal) (λ item among. Contains-append_left socket.history.items _ item among) _ may is
+      (IsLegal-happened w socket.history 0 event has.is.legal)
+      (λ item among. Contains-append_left socket.history.items _ item among) _ may is
 
   call-keeps : (n : Network C) (place : ℕ) (socket : ScriptSocket C) (event : Event) → slice_get n.sockets place ≡ Some socket
       → is_arrival event.act ≡ false → IsNetwork w n → IsNetwork w (event_at w n place socket event).network
@@ -125,25 +131,34 @@ module _ {C : Type 0} (w : Ways C) where
       (λ made introduced. absurd (arrives-not event.act introduced.from introduced.raw introduced.arrives calls)) is
 
   -- the pair that an event made the own peer
-  introduced-pair : (s t : State C) (from : Addr) (bytes : List ℕ) (introduced : IsIntroduced s (Arrive from bytes) t) (peer : PeerPair)
+  introduced-pair : (s t : State C) (from : Addr) (bytes : List ℕ) (introduced : IsIntroduced s (Arrive from bytes) t)
+      (peer : PeerPair)
       → peer_by t.origin t.peer ≡ Some peer → peer ≡ record { addr = from; id = introduced.shake.id }
   introduced-pair s t from bytes introduced peer names =
       let named = same_Some _ _ (sym names ∙ has-names t.origin t.peer introduced.has) in
-      let addr : t.peer.addr ≡ from = sym introduced.addr ∙ sym (same-from from introduced.from bytes introduced.raw introduced.arrives) in
+      let addr : t.peer.addr ≡ from = sym introduced.addr
+      ∙ sym (same-from from introduced.from bytes introduced.raw introduced.arrives) in
       named ∙ pair-same t.peer.addr from t.peer.id introduced.shake.id addr (sym introduced.id)
 
-  arrival-keeps : (n : Network C) (now place : ℕ) (socket : ScriptSocket C) (datagram : ScriptDatagram) → Comes w (Unit {0}) n place socket datagram
+  arrival-keeps : (n : Network C) (now place : ℕ) (socket : ScriptSocket C) (datagram : ScriptDatagram)
+      → Comes w (Unit {0}) n place socket datagram
       → IsNetwork w n → IsNetwork w (event_at w n place socket (arrival_of now datagram)).network
   arrival-keeps n now place socket datagram comes is = event-keeps n place socket (arrival_of now datagram) comes.at
       (λ made introduced. elim comes.why [
-        | inl goes ↦ record { alone = λ m other peer found host mine its.
-            let bytes : datagram.bytes ≡ introduced.raw = same-bytes datagram.from introduced.from datagram.bytes introduced.raw introduced.arrives in
-            let reads : handshake_in (read datagram.bytes) ≡ Some introduced.shake = ap (λ (l : List ℕ). handshake_in (read l)) bytes
-            ∙ ap handshake_in introduced.reads in
-            let names = ap (λ (u : State C). peer_by u.origin u.peer) (sym (state_of-happened w socket.history 0 (arrival_of now datagram))) ∙ mine in
-            let pair = introduced-pair _ _ datagram.from datagram.bytes introduced peer names in
-            absurd (unadopted w n datagram place socket introduced.shake goes reads introduced.none_before m other found (host ∙ comes.host)
-            (its ∙ ap Some pair)) }
+        | inl goes ↦ record {
+          alone = λ m other peer found host mine its.
+              let bytes : datagram.bytes ≡ introduced.raw =
+              same-bytes datagram.from introduced.from datagram.bytes introduced.raw introduced.arrives in
+              let reads : handshake_in (read datagram.bytes) ≡ Some introduced.shake = ap (λ (l : List ℕ). handshake_in (read l))
+              bytes
+              ∙ ap handshake_in introduced.reads in
+              let names = ap (λ (u : State C). peer_by u.origin u.peer)
+              (sym (state_of-happened w socket.history 0 (arrival_of now datagram))) ∙ mine in
+              let pair = introduced-pair _ _ datagram.from datagram.bytes introduced peer names in
+              absurd (unadopted w n datagram place socket introduced.shake goes reads introduced.none_before m other found
+              (host ∙ comes.host)
+              (its ∙ ap Some pair));
+        }
         | inr begun ↦
             let has : has_peer (state_of w socket.history).origin ≡ true = made-has place socket datagram begun in
             let none = introduced.none_before in
@@ -164,7 +179,8 @@ module _ {C : Type 0} (w : Ways C) where
       let way : Way = Opened o.isn (open_config o) 0 in
       let new : ScriptSocket C = opened_socket w n o addr in
       add-keeps w n is (way ∷ []) (new ∷ []) refl
-      (each-one new (λ j socket. HasWay w n.hosts (is.ways ++ way ∷ []) (n.sockets ++ new ∷ []) (length n.sockets + j) socket) (record {
+      (each-one new (λ j socket. HasWay w n.hosts (is.ways ++ way ∷ []) (n.sockets ++ new ∷ []) (length n.sockets + j) socket)
+      (record {
         way = way;
         at = append-second is.ways (way ∷ []) (length n.sockets + 0) 0 way (omega (arith, is.count)) refl;
         is = record {
@@ -189,10 +205,12 @@ module _ {C : Type 0} (w : Ways C) where
       }))
       (add-keeps_peers w n.sockets new (λ m other peer found host mine its. cc) is.peers)
 
-  pair-somebody : (socket : Enrolled C) → IsSocket w socket → (way : Way) → IsPairedAt way → socket.history.opening ≡ opened_by w socket.own way
+  pair-somebody : (socket : Enrolled C) → IsSocket w socket → (way : Way) → IsPairedAt way
+      → socket.history.opening ≡ opened_by w socket.own way
       → (state_of w socket.history).origin ≡ origin.Nobody → ⊥
   pair-somebody socket is (PairedAt config peer now start) paired opened nobody =
-      no-peer (state_of w socket.history).origin (state_of w socket.history).peer nobody _ (paired-peer w socket.own config peer now start socket.history opened)
+      no-peer (state_of w socket.history).origin (state_of w socket.history).peer nobody _
+      (paired-peer w socket.own config peer now start socket.history opened)
   pair-somebody socket is (Opened isn config now) paired opened nobody = absurd paired
   pair-somebody socket is (Paired config peer now) paired opened nobody = absurd paired
 
@@ -208,13 +226,15 @@ module _ {C : Type 0} (w : Ways C) where
       let at = gets.comes.at in
       let has = before.sockets place listener at in
       let s : State C = state_of w listener.history in
-      let promised = is-promised w (enrolled_at place has.way listener) now datagram.from datagram.bytes has.is gets.promised shake gets.reads in
+      let promised = is-promised w (enrolled_at place has.way listener)
+      now datagram.from datagram.bytes has.is gets.promised shake gets.reads in
       let way : Way = Paired (config_of s) (peer_in (config_of s) datagram.from shake) 0 in
       let new : ScriptSocket C = made_for w m listener datagram.from shake in
       let told : ScriptSocket C = record listener { history = happened w listener.history 0 arrival } in
       let count = event-count w n place listener arrival at in
       add-keeps w m is (way ∷ []) (new ∷ []) refl
-      (each-one new (λ j socket. HasWay w m.hosts (is.ways ++ way ∷ []) (m.sockets ++ new ∷ []) (length m.sockets + j) socket) (record {
+      (each-one new (λ j socket. HasWay w m.hosts (is.ways ++ way ∷ []) (m.sockets ++ new ∷ []) (length m.sockets + j) socket)
+      (record {
         way = way;
         at = append-second is.ways (way ∷ []) (length m.sockets + 0) 0 way (omega (arith, is.count)) refl;
         is = record {
@@ -239,7 +259,8 @@ module _ {C : Type 0} (w : Ways C) where
           id_is = refl;
           isn_is = refl;
         };
-        fixed = λ fixed. absurd (pair-somebody (enrolled_at place has.way listener) has.is has.way (has.fixed fixed) has.is.opened promised.nobody);
+        fixed = λ fixed. absurd
+            (pair-somebody (enrolled_at place has.way listener) has.is has.way (has.fixed fixed) has.is.opened promised.nobody);
         housed = has.housed;
       }))
       (add-keeps_peers w m.sockets new (λ k other peer found host mine its. elim (cases_eq place k) [
@@ -249,13 +270,15 @@ module _ {C : Type 0} (w : Ways C) where
             promised.still_nobody peer (subst (λ (x : ScriptSocket C). own_peer w x.history ≡ Some peer) other_is its)
         | inr apart ↦
             let there = sym (event-elsewhere w n place listener arrival at k apart) ∙ found in
-            unadopted w n datagram place listener shake gets.goes gets.reads (ap has_peer promised.nobody) k other there (host ∙ gets.comes.host)
+            unadopted w n datagram place listener shake gets.goes gets.reads (ap has_peer promised.nobody) k other there
+            (host ∙ gets.comes.host)
             (its ∙ sym mine)
       ]) is.peers)
 
   -- ---- pairs
 
-  module _ (n : Network C) (p : Pairing) (in_range : IsPairing p) (room : length n.sockets + 2 ≤ MOST_SOCKETS) (is : IsNetwork w n) where
+  module _ (n : Network C) (p : Pairing) (in_range : IsPairing p) (room : length n.sockets + 2 ≤ MOST_SOCKETS)
+      (is : IsNetwork w n) where
     abbrev a : ScriptSocket C
     a = paired_socket w p p.a first_host (length n.sockets + 1) second_host (length n.sockets + 2)
 
@@ -299,7 +322,8 @@ module _ {C : Type 0} (w : Ways C) where
           id_fits = omega (arith, room);
           isn_fits = in_range.isn;
         };
-        opened = ap (λ (own : ℕ). opening w own (pair_config p) (peer_of p second_host (length n.sockets + 2)) 0 p.start) (omega arith);
+        opened = ap (λ (own : ℕ). opening w own (pair_config p) (peer_of p second_host (length n.sockets + 2)) 0 p.start)
+            (omega arith);
         legal = legal-none _;
       };
       asked = record {
@@ -325,7 +349,8 @@ module _ {C : Type 0} (w : Ways C) where
           id_fits = omega (arith, room);
           isn_fits = in_range.isn;
         };
-        opened = ap (λ (own : ℕ). opening w own (pair_config p) (peer_of p first_host (length n.sockets + 1)) 0 p.start) (omega arith);
+        opened = ap (λ (own : ℕ). opening w own (pair_config p) (peer_of p first_host (length n.sockets + 1)) 0 p.start)
+            (omega arith);
         legal = legal-none _;
       };
       asked = record {
@@ -340,7 +365,8 @@ module _ {C : Type 0} (w : Ways C) where
       housed = second-among n.hosts;
     }
 
-    first-alone : (m : ℕ) (other : ScriptSocket C) (peer : PeerPair) → slice_get n.sockets m ≡ Some other → other.host ≡ first_host
+    first-alone : (m : ℕ) (other : ScriptSocket C) (peer : PeerPair) → slice_get n.sockets m ≡ Some other
+        → other.host ≡ first_host
         → own_peer w a.history ≡ Some peer → own_peer w other.history ≡ Some peer → ⊥
     unfolding after_items opening
     first-alone m other peer found host mine its =
@@ -348,7 +374,8 @@ module _ {C : Type 0} (w : Ways C) where
         let below = fixed-below w n is m other peer found (inl host) its in
         omega (arith, id, below)
 
-    second-alone : (m : ℕ) (other : ScriptSocket C) (peer : PeerPair) → slice_get (n.sockets ++ a ∷ []) m ≡ Some other → other.host ≡ second_host
+    second-alone : (m : ℕ) (other : ScriptSocket C) (peer : PeerPair) → slice_get (n.sockets ++ a ∷ []) m ≡ Some other
+        → other.host ≡ second_host
         → own_peer w b.history ≡ Some peer → own_peer w other.history ≡ Some peer → ⊥
     unfolding after_items opening
     second-alone m other peer found host mine its = elim (append-found n.sockets (a ∷ []) m other found) [
@@ -371,7 +398,8 @@ module _ {C : Type 0} (w : Ways C) where
   name-keeps : (n : Network C) (place : ℕ) (socket : ScriptSocket C) (name : List ℕ) → slice_get n.sockets place ≡ Some socket
       → IsNetwork w n → IsNetwork w (record n { sockets = slice_set n.sockets place (record socket { name = name }) })
   name-keeps n place socket name at is =
-      set-keeps w n place socket (record socket { name = name }) at refl refl (is.sockets place socket at).is.legal (λ item among. among) n.datagrams
+      set-keeps w n place socket (record socket { name = name }) at refl refl (is.sockets place socket at).is.legal
+      (λ item among. among) n.datagrams
       (record { alone = λ m other peer found host mine its. is.peers m place other socket peer found at host its mine }) is
 
   empty-is : IsNetwork w empty_network
@@ -388,12 +416,14 @@ module _ {C : Type 0} (w : Ways C) where
     empty = empty-is;
     more = λ size bytes n is. is;
     pair = λ size n p in_range room is. pair-keeps n p in_range room is;
-    host = λ size n name addr unknown is. host-keeps w n (record { name = name; addr = addr }) (not-fixed n.hosts addr unknown) is;
+    host = λ size n name addr unknown is. host-keeps w n (record { name = name; addr = addr }) (not-fixed n.hosts addr unknown)
+        is;
     socket = λ size n o addr in_range room at is. socket-keeps n o addr in_range room at is;
     call = λ size n place socket event at calls is. call-keeps n place socket event at calls is;
     name = λ size n place socket name at is. name-keeps n place socket name at is;
     arrival = λ size n now place socket datagram comes is. arrival-keeps n now place socket datagram comes is;
-    made = λ size n now place listener datagram shake gets before is. made-keeps n now place listener datagram shake gets before is;
+    made = λ size n now place listener datagram shake gets before is. made-keeps n now place listener datagram shake gets
+        before is;
   }
 
   pub script-network : (lines : List (List ℕ)) → IsNetwork w (network_after w lines)

@@ -41,23 +41,27 @@ use Rattle.udt_laws.proofs.scripts.RequestHeard.{IsPromised, request-promised}
 -- ---- requests
 
 fits-by : (known fits room : Bool) (refusal cookie : Shake)
-    → (if known then (if fits && room then verdict.Request else verdict.Reject refusal) else verdict.Cookie cookie) ≡ verdict.Request
+    → (if known then (if fits && room then verdict.Request else verdict.Reject refusal) else verdict.Cookie cookie)
+    ≡ verdict.Request
     → fits ≡ true
 fits-by true true room refusal cookie is = refl
 fits-by true false room refusal cookie is = absurd (cc)
 fits-by false fits room refusal cookie is = absurd (cc)
 
 -- a request that is promised a place can carry bytes
-request-packet : (l : Listening) (shake : Shake) (from : Addr) (now : ℕ) (room : Bool) → judged l shake from now room ≡ verdict.Request
+request-packet : (l : Listening) (shake : Shake) (from : Addr) (now : ℕ) (room : Bool)
+    → judged l shake from now room ≡ verdict.Request
     → SIZE_OVER_PAYLOAD < shake.packet
 unfolding judged
 request-packet l shake from now room is =
     let fits = fits-by (has_cookie l shake from (minute_of now)) (suits l.config shake) room _ _ is in
     ltb-true SIZE_OVER_PAYLOAD shake.packet
-    (and_parts ((shake.version == VERSION) && (shake.kind == kind_number l.config.kind)) (nat_lt SIZE_OVER_PAYLOAD shake.packet) fits).1
+    (and_parts ((shake.version == VERSION) && (shake.kind == kind_number l.config.kind))
+    (nat_lt SIZE_OVER_PAYLOAD shake.packet) fits).1
 
 -- what one reads tells of one handshake
-reads-handshake : (result : Result Packet Malformed) (stamp dest : ℕ) (shake other : Shake) → result ≡ Ok (Handshake stamp dest shake)
+reads-handshake : (result : Result Packet Malformed) (stamp dest : ℕ) (shake other : Shake)
+    → result ≡ Ok (Handshake stamp dest shake)
     → handshake_in result ≡ Some other → shake ≡ other
 reads-handshake result stamp dest shake other is reads = same_Some _ _ (ap handshake_in (sym is) ∙ reads)
 
@@ -79,7 +83,8 @@ module _ {C : Type 0} (w : Ways C) where
   way-can_open own (Paired config peer now) is = is.values.config_fits
   way-can_open own (PairedAt config peer now start) is = is.values.config_fits
 
-  unlinked-can_open : (config : Config) (start : ℕ) (s : State C) → CanOpen config → IsUnlinked w config start s → CanOpen (config_of s)
+  unlinked-can_open : (config : Config) (start : ℕ) (s : State C) → CanOpen config → IsUnlinked w config start s
+      → CanOpen (config_of s)
   unlinked-can_open config start s values unlinked = record {
     payload = subst (λ (x : Sending C). 1 ≤ x.blocks.room) (sym unlinked.sending) values.payload;
     most_payload = subst (λ (x : Sending C). x.blocks.room ≤ MOST_PAYLOAD) (sym unlinked.sending) values.most_payload;
@@ -97,7 +102,8 @@ module _ {C : Type 0} (w : Ways C) where
     pub stamp : ℕ
     pub reads : read bytes ≡ Ok (Handshake stamp 0 shake)
     pub nobody : (state_of w socket.history).origin ≡ origin.Nobody
-    pub still_nobody : (peer : PeerPair) → own_peer w (happened w socket.history 0 (event now (Arrive from bytes))) ≡ Some peer → ⊥
+    pub still_nobody : (peer : PeerPair) → own_peer w (happened w socket.history 0 (event now (Arrive from bytes))) ≡ Some peer
+        → ⊥
     pub opens : (own : ℕ) → own < 2 ^ 32 → IsOpening own (config_of (state_of w socket.history))
         (peer_in (config_of (state_of w socket.history)) from shake) 0
 
@@ -127,9 +133,11 @@ module _ {C : Type 0} (w : Ways C) where
       | inl same ↦ no-peer listener.origin listener.peer has-nobody peer (sym same ∙ names)
       | inr introduced ↦
           let same = same-bytes from introduced.from bytes introduced.raw introduced.arrives in
-          let shake_is = same-shake (read bytes) promised-so.stamp 0 introduced.stamp introduced.dest promised-so.shake introduced.shake promised-so.reads
+          let shake_is = same-shake (read bytes) promised-so.stamp 0 introduced.stamp introduced.dest promised-so.shake
+          introduced.shake promised-so.reads
           (ap read same ∙ introduced.reads) in
-          let requests : asked introduced.shake.ask ≡ asks.Requests = ap (λ (x : Shake). asked x.ask) (sym shake_is) ∙ promised-so.asks in
+          let requests : asked introduced.shake.ask ≡ asks.Requests = ap (λ (x : Shake). asked x.ask) (sym shake_is)
+          ∙ promised-so.asks in
           elim introduced.asks [ inl meets ↦ cc | inr answers ↦ let other = answers.0 in cc ]
     ]
 
@@ -138,7 +146,8 @@ module _ {C : Type 0} (w : Ways C) where
         let same = reads-handshake (read bytes) promised-so.stamp 0 promised-so.shake shake promised-so.reads reads in
         let so : read bytes ≡ Ok (Handshake promised-so.stamp 0 shake) =
         promised-so.reads ∙ ap (λ (x : Shake). Ok (Handshake promised-so.stamp 0 x)) same in
-        let values = unlinked-can_open (config_by w socket.way) (start_by w socket.way) listener (way-can_open socket.own socket.way is.in_range)
+        let values = unlinked-can_open (config_by w socket.way) (start_by w socket.way) listener
+        (way-can_open socket.own socket.way is.in_range)
         is-unlinked in
         let packet = subst (λ (x : Shake). SIZE_OVER_PAYLOAD < x.packet) same
         (request-packet promised-so.backlog.listening promised-so.shake from _ _ promised-so.judges) in

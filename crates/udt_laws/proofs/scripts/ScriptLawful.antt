@@ -65,7 +65,8 @@ module _ {C : Type 0} where
     | inr there ↦ inr there
   ]
 
-  later : (k : ℕ) (addr : Addr) (way : Way) (ways : List Way) (socket : ScriptSocket C) (sockets : List (ScriptSocket C)) (enrolled : Enrolled C)
+  later : (k : ℕ) (addr : Addr) (way : Way) (ways : List Way) (socket : ScriptSocket C) (sockets : List (ScriptSocket C))
+      (enrolled : Enrolled C)
       → IsOne (suc k) addr ways sockets enrolled → IsOne k addr (way ∷ ways) (socket ∷ sockets) enrolled
   later k addr way ways socket sockets enrolled one =
       let place : suc k + one.place ≡ k + suc one.place = omega arith in
@@ -85,7 +86,8 @@ module _ {C : Type 0} where
   is-one k addr [] sockets enrolled among = absurd (omega (arith, among.1))
   is-one k addr (way ∷ ways) [] enrolled among = absurd (omega (arith, among.1))
   is-one k addr (way ∷ ways) (socket ∷ sockets) enrolled among =
-      elim (onto-cases (same_addr socket.host addr) (enrolled_at k way socket) enrolled (those_at (suc k) addr ways sockets) among) [
+      elim (onto-cases (same_addr socket.host addr) (enrolled_at k way socket) enrolled (those_at (suc k) addr ways sockets)
+      among) [
         | inl here ↦
             let place : k ≡ k + 0 = omega arith in
             record {
@@ -109,7 +111,8 @@ module _ {C : Type 0} where
   onto-there true one enrolled others among = Contains-append_right (one ∷ []) others enrolled among
   onto-there false one enrolled others among = among
 
-  one-is : (k : ℕ) (addr : Addr) (ways : List Way) (sockets : List (ScriptSocket C)) (place : ℕ) (way : Way) (socket : ScriptSocket C)
+  one-is : (k : ℕ) (addr : Addr) (ways : List Way) (sockets : List (ScriptSocket C)) (place : ℕ) (way : Way)
+      (socket : ScriptSocket C)
       → slice_get ways place ≡ Some way → slice_get sockets place ≡ Some socket → socket.host ≡ addr
       → Contains (those_at k addr ways sockets) (enrolled_at (k + place) way socket)
   unfolding those_at
@@ -118,10 +121,12 @@ module _ {C : Type 0} where
   one-is k addr (first_way ∷ ways) (first ∷ sockets) zero way socket way_at at host =
       let way_is : first_way ≡ way = cc in
       let is : first ≡ socket = cc in
-      let test : same_addr first.host addr ≡ true = ap (λ (a : Addr). same_addr a addr) (ap (λ (s : ScriptSocket C). s.host) is ∙ host) ∙ same-addr addr in
+      let test : same_addr first.host addr ≡ true = ap (λ (a : Addr). same_addr a addr)
+      (ap (λ (s : ScriptSocket C). s.host) is ∙ host) ∙ same-addr addr in
       let place : k ≡ k + 0 = omega arith in
       let all = those_at k addr (first_way ∷ ways) (first ∷ sockets) in
-      let here = onto-here (same_addr first.host addr) (enrolled_at k first_way first) (those_at (suc k) addr ways sockets) test in
+      let here = onto-here (same_addr first.host addr) (enrolled_at k first_way first) (those_at (suc k) addr ways sockets)
+      test in
       subst (λ (s : ScriptSocket C). Contains all (enrolled_at (k + 0) way s)) is
       (subst (λ (x : Way). Contains all (enrolled_at (k + 0) x first)) way_is
       (subst (λ (j : ℕ). Contains all (enrolled_at j first_way first)) place here))
@@ -161,17 +166,20 @@ module _ {C : Type 0} (w : Ways C) (n : Network C) (is : IsNetwork w n) where
         at = one.at;
         host = one.host;
         has = has;
-        is_it = one.is ∙ ap (λ (j : ℕ). enrolled_at j one.way one.socket) place ∙ ap (λ (x : Way). enrolled_at one.place x one.socket) way;
+        is_it = one.is ∙ ap (λ (j : ℕ). enrolled_at j one.way one.socket) place
+            ∙ ap (λ (x : Way). enrolled_at one.place x one.socket) way;
       }
 
-  holds : (place : ℕ) (way : Way) (socket : ScriptSocket C) → slice_get is.ways place ≡ Some way → slice_get n.sockets place ≡ Some socket
+  holds : (place : ℕ) (way : Way) (socket : ScriptSocket C) → slice_get is.ways place ≡ Some way
+      → slice_get n.sockets place ≡ Some socket
       → Contains (record_at socket.host).sockets (enrolled_at place way socket)
   holds place way socket way_at at =
       let same : 0 + place ≡ place = omega arith in
       subst (λ (j : ℕ). Contains (record_at socket.host).sockets (enrolled_at j way socket)) same
       (one-is 0 socket.host is.ways n.sockets place way socket way_at at refl)
 
-  stands-at : (place : ℕ) (way : Way) (socket : ScriptSocket C) → slice_get is.ways place ≡ Some way → slice_get n.sockets place ≡ Some socket
+  stands-at : (place : ℕ) (way : Way) (socket : ScriptSocket C) → slice_get is.ways place ≡ Some way
+      → slice_get n.sockets place ≡ Some socket
       → StandsAt net socket.host (enrolled_at place way socket)
   stands-at place way socket way_at at = record {
     endpoint = record_at socket.host;
@@ -182,7 +190,8 @@ module _ {C : Type 0} (w : Ways C) (n : Network C) (is : IsNetwork w n) where
 
   -- ---- they are lawful
 
-  same-held : (addr : Addr) (enrolled other : Enrolled C) (a : IsHeld addr enrolled) (b : IsHeld addr other) → a.place ≡ b.place → enrolled ≡ other
+  same-held : (addr : Addr) (enrolled other : Enrolled C) (a : IsHeld addr enrolled) (b : IsHeld addr other)
+      → a.place ≡ b.place → enrolled ≡ other
   same-held addr enrolled other a b same =
       let here = subst (λ (j : ℕ). slice_get n.sockets j ≡ Some a.socket) same a.at in
       let socket = found-once n.sockets b.place a.socket b.socket here b.at in
@@ -201,7 +210,8 @@ module _ {C : Type 0} (w : Ways C) (n : Network C) (is : IsNetwork w n) where
         bytes = was.bytes;
         stamp = was.stamp;
         shake = was.shake;
-        among = subst (λ (a : Addr). Contains (record_at a).sockets (enrolled_at was.place has.way was.listener)) (was.host_is ∙ at_host)
+        among = subst (λ (a : Addr). Contains (record_at a).sockets (enrolled_at was.place has.way was.listener))
+            (was.host_is ∙ at_host)
             (holds was.place has.way was.listener has.at was.at);
         same_kind = was.same_kind;
         happened = was.happened;
@@ -212,21 +222,25 @@ module _ {C : Type 0} (w : Ways C) (n : Network C) (is : IsNetwork w n) where
         isn_is = was.isn_is;
       }
 
-  mated : (place : ℕ) (socket : ScriptSocket C) (addr : Addr) (way : Way) → socket.host ≡ addr → HasMate is.ways n.sockets place socket.host way
+  mated : (place : ℕ) (socket : ScriptSocket C) (addr : Addr) (way : Way) → socket.host ≡ addr
+      → HasMate is.ways n.sockets place socket.host way
       → IsPaired net addr (enrolled_at place way socket)
   mated place socket addr way at_host mate =
       record {
         other_addr = mate.other.host;
         other = enrolled_at mate.place mate.other_way mate.other;
         stands = stands-at mate.place mate.other_way mate.other mate.way_at mate.at;
-        paired = subst (λ (a : Addr). ArePaired a (place + 1) way mate.other.host (mate.place + 1) mate.other_way) at_host mate.are;
+        paired = subst (λ (a : Addr). ArePaired a (place + 1) way mate.other.host (mate.place + 1) mate.other_way)
+            at_host mate.are;
       }
 
-  asked-for : (place : ℕ) (socket : ScriptSocket C) (addr : Addr) (way : Way) → socket.host ≡ addr → WasAsked is.ways n.sockets place socket.host way
+  asked-for : (place : ℕ) (socket : ScriptSocket C) (addr : Addr) (way : Way) → socket.host ≡ addr
+      → WasAsked is.ways n.sockets place socket.host way
       → IsAsked net (record_at addr) (enrolled_at place way socket) way
   asked-for place socket addr (Opened isn config now) at_host was = tt
   asked-for place socket addr (Paired config peer now) at_host was = requested addr socket.host config peer at_host was
-  asked-for place socket addr (PairedAt config peer now start) at_host was = mated place socket addr (PairedAt config peer now start) at_host was
+  asked-for place socket addr (PairedAt config peer now start) at_host was = mated place socket addr
+      (PairedAt config peer now start) at_host was
 
   socket-is : (addr : Addr) (enrolled : Enrolled C) → Contains (record_at addr).sockets enrolled → IsSocket w enrolled
   socket-is addr enrolled among =
@@ -242,19 +256,22 @@ module _ {C : Type 0} (w : Ways C) (n : Network C) (is : IsNetwork w n) where
     ids = λ socket other among other_among own.
         let a = held addr socket among in
         let b = held addr other other_among in
-        let place = same-own socket other a.place b.place (ap (λ (e : Enrolled C). e.own) a.is_it) (ap (λ (e : Enrolled C). e.own) b.is_it) own in
+        let place = same-own socket other a.place b.place (ap (λ (e : Enrolled C). e.own) a.is_it)
+        (ap (λ (e : Enrolled C). e.own) b.is_it) own in
         same-held addr socket other a b place;
     peers = λ socket other peer among other_among names other_names.
         let a = held addr socket among in
         let b = held addr other other_among in
         let first = subst (λ (e : Enrolled C). own_peer w e.history ≡ Some peer) a.is_it names in
         let second = subst (λ (e : Enrolled C). own_peer w e.history ≡ Some peer) b.is_it other_names in
-        same-held addr socket other a b (is.peers a.place b.place a.socket b.socket peer a.at b.at (a.host ∙ sym b.host) first second);
+        same-held addr socket other a b
+        (is.peers a.place b.place a.socket b.socket peer a.at b.at (a.host ∙ sym b.host) first second);
     addressed = λ socket emission packet among. addressed w socket emission packet (socket-is addr socket among);
     named = λ socket emission stamp dest shake among. named w socket emission stamp dest shake (socket-is addr socket among);
     met = λ socket among.
         let a = held addr socket among in
-        subst (λ (e : Enrolled C). IsAsked net (record_at addr) e e.way) (sym a.is_it) (asked-for a.place a.socket addr a.has.way a.host a.has.asked);
+        subst (λ (e : Enrolled C). IsAsked net (record_at addr) e e.way) (sym a.is_it)
+        (asked-for a.place a.socket addr a.has.way a.host a.has.asked);
   }
 
   records-lawful : AreLawful w net
@@ -265,7 +282,8 @@ module _ {C : Type 0} (w : Ways C) (n : Network C) (is : IsNetwork w n) where
     addresses = λ endpoint other among other_among same.
         let one = map-among record_at (addresses n.hosts) endpoint among in
         let two = map-among record_at (addresses n.hosts) other other_among in
-        let addr : one.0 ≡ two.0 = ap (λ (e : EndpointRecord C). e.addr) one.2 ∙ same ∙ sym (ap (λ (e : EndpointRecord C). e.addr) two.2) in
+        let addr : one.0 ≡ two.0 = ap (λ (e : EndpointRecord C). e.addr) one.2 ∙ same
+        ∙ sym (ap (λ (e : EndpointRecord C). e.addr) two.2) in
         sym one.2 ∙ ap record_at addr ∙ two.2;
   }
 
