@@ -38,7 +38,7 @@ use Rattle.udt_laws.proofs.scripts.KeptPeers.{HaveOwnPeers, MayTake, add-keeps_p
 use Rattle.udt_laws.proofs.scripts.LineRanges.{IsPairing, IsOpeningLine}
 use Rattle.udt_laws.proofs.scripts.MadeSockets.{same-bytes, no-peer, is-promised}
 use Rattle.udt_laws.proofs.scripts.ReplacedOne.{append-first, append-second, append-found, found-once}
-use Rattle.udt_laws.proofs.scripts.ScriptNetworks.{IsFixed, IsPairedAt, named_addresses, addresses, HasWay, IsNetwork, set-keeps, add-keeps, host-keeps, paired-peer, fixed-below}
+use Rattle.udt_laws.proofs.scripts.ScriptNetworks.{IsFixed, IsPairedAt, named_addresses, addresses, HasWay, IsNetwork, set-keeps, add-keeps, host-keeps, same-id, paired-peer, fixed-below}
 use Rattle.udt_laws.proofs.scripts.UnadoptedPair.{same-addr, unadopted}
 
 -- ---- addresses
@@ -86,9 +86,6 @@ none-found k x found = cc
 hosts-apart : first_host ≡ second_host → ⊥
 hosts-apart same = let ip : same_addr first_host second_host ≡ true = ap (same_addr first_host) (sym same)
     ∙ same-addr first_host in cc
-
-same-pair : (a b : PeerPair) → Some a ≡ Some b → a.id ≡ b.id
-same-pair a b is = cc
 
 arrives-not : (act : Act) (from : Addr) (bytes : List ℕ) → act ≡ Arrive from bytes → is_arrival act ≡ false → ⊥
 arrives-not act from bytes is calls = cc
@@ -370,7 +367,7 @@ module _ {C : Type 0} (w : Ways C) where
         → own_peer w a.history ≡ Some peer → own_peer w other.history ≡ Some peer → ⊥
     unfolding after_items opening
     first-alone m other peer found host mine its =
-        let id = same-pair (record { addr = second_host; id = length n.sockets + 2 }) peer mine in
+        let id = same-id (record { addr = second_host; id = length n.sockets + 2 }) peer mine in
         let below = fixed-below w n is m other peer found (inl host) its in
         omega (arith, id, below)
 
@@ -380,7 +377,7 @@ module _ {C : Type 0} (w : Ways C) where
     unfolding after_items opening
     second-alone m other peer found host mine its = elim (append-found n.sockets (a ∷ []) m other found) [
       | inl old ↦
-          let id = same-pair (record { addr = first_host; id = length n.sockets + 1 }) peer mine in
+          let id = same-id (record { addr = first_host; id = length n.sockets + 1 }) peer mine in
           let below = fixed-below w n is m other peer old (inr host) its in
           omega (arith, id, below)
       | inr past ↦ each-one a (λ j x. x.host ≡ second_host → ⊥) (λ same. hosts-apart same) past.0 other past.2 host

@@ -14,23 +14,10 @@ use Rattle.udt_model.specs.Script.{network_after}
 use Rattle.udt_model.proofs.AddressLemmas.{same_addr-is}
 use Rattle.udt_laws.specs.Scripts.{enrolled_at, IsAmong, HasLawfulRecords, ScriptLawful}
 use Rattle.udt_laws.proofs.scripts.KeepsNetwork.{script-network}
-use Rattle.udt_laws.proofs.scripts.ReplacedOne.{found-once, map-among}
+use Rattle.udt_laws.proofs.scripts.ReplacedOne.{found-once, map-among, among-map}
 use Rattle.udt_laws.proofs.scripts.ScriptNetworks.{addresses, WasRequested, HasMate, WasAsked, HasWay, IsNetwork}
 use Rattle.udt_laws.proofs.scripts.UnadoptedPair.{same-addr}
 use Rattle.udt_laws.proofs.sent_blocks.SocketsSend.{addressed, named}
-
--- a mapped list contains what an element becomes
-among-map : {X Y : Type 0} (f : X → Y) (xs : List X) (x : X) → Contains xs x → Contains (map f xs) (f x)
-among-map f [] x among = absurd (omega (arith, among.1))
-among-map f (first ∷ others) x among =
-    elim (Contains-append_cases (first ∷ []) others x among) [
-      | inl here ↦ elim (Contains-push_cases [] first x here) [
-        | inl none ↦ absurd (omega (arith, none.1))
-        | inr same ↦ subst (λ y. Contains (map f (first ∷ others)) (f y)) same
-            (Contains-append_left (f first ∷ []) (map f others) (f first) (Contains-push [] (f first)))
-      ]
-      | inr there ↦ Contains-append_right (f first ∷ []) (map f others) (f x) (among-map f others x there)
-    ]
 
 module _ {C : Type 0} where
   -- the sockets at an address, with the IDs after their places, from this place on

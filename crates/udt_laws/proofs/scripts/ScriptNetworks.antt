@@ -40,6 +40,10 @@ named_addresses hosts = map (λ (host : ScriptHost). host.addr) hosts
 abbrev pub addresses : List ScriptHost → List Addr
 addresses hosts = (first_host ∷ second_host ∷ []) ++ named_addresses hosts
 
+-- what names one pair names one ID
+pub same-id : (a b : PeerPair) → Some a ≡ Some b → a.id ≡ b.id
+same-id a b is = cc
+
 -- ways stay as they are, and others may follow
 abbrev pub WaysGrow : List Way → List Way → Type 0
 WaysGrow ways more = (k : ℕ) (way : Way) → slice_get ways k ≡ Some way → slice_get more k ≡ Some way
@@ -288,9 +292,6 @@ module _ {C : Type 0} (w : Ways C) where
   paired-peer own config peer now start h is =
       own_peer-stays w own (PairedAt config peer now start) h.opening [] h.items (record { addr = peer.addr; id = peer.id }) is
       (ap (λ (s : State C). peer_by s.origin s.peer) is)
-
-  same-id : (a b : PeerPair) → Some a ≡ Some b → a.id ≡ b.id
-  same-id a b is = cc
 
   mate-below : (n : Network C) (is : IsNetwork n) (k : ℕ) (socket : ScriptSocket C) (peer : PeerPair) (way : Way) → IsPairedAt way
       → IsSocket w (enrolled_at k way socket)
