@@ -1,6 +1,6 @@
 -- The events by which a socket comes by a connection emit nothing, and answer never that the events are spent.
 use Rattle.std.proofs.Common.{◌≡◌, ℕ, Bool, true, false, List, [], ◌∷◌, refl, sym, ◌∙◌}
-use Rattle.std.specs.Prelude.{◌≢◌, Result, Ok, Err}
+use Rattle.std.specs.Prelude.{◌≢◌, Result, Err}
 use Rattle.udt_model.specs.declared.addresses.Addr.{Addr}
 use Rattle.udt_model.specs.declared.answers.Refusal.{Refusal}
 use Rattle.udt_model.specs.declared.answers.Refusal.TheVariants as refusal
