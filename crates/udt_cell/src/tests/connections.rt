@@ -46,22 +46,80 @@ fn a_listener_and_a_client_are_shared(rt: HostRuntime) -> Result<(), Fail> {
     let ticked = client.tick(&rt, &mut second, 0, &mut outs, &FreeGate);
     assert!(rt; ticked == Ok(()));
     let (server, asker) = (addr_of(1), addr_of(2));
-    assert_eq!(rt; deliver(&rt, &listener, &mut first, 1_000, asker, &outs, &mut answers), 1);
-    assert_eq!(rt; deliver(&rt, &client, &mut second, 2_000, server, &answers, &mut outs), 1);
-    assert_eq!(rt; deliver(&rt, &listener, &mut first, 3_000, asker, &outs, &mut answers), 1);
+    assert_eq!(rt;
+        deliver(
+            &rt,
+            &listener,
+            &mut first,
+            1_000,
+            asker,
+            &outs,
+            &mut answers
+        ),
+        1
+    );
+    assert_eq!(rt;
+        deliver(
+            &rt,
+            &client,
+            &mut second,
+            2_000,
+            server,
+            &answers,
+            &mut outs
+        ),
+        1
+    );
+    assert_eq!(rt;
+        deliver(
+            &rt,
+            &listener,
+            &mut first,
+            3_000,
+            asker,
+            &outs,
+            &mut answers
+        ),
+        1
+    );
     // the place that is promised is taken back once
     assert!(rt; listener.accept(&rt, &mut first, 3_000) == Err(Refusal::AgainRecv));
     assert!(rt; listener.withdraw(&rt, &mut first, 3_000) == Ok(()));
     assert!(rt; listener.offer(&rt, &mut first, 3_000, 3) == Ok(false));
-    assert_eq!(rt; deliver(&rt, &listener, &mut first, 3_000, asker, &outs, &mut answers), 1);
+    assert_eq!(rt;
+        deliver(
+            &rt,
+            &listener,
+            &mut first,
+            3_000,
+            asker,
+            &outs,
+            &mut answers
+        ),
+        1
+    );
     assert!(rt; listener.offer(&rt, &mut first, 3_000, 3) == Ok(true));
     assert!(rt; listener.accept(&rt, &mut first, 3_000) == Ok(3));
     // the socket that was made for it answers the request
     let Some((made, mut third)) = opened_as(rt.alloc(), STREAM, 3, 2, 0) else {
         panic!(rt; "no memory")
     };
-    assert_eq!(rt; deliver(&rt, &made, &mut third, 3_000, asker, &outs, &mut answers), 1);
-    assert_eq!(rt; deliver(&rt, &client, &mut second, 4_000, server, &answers, &mut outs), 1);
+    assert_eq!(rt;
+        deliver(&rt, &made, &mut third, 3_000, asker, &outs, &mut answers),
+        1
+    );
+    assert_eq!(rt;
+        deliver(
+            &rt,
+            &client,
+            &mut second,
+            4_000,
+            server,
+            &answers,
+            &mut outs
+        ),
+        1
+    );
     assert!(rt; client.shake(&rt, &mut second, 4_000) == Ok(Shaken::Done));
     assert!(rt; client.port_down(&rt, &mut second, 5_000) == Ok(()));
     let lost = client.shake(&rt, &mut second, 5_000);
@@ -88,9 +146,18 @@ fn two_shared_sockets_meet(rt: HostRuntime) -> Result<(), Fail> {
     let ticked = a.tick(&rt, &mut first, 0, &mut outs, &FreeGate);
     assert!(rt; ticked == Ok(()));
     let (here, there) = (addr_of(1), addr_of(2));
-    assert_eq!(rt; deliver(&rt, &b, &mut second, 1_000, here, &outs, &mut answers), 1);
-    assert_eq!(rt; deliver(&rt, &a, &mut first, 2_000, there, &answers, &mut outs), 1);
-    assert_eq!(rt; deliver(&rt, &b, &mut second, 3_000, here, &outs, &mut answers), 1);
+    assert_eq!(rt;
+        deliver(&rt, &b, &mut second, 1_000, here, &outs, &mut answers),
+        1
+    );
+    assert_eq!(rt;
+        deliver(&rt, &a, &mut first, 2_000, there, &answers, &mut outs),
+        1
+    );
+    assert_eq!(rt;
+        deliver(&rt, &b, &mut second, 3_000, here, &outs, &mut answers),
+        1
+    );
     assert!(rt; a.shake(&rt, &mut first, 4_000) == Ok(Shaken::Done));
     assert!(rt; b.shake(&rt, &mut second, 4_000) == Ok(Shaken::Done));
     assert!(rt; a.look(&mut first).count == 4 && b.look(&mut second).count == 5);
@@ -98,9 +165,7 @@ fn two_shared_sockets_meet(rt: HostRuntime) -> Result<(), Fail> {
 }
 
 #[test]
-fn no_socket_comes_by_a_connection_once_its_events_are_spent(
-    rt: HostRuntime,
-) -> Result<(), Fail> {
+fn no_socket_comes_by_a_connection_once_its_events_are_spent(rt: HostRuntime) -> Result<(), Fail> {
     let Some((socket, mut pass)) = opened(rt.alloc(), 1, (1 << 55) - 1) else {
         panic!(rt; "no memory")
     };
