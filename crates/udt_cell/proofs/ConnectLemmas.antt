@@ -53,7 +53,8 @@ accepted_is : (a b : Result ℕ Refusal) → Accepted a ≡ Accepted b → a ≡
 accepted_is a b e = cc
 
 module _ {C : Type 0} (w : Ways C) where
-  pub listen_quiet : (s : State C) (now backlog : ℕ) (secret : List ℕ) → [] ≡ outs_of (step w s (event now (Listen backlog secret)))
+  pub listen_quiet : (s : State C) (now backlog : ℕ) (secret : List ℕ)
+      → [] ≡ outs_of (step w s (event now (Listen backlog secret)))
   unfolding step
   listen_quiet s now backlog secret = refl
 

@@ -9,7 +9,8 @@ impl<C: Control> BoxedSocket<C> {
     ghost use Rattle.std.specs.Prelude.{◌≡◌, ◌≢◌, ◌<◌, ◌≤◌, [], Err};
     ghost use Rattle.std.specs.Prelude.{IfOk, OnOk, OnErr};
     ghost use Rattle.udt_model.specs.Events.{Listen, Connect, Meet, Accept, Shake, Offer, Withdraw, PortDown, event};
-    ghost use Rattle.udt_model.specs.Events.{DidListen, DidConnect, DidMeet, Accepted, DidShake, DidOffer, DidWithdraw, DidPortDown};
+    ghost use Rattle.udt_model.specs.Events.{DidListen, DidConnect, DidMeet, Accepted};
+    ghost use Rattle.udt_model.specs.Events.{DidShake, DidOffer, DidWithdraw, DidPortDown};
     ghost use Rattle.udt_cell.specs.Entries.{entry, Follows, last_count};
 
     // A call of `listen`, where the socket may have a further event. Without memory it has none.
@@ -37,7 +38,8 @@ impl<C: Control> BoxedSocket<C> {
     // A call of `connect`, where the socket may have a further event.
     #[tactic(auto, using(crate::proofs::ConnectLemmas::connect_quiet, crate::proofs::ConnectLemmas::connect_unspent))]
     pub(crate) fn connect(&mut self, now: u64, to: Addr) -> Result<Result<(), Refusal>, EventsSpent>
-        ensures ok { IfOk result (λ answer. Follows C.ways (entry (event now (Connect to)) (DidConnect answer) []) self.old self.new) }
+        ensures ok { IfOk result (λ answer. Follows C.ways
+            (entry (event now (Connect to)) (DidConnect answer) []) self.old self.new) }
         ensures reason { IfOk result (λ answer. answer ≢ Err Refusal.EventsSpent) }
         ensures spent { OnErr result (last_count ≤ self.old.count) }
         ensures err { OnErr result (self.new ≡ self.old) }
@@ -51,7 +53,8 @@ impl<C: Control> BoxedSocket<C> {
     // A call of `meet`, where the socket may have a further event.
     #[tactic(auto, using(crate::proofs::ConnectLemmas::meet_quiet, crate::proofs::ConnectLemmas::meet_unspent))]
     pub(crate) fn meet(&mut self, now: u64, to: Addr) -> Result<Result<(), Refusal>, EventsSpent>
-        ensures ok { IfOk result (λ answer. Follows C.ways (entry (event now (Meet to)) (DidMeet answer) []) self.old self.new) }
+        ensures ok { IfOk result (λ answer. Follows C.ways
+            (entry (event now (Meet to)) (DidMeet answer) []) self.old self.new) }
         ensures reason { IfOk result (λ answer. answer ≢ Err Refusal.EventsSpent) }
         ensures spent { OnErr result (last_count ≤ self.old.count) }
         ensures err { OnErr result (self.new ≡ self.old) }
@@ -65,7 +68,8 @@ impl<C: Control> BoxedSocket<C> {
     // A call of `accept`, where the socket may have a further event.
     #[tactic(auto, using(crate::proofs::ConnectLemmas::accept_quiet, crate::proofs::ConnectLemmas::accept_unspent))]
     pub(crate) fn accept(&mut self, now: u64) -> Result<Result<u32, Refusal>, EventsSpent>
-        ensures ok { IfOk result (λ answer. Follows C.ways (entry (event now Accept) (Accepted answer) []) self.old self.new) }
+        ensures ok { IfOk result (λ answer. Follows C.ways
+            (entry (event now Accept) (Accepted answer) []) self.old self.new) }
         ensures reason { IfOk result (λ answer. answer ≢ Err Refusal.EventsSpent) }
         ensures spent { OnErr result (last_count ≤ self.old.count) }
         ensures err { OnErr result (self.new ≡ self.old) }
@@ -79,7 +83,8 @@ impl<C: Control> BoxedSocket<C> {
     // A call of `shake`, where the socket may have a further event.
     #[tactic(auto, using(crate::proofs::ConnectLemmas::shake_quiet))]
     pub(crate) fn shake(&mut self, now: u64) -> Result<Shaken, EventsSpent>
-        ensures ok { IfOk result (λ answer. Follows C.ways (entry (event now Shake) (DidShake answer) []) self.old self.new) }
+        ensures ok { IfOk result (λ answer. Follows C.ways
+            (entry (event now Shake) (DidShake answer) []) self.old self.new) }
         ensures spent { OnErr result (last_count ≤ self.old.count) }
         ensures err { OnErr result (self.new ≡ self.old) }
     {
@@ -92,7 +97,8 @@ impl<C: Control> BoxedSocket<C> {
     // A call of `offer`, where the socket may have a further event.
     #[tactic(auto, using(crate::proofs::ConnectLemmas::offer_quiet))]
     pub(crate) fn offer(&mut self, now: u64, id: u32) -> Result<bool, EventsSpent>
-        ensures ok { IfOk result (λ answer. Follows C.ways (entry (event now (Offer id)) (DidOffer answer) []) self.old self.new) }
+        ensures ok { IfOk result (λ answer. Follows C.ways
+            (entry (event now (Offer id)) (DidOffer answer) []) self.old self.new) }
         ensures spent { OnErr result (last_count ≤ self.old.count) }
         ensures err { OnErr result (self.new ≡ self.old) }
     {
