@@ -1,5 +1,12 @@
 pub mod EventLemmas
 pub mod ActLemmas
+pub mod FirstLemmas
+pub mod KeyLemmas
+pub mod FollowLemmas
+pub mod ToldLemmas
+pub mod MovedLemmas
+pub mod WiredLemmas
+pub mod AlikeLemmas
 pub mod PlaceLemmas
 pub mod ClosedLemmas
 pub mod HostLemmas
@@ -13,3 +20,7 @@ pub mod TranscriptLemmas
 pub mod WorldLemmas
 pub mod CountedLemmas
 pub mod RunLemmas
+pub mod NameLemmas
+pub mod PushLemmas
+pub mod EmptyLemmas
+pub mod AddedLemmas
