@@ -20,6 +20,7 @@ pub mod TranscriptLemmas
 pub mod WorldLemmas
 pub mod CountedLemmas
 pub mod RunLemmas
+pub mod ScriptLaws
 pub mod NameLemmas
 pub mod PushLemmas
 pub mod EmptyLemmas
