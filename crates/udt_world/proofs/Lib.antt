@@ -1,4 +1,5 @@
 pub mod EventLemmas
+pub mod ActLemmas
 pub mod PlaceLemmas
 pub mod ClosedLemmas
 pub mod HostLemmas

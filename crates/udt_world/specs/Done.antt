@@ -1,11 +1,20 @@
 -- What a line does to a network that is shown.
 use Rattle.std.specs.Prelude.{◌≡◌, ℕ, Bool, true, false, List, ◌++◌, Option, Some, None, slice_get}
+use Rattle.udt_model.specs.Lines.{Line, PairLine, OpenLine, AcceptLine}
 use Rattle.udt_model.specs.Network as model
 use Rattle.udt_model.specs.Rate.{Ways}
 use Rattle.udt_model.specs.Script as model_script
+use Rattle.udt_model.specs.Words.{is_name}
 use Rattle.udt_world.specs.declared.arrivals.Route.{Route}
 use Rattle.udt_world.specs.declared.arrivals.Route.TheVariants as to
 use Rattle.udt_world.specs.Views.{View, Shows}
+
+-- the names that a line gives are such as begin with a letter
+abbrev pub GivesNames : Line → Type 0
+GivesNames (PairLine p) = (is_name p.a ≡ true) × (is_name p.b ≡ true)
+GivesNames (OpenLine o) = is_name o.name ≡ true
+GivesNames (AcceptLine name now accepted) = is_name accepted ≡ true
+GivesNames other = Unit {0}
 
 module _ {C : Type 0} (w : Ways C) where
   -- where the definitions say what a line does, it was done and printed; where they refuse it, nothing changed

@@ -1,22 +1,27 @@
 -- What the endpoints of a script know of its sockets, and where the sockets of a name stand.
-use Rattle.std.specs.Prelude.{◌≡◌, ℕ, ◌+◌, ◌-◌, ◌≤◌, ◌<◌, ◌==◌, Bool, false, not, ◌&&◌, List, [], ◌∷◌, ◌++◌, length, map, Option, Some, None, slice_get, position, is_some, option_map, sum_by, vec_len, if◌then◌else◌}
+use Rattle.std.specs.Prelude.{◌≡◌, ℕ, ◌+◌, ◌-◌, ◌≤◌, ◌<◌, ◌==◌, Bool, false, not, ◌&&◌, List, [], ◌∷◌, ◌++◌, length, map, Option, Some, None, slice_get, position, is_some, option_map, sum_by, vec_len, decimal, ◌⊎◌, if◌then◌else◌}
 use Rattle.std.specs.List.{Contains}
 use Rattle.std.specs.Map.{lookup}
+use Rattle.std.specs.Ordering.{nat_cmp}
 use Rattle.udt_model.specs.declared.addresses.Addr.{Addr}
+use Rattle.udt_model.specs.declared.answers.Origin.{Origin}
+use Rattle.udt_model.specs.declared.answers.Origin.TheVariants as origin
+use Rattle.udt_model.specs.declared.answers.Peer.{Peer}
 use Rattle.udt_model.specs.declared.limits.TheConstants.{MOST_SOCKETS}
 use Rattle.udt_model.specs.declared.packets.Shake.{Shake}
 use Rattle.udt_model.specs.Addresses.{same_addr}
 use Rattle.udt_model.specs.Events.{Act, Listen, Meet, Offer, Arrive}
 use Rattle.udt_model.specs.Network.{is_host, is_met, is_pair}
-use Rattle.udt_model.specs.Phases.{Phase, Listening, is_closed}
+use Rattle.udt_model.specs.Phases.{Phase, Opened, Listening, Connecting, Meeting, is_closed}
 use Rattle.udt_model.specs.Records.{PeerPair, peer_by}
 use Rattle.udt_model.specs.Routes.{Known, handshake_in}
 use Rattle.udt_model.specs.State.{State}
 use Rattle.udt_model.specs.Wire.{read}
-use Rattle.udt_model.specs.Words.{is_word}
+use Rattle.udt_model.specs.Words.{is_name, is_word}
 use Rattle.udt_routes.specs.Meets.{IsMetOnce, can_meet}
 use Rattle.udt_routes.specs.Pairs.{Pair, adopter_of, pair_of, IsAdoptedOnce}
 use Rattle.udt_routes.specs.Routing.{found_in, known_by}
+use Rattle.udt_routes.specs.Sorted.{IsRising}
 use Rattle.udt_routes.specs.Tables.{Table, without, with_meeting}
 use Rattle.udt_world.specs.declared.hosts.TheConstants.{MOST_ENROLLED}
 use Rattle.udt_world.specs.declared.hosts.Endpoint.{Endpoint}
@@ -40,6 +45,28 @@ pair_in (Some peer) = Some (peer.addr, peer.id)
 
 abbrev pub one_if : Bool → ℕ
 one_if so = if so then 1 else 0
+
+-- the name of the socket at a place: its ID, or one that a line gave it
+abbrev pub IsGiven : ℕ → List ℕ → Type 0
+IsGiven place name = (name ≡ decimal (place + 1)) ⊎ (is_name name ≡ Bool.true)
+
+-- the connections that wait at a listener to be accepted
+abbrev pub waiting_at : Phase → List ℕ
+waiting_at (Listening backlog) = backlog.offered
+waiting_at other = []
+
+-- whom a meeting socket has adopted: its peer, or nobody
+abbrev pub IsAdopted : Option Peer → Origin → Peer → Type 0
+IsAdopted None from peer = from ≡ origin.Nobody
+IsAdopted (Some adopted) from peer = (from ≡ origin.Rendezvous) × (peer ≡ adopted)
+
+-- a socket has no peer until a handshake connects it, but a meeting one that has adopted it
+abbrev pub FitsPhase : Phase → Origin → Peer → Type 0
+FitsPhase Opened from peer = from ≡ origin.Nobody
+FitsPhase (Listening backlog) from peer = from ≡ origin.Nobody
+FitsPhase (Connecting client again) from peer = from ≡ origin.Nobody
+FitsPhase (Meeting meeting again) from peer = IsAdopted meeting.adopted from peer
+FitsPhase other from peer = Unit {0}
 
 module _ {C : Type 0} where
   -- a socket as it is opened
@@ -119,6 +146,8 @@ module _ {C : Type 0} where
     pub same : AreSame (known_by (found_in t) (adopter_of t.adoptions)) (seen_at sights host)
     pub adopted_once : IsAdoptedOnce t.adoptions
     pub met_once : IsMetOnce t.meetings
+    pub enrolled_rise : IsRising nat_cmp t.enrolled
+    pub meetings_rise : IsRising nat_cmp t.meetings
     pub ids : t.ids ≡ MOST_ENROLLED
     pub live : t.live ≡ MOST_ENROLLED
     pub enrolled : length t.enrolled ≤ length sights
@@ -148,11 +177,6 @@ module _ {C : Type 0} where
   abbrev pub place_seen : List (Sight C) → List ℕ → Option ℕ
   place_seen sights name = position (λ s. is_word s.name name) sights
 
-  -- the connections that wait at a listener to be accepted
-  abbrev pub waiting_at : Phase → List ℕ
-  waiting_at (Listening backlog) = backlog.offered
-  waiting_at other = []
-
   -- the sockets and the endpoints fit together
   pub record IsWired (network : Network C) : Type 0 where
     pub few : vec_len network.sockets ≤ MOST_SOCKETS
@@ -167,11 +191,18 @@ module _ {C : Type 0} where
         → Knows e.routes (sights_of network) e.addr
     -- each socket stands under its name
     pub names : (name : List ℕ) → place_under network name ≡ place_seen (sights_of network) name
+    -- and no other one has that name
+    pub called : (place : ℕ) (s : Sight C) → slice_get (sights_of network) place ≡ Some s
+        → place_seen (sights_of network) s.name ≡ Some place
+    pub given : (place : ℕ) (s : Sight C) → slice_get (sights_of network) place ≡ Some s → IsGiven place s.name
     -- its ID is the number after its place
     pub owns : (place : ℕ) (s : Sight C) → slice_get (sights_of network) place ≡ Some s → s.state.own ≡ place + 1
     -- what waits at a listener are sockets
     pub waits : (place id : ℕ) (s : Sight C) → slice_get (sights_of network) place ≡ Some s
         → Contains (waiting_at s.state.phase) id → (0 < id) × (id ≤ length (sights_of network))
+    -- a socket has the peer that fits its phase
+    pub peers : (place : ℕ) (s : Sight C) → slice_get (sights_of network) place ≡ Some s
+        → FitsPhase s.state.phase s.state.origin s.state.peer
     -- at most one socket of a host listens, one meets an address, and one has adopted a pair
     pub listens_once : (host : Addr) (i j : ℕ) (s t : Sight C) → slice_get (sights_of network) i ≡ Some s
         → slice_get (sights_of network) j ≡ Some t → listens host s ≡ Bool.true → listens host t ≡ Bool.true → i ≡ j
@@ -193,11 +224,13 @@ module _ {C : Type 0} where
     pub stands : HasAddress network.endpoints.items socket.endpoint socket.host
     pub own : socket.socket.own ≡ vec_len network.sockets + 1
     pub name : place_seen (sights_of network) socket.name.items ≡ None
+    pub given : IsGiven (vec_len network.sockets) socket.name.items
     pub live : is_closed socket.socket.phase ≡ Bool.false
     pub waits : waiting_at socket.socket.phase ≡ []
     pub listened : socket.listened ≡ Bool.false
     pub met : socket.met ≡ None
     pub peer : IsUnadopted (sights_of network) socket.host (peer_in (sight_of socket))
+    pub fits : FitsPhase socket.socket.phase socket.socket.origin socket.socket.peer
 
   -- what an act may need so that the sockets and the endpoints fit together after it: one that listens finds no listener at
   -- its host; one that meets an address finds none that meets it, and meets none yet; a connection that is offered is a

@@ -5,6 +5,7 @@ ghost use Rattle.udt_model.specs.Events.{event};
 ghost use Rattle.udt_model.specs.Lines.{AcceptLine, CallLine};
 ghost use Rattle.udt_model.specs.Network as model;
 ghost use Rattle.udt_model.specs.Script.{call_at, on_line};
+ghost use Rattle.udt_model.specs.Words.{is_name};
 ghost use Rattle.udt_script.specs.CodeLines.{act_of};
 ghost use Rattle.udt_world.specs.Done.{DoesLine};
 ghost use Rattle.udt_world.specs.Views.{view_of, Shows, Sight};
@@ -103,6 +104,7 @@ impl<C: Control + Drop> Network<C> {
         requires id { 0 < id }
         requires within { id ≤ vec_len self.old.sockets }
         requires name { place_seen (sights_of self.old) name.now ≡ None }
+        requires given { is_name name.now ≡ true }
         ensures view { OnOk result ((sight : Sight C) → slice_get (sights_of self.old) (id - 1) ≡ Some sight
             → view_of self.new ≡ record (view_of self.old) {
               sockets = slice_set (sights_of self.old) (id - 1) (record sight { name = name.now });
@@ -127,7 +129,8 @@ impl<C: Control + Drop> Network<C> {
         accepted: &[u8],
         out: &mut Vec<u8>,
     ) -> Result<bool, AllocError>
-        requires { IsWired self.old }
+        requires wired { IsWired self.old }
+        requires named { is_name accepted.now ≡ true }
         ensures done { IfOk result (λ did. (n : model.Network C) → Shows C.ways n (view_of self.old)
             → DoesLine C.ways n (on_line C.ways n (AcceptLine name.now now accepted.now)) did
             (view_of self.new) out.old.items out.new.items) }

@@ -1,11 +1,12 @@
 // New sockets: a pair, each the other's peer, and one without a connection.
 
-ghost use Rattle.std.specs.Prelude.{◌≡◌, ◌+◌, ◌<◌, ◌≤◌, ◌↔◌, ◌++◌, ◌∷◌, [], IsTrue, Ok, IfOk, IfSome, OnOk, OnErr, take, vec_len};
+ghost use Rattle.std.specs.Prelude.{◌≡◌, ◌+◌, ◌<◌, ◌≤◌, ◌↔◌, ◌++◌, ◌∷◌, [], IsTrue, true, Ok, IfOk, IfSome, OnOk, OnErr, take, vec_len};
 ghost use Rattle.udt_model.specs.declared.limits.TheConstants.{MOST_SOCKETS};
 ghost use Rattle.udt_model.specs.Lines.{OpenLine, PairLine};
 ghost use Rattle.udt_model.specs.Network as network;
 ghost use Rattle.udt_model.specs.Opening as model;
 ghost use Rattle.udt_model.specs.Script.{may_pair, on_line, open_config, pair_config, peer_of};
+ghost use Rattle.udt_model.specs.Words.{is_name};
 ghost use Rattle.udt_script.specs.CodeLines.{opening_of, pairing_of, IsOpenable, IsPairable};
 ghost use Rattle.udt_world.specs.Done.{DoesLine};
 ghost use Rattle.udt_world.specs.Views.{sight_of, view_of, Shows};
@@ -158,6 +159,8 @@ impl<C: Control + Drop> Network<C> {
     /// Opens two sockets, each the other's peer. False where a name is taken or there are too many.
     pub fn pair(&mut self, pairing: &Pairing, out: &mut Vec<u8>) -> Result<bool, AllocError>
         requires pairable { IsPairable pairing.now }
+        requires first { is_name pairing.now.a.now ≡ true }
+        requires second { is_name pairing.now.b.now ≡ true }
         requires wired { IsWired self.old }
         ensures done { IfOk result (λ did. (n : network.Network C) → Shows C.ways n (view_of self.old)
             → DoesLine C.ways n (on_line C.ways n (PairLine (pairing_of pairing.now))) did
@@ -191,6 +194,7 @@ impl<C: Control + Drop> Network<C> {
     /// given, or there are too many.
     pub fn open(&mut self, opening: &Opening, out: &mut Vec<u8>) -> Result<bool, AllocError>
         requires openable { IsOpenable opening.now }
+        requires named { is_name opening.now.name.now ≡ true }
         requires wired { IsWired self.old }
         ensures done { IfOk result (λ did. (n : network.Network C) → Shows C.ways n (view_of self.old)
             → DoesLine C.ways n (on_line C.ways n (OpenLine (opening_of opening.now))) did

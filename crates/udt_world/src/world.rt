@@ -6,7 +6,7 @@ ghost use Rattle.udt_model.specs.Script.{on_line, played_line, size_of, fits_aft
 ghost use Rattle.udt_model.specs.declared.limits.TheConstants.{LONGEST_SCRIPT};
 ghost use Rattle.udt_script.specs.CodeLines.{line_of, IsInRange};
 ghost use Rattle.udt_world.specs.Views.{view_of, Shows};
-ghost use Rattle.udt_world.specs.Done.{DoesLine};
+ghost use Rattle.udt_world.specs.Done.{DoesLine, GivesNames};
 ghost use Rattle.udt_world.specs.Kept.{kept_lines, items_of};
 ghost use Rattle.udt_world.specs.ScriptLines.{AnswersLine};
 ghost use Rattle.udt_world.specs.InStep.{AllAdoptBack, AreAllInStep, AllShowMessages};
@@ -56,6 +56,7 @@ fn do_line<C: Control + Drop>(
     out: &mut Vec<u8>,
 ) -> Result<bool, AllocError>
     requires range { IsInRange line.now }
+    requires names { GivesNames (line_of line.now) }
     requires wired { IsWired network.old }
     ensures done { IfOk result (λ did. (n : model.Network C) → Shows C.ways n (view_of network.old)
         → DoesLine C.ways n (on_line C.ways n (line_of line.now)) did
