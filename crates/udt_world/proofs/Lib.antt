@@ -4,6 +4,8 @@ pub mod FirstLemmas
 pub mod KeyLemmas
 pub mod FollowLemmas
 pub mod ToldLemmas
+pub mod MovedLemmas
+pub mod WiredLemmas
 pub mod PlaceLemmas
 pub mod ClosedLemmas
 pub mod HostLemmas
