@@ -19,3 +19,6 @@ pub mod TranscriptLemmas
 pub mod WorldLemmas
 pub mod CountedLemmas
 pub mod RunLemmas
+pub mod NameLemmas
+pub mod PushLemmas
+pub mod EmptyLemmas

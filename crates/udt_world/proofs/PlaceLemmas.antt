@@ -45,7 +45,7 @@ some_of : {A B : Type 0} (f : A → B) (o : Option A) (y : B) → option_map f o
 some_of f None y is = absurd (cc)
 some_of f (Some x) y is = (x, refl, cc)
 
-none_of : {A B : Type 0} (f : A → B) (o : Option A) → option_map f o ≡ None → o ≡ None
+pub none_of : {A B : Type 0} (f : A → B) (o : Option A) → option_map f o ≡ None → o ≡ None
 none_of f None is = refl
 none_of f (Some x) is = absurd (cc)
 
