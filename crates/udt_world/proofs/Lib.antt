@@ -6,6 +6,7 @@ pub mod FollowLemmas
 pub mod ToldLemmas
 pub mod MovedLemmas
 pub mod WiredLemmas
+pub mod AlikeLemmas
 pub mod PlaceLemmas
 pub mod ClosedLemmas
 pub mod HostLemmas
@@ -22,3 +23,4 @@ pub mod RunLemmas
 pub mod NameLemmas
 pub mod PushLemmas
 pub mod EmptyLemmas
+pub mod AddedLemmas

@@ -14,6 +14,6 @@ returns-clause-moves g c =
       sight = sight_of socket;
       hosts = refl;
       found = rw (slice_get-map sight_of network.sockets.items c.args.place, read) refl;
-      sockets = map-set sight_of network.sockets.items c.args.place (record socket { socket = c.happen.new.socket }) ∙ rw c.in_ok-happen.ensures.next refl;
-      datagrams = rw c.in_ok-happen.ensures.outs at c.in_ok-keep.ensures;
+      sockets = map-set sight_of network.sockets.items c.args.place c.note.new.self ∙ rw (c.note.ensures, c.in_ok-reply.ensures.next, c.in_ok-reply.ensures.value) refl;
+      datagrams = rw c.in_ok-reply.ensures.outs at c.in_ok-keep.ensures;
     }

@@ -1,0 +1,118 @@
+-- What tables know once there is one more socket.
+use Rattle.std.proofs.Common.{◌≡◌, ℕ, zero, suc, ◌+◌, ◌-◌, ◌≤◌, ◌<◌, ◌==◌, Bool, true, false, cond, List, [], ◌∷◌, ◌++◌, length, Some, None, Option, refl, ap, ◌∙◌, sym, arith, option_map}
+use Rattle.std.specs.Prelude.{slice_get, is_some, sum_by, if◌then◌else◌}
+use Rattle.std.proofs.lemmas.List.{length_push}
+use Rattle.std.proofs.lemmas.List.Sums.{sum_by_push}
+use Rattle.std.proofs.lemmas.Option.{slice_get_past}
+use Rattle.std.specs.Ordering.{is_eq, nat_cmp}
+use Rattle.udt_model.specs.declared.addresses.Addr.{Addr}
+use Rattle.udt_model.specs.Addresses.{same_addr}
+use Rattle.udt_model.specs.Phases.{is_closed}
+use Rattle.udt_routes.specs.Tables.{Table, what_of, with_enrolled}
+use Rattle.udt_world.specs.Views.{Sight}
+use Rattle.udt_world.specs.Wiring.{Knows, adopts, first_with, is_any, is_here, listens, meets, one_if, peer_in, sight_with}
+use Rattle.udt_world.proofs.KeyLemmas.{length_inserted, rising_inserted, value_inserted}
+use Rattle.udt_world.proofs.FirstLemmas.{with-place}
+use Rattle.udt_world.proofs.PushLemmas.{push_other}
+
+get-other : {A : Type 0} (xs : List A) (x : A) (k : ℕ) → (k ≡ length xs → ⊥) → slice_get (xs ++ x ∷ []) k ≡ slice_get xs k
+get-other [] x zero apart = absurd (apart refl)
+get-other [] x (suc k) apart = refl
+get-other (y ∷ xs) x zero apart = refl
+get-other (y ∷ xs) x (suc k) apart = get-other xs x k (λ e. apart (ap suc e))
+
+get-end : {A : Type 0} (xs : List A) (x : A) → slice_get (xs ++ x ∷ []) (length xs) ≡ Some x
+get-end [] x = refl
+get-end (y ∷ xs) x = get-end xs x
+
+module _ {C : Type 0} (sights : List (Sight C)) (s : Sight C) where
+  -- a test that the new one fails finds what it found
+  pub first-more : (is_so : Sight C → Bool) → is_so s ≡ false → first_with is_so (sights ++ s ∷ []) ≡ first_with is_so sights
+  first-more is_so fails = ap (option_map (λ place. place + 1)) (push_other is_so sights s fails)
+
+  module _ (host : Addr) (away : same_addr s.host host ≡ false) where
+    -- whom another host has under an ID
+    any-more : (k : ℕ) → is_any (is_here host) (slice_get (sights ++ s ∷ []) k) ≡ is_any (is_here host) (slice_get sights k)
+    any-more k = by sights k
+      where
+        by : (xs : List (Sight C)) (k : ℕ) → is_any (is_here host) (slice_get (xs ++ s ∷ []) k) ≡ is_any (is_here host) (slice_get xs k)
+        by [] zero = rw away refl
+        by [] (suc k) = refl
+        by (x ∷ xs) zero = refl
+        by (x ∷ xs) (suc k) = by xs k
+
+    here-more : (id : ℕ) → is_any (is_here host) (sight_with (sights ++ s ∷ []) id) ≡ is_any (is_here host) (sight_with sights id)
+    here-more id = elim (id == 0) as (λ b. is_any (is_here host) (if b then None else slice_get (sights ++ s ∷ []) (id - 1))
+        ≡ is_any (is_here host) (if b then None else slice_get sights (id - 1))) [
+      | true ↦ refl
+      | false ↦ any-more (id - 1)
+    ]
+
+    -- an endpoint at another host knows what it knew
+    pub others-know : {R : Type 0} (t : Table R) → Knows t sights host → Knows t (sights ++ s ∷ []) host
+    others-know t knows = record {
+      same = record {
+        enrolled = λ id. knows.same.enrolled id ∙ sym (here-more id);
+        adopter = λ addr id. knows.same.adopter addr id ∙ sym (first-more (adopts host addr id) (rw away refl));
+        listener = knows.same.listener ∙ sym (first-more (listens host) (rw away refl));
+        meeter = λ addr. knows.same.meeter addr ∙ sym (first-more (meets host addr) (rw away refl));
+      };
+      adopted_once = knows.adopted_once;
+      met_once = knows.met_once;
+      enrolled_rise = knows.enrolled_rise;
+      meetings_rise = knows.meetings_rise;
+      ids = knows.ids;
+      live = knows.live;
+      enrolled = omega (arith, knows.enrolled, length_push sights s);
+      adoptions = omega (arith, knows.adoptions, sum_by_push (λ (x : Sight C). one_if (is_some (peer_in x))) sights s);
+      meetings = omega (arith, knows.meetings, sum_by_push (λ (x : Sight C). one_if (is_some x.met)) sights s);
+    }
+
+-- ---- a new socket that has no peer yet
+
+either-some : {R : Type 0} (o : Option R) (id : ℕ) → is_some (if is_some o then Some id else None) ≡ is_some o
+either-some None id = refl
+either-some (Some x) id = refl
+
+none-some : {R : Type 0} (o : Option R) → is_some o ≡ false → o ≡ None
+none-some None is = refl
+none-some (Some x) is = absurd (cc)
+
+module _ {C R : Type 0} (sights : List (Sight C)) (s : Sight C) (host : Addr) (t : Table R) (what : R) (knows : Knows t sights host)
+    (here : same_addr s.host host ≡ true) (live : is_closed s.state.phase ≡ false) (quiet : s.listened ≡ false) (alone : s.met ≡ None)
+    (nobody : peer_in s ≡ None) where
+  abbrev new_id : ℕ
+  new_id = length sights + 1
+
+  past : sight_with sights new_id ≡ None
+  past = with-place sights (length sights) ∙ slice_get_past sights (length sights) (omega arith)
+
+  -- its ID isn't enrolled
+  pub not_enrolled : what_of t new_id ≡ None
+  not_enrolled =
+      none-some (what_of t new_id)
+      (sym (either-some (what_of t new_id) new_id) ∙ (knows.same.enrolled new_id ∙ ap (λ (o : Option (Sight C)). is_any (is_here host) o) past))
+
+  enrolled-same : (id : ℕ) → is_some (cond (is_eq (nat_cmp id new_id)) (Some what) (what_of t id)) ≡ is_any (is_here host) (sight_with (sights ++ s ∷ []) id)
+  enrolled-same id = ?
+
+  -- once it is enrolled, the table knows it
+  pub enrolled-knows : Knows (with_enrolled t new_id what) (sights ++ s ∷ []) host
+  enrolled-knows = record {
+    same = record {
+      enrolled = λ id. either-some (what_of (with_enrolled t new_id what) id) id
+          ∙ (ap (λ (o : Option R). is_some o) (value_inserted new_id what t.enrolled not_enrolled id) ∙ enrolled-same id);
+      adopter = λ addr id. knows.same.adopter addr id ∙ sym (first-more sights s (adopts host addr id) (rw (here, nobody) refl));
+      listener = knows.same.listener ∙ sym (first-more sights s (listens host) (rw (here, live, quiet) refl));
+      meeter = λ addr. knows.same.meeter addr ∙ sym (first-more sights s (meets host addr) (rw (here, live, alone) refl));
+    };
+    adopted_once = knows.adopted_once;
+    met_once = knows.met_once;
+    enrolled_rise = rising_inserted new_id what t.enrolled knows.enrolled_rise;
+    meetings_rise = knows.meetings_rise;
+    ids = knows.ids;
+    live = knows.live;
+    enrolled = omega (arith, knows.enrolled, length_push sights s, length_inserted new_id what t.enrolled);
+    adoptions = omega (arith, knows.adoptions, sum_by_push (λ (x : Sight C). one_if (is_some (peer_in x))) sights s);
+    meetings = omega (arith, knows.meetings, sum_by_push (λ (x : Sight C). one_if (is_some x.met)) sights s);
+  }
