@@ -24,3 +24,4 @@ pub mod NameLemmas
 pub mod PushLemmas
 pub mod EmptyLemmas
 pub mod AddedLemmas
+pub mod GivenLemmas
