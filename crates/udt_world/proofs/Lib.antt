@@ -25,3 +25,4 @@ pub mod PushLemmas
 pub mod EmptyLemmas
 pub mod AddedLemmas
 pub mod GivenLemmas
+pub mod DatagramLemmas
