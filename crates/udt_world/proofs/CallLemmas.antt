@@ -1,22 +1,24 @@
 -- A call of a socket does what the definitions say: the places at its host are those that are seen.
-use Rattle.std.proofs.Common.{◌≡◌, ℕ, zero, suc, ◌+◌, ◌<◌, Bool, true, false, List, [], ◌∷◌, ◌++◌, length, map, Some, None, Option, refl, ap, ◌∙◌, sym, arith}
+use Rattle.std.proofs.Common.{◌≡◌, ℕ, zero, suc, ◌+◌, ◌<◌, Bool, true, false, List, [], ◌∷◌, ◌++◌, length, map, Some, None, Option, refl, ap, ◌∙◌, sym, subst, arith}
 use Rattle.std.specs.Prelude.{slice_get, is_some, ◌||◌, ◌&&◌, if◌then◌else◌}
 use Rattle.std.proofs.lemmas.List.{length-map}
 use Rattle.std.proofs.lemmas.Option.{same_Some}
 use Rattle.udt_model.specs.declared.addresses.Addr.{Addr}
-use Rattle.udt_model.specs.Events.{Act, Listen, Meet, Event, event}
+use Rattle.udt_model.specs.Events.{Act, Listen, Meet, Offer, Arrive, Event, event}
 use Rattle.udt_model.specs.Network as model
 use Rattle.udt_model.specs.Rate.{Ways}
 use Rattle.udt_model.specs.Script.{call_at}
 use Rattle.udt_model.specs.Texts.{listen_twice_text, meet_taken_text}
 use Rattle.udt_routes.specs.Meets.{meeter_of}
 use Rattle.udt_routes.specs.Tables.{what_of}
+use Rattle.udt_script.specs.CodeLines.{act_of}
+use Rattle.udt_script.specs.declared.lines.Call.{Call}
 use Rattle.udt_world.specs.declared.hosts.Endpoint.{Endpoint}
 use Rattle.udt_world.specs.declared.network.Network.{Network}
 use Rattle.udt_world.specs.declared.network.ScriptSocket.{ScriptSocket}
 use Rattle.udt_world.specs.Views.{Sight, View, sight_of, sight_of_history, view_of, Shows, HasEvent}
 use Rattle.udt_world.specs.Done.{DoesLine}
-use Rattle.udt_world.specs.Wiring.{IsWired, Knows, first_with, is_any, is_here, listens, meets, seen_at, sights_of}
+use Rattle.udt_world.specs.Wiring.{IsWired, Knows, MayHappen, first_with, is_any, is_here, listens, meets, seen_at, sights_of}
 use Rattle.udt_world.proofs.EventLemmas.{event_shown, shown_at}
 use Rattle.udt_world.proofs.FirstLemmas.{with-place}
 use Rattle.udt_world.proofs.KnownLemmas.{known_seen}
@@ -73,6 +75,51 @@ module _ {C : Type 0} (network : Network C) (wired : IsWired network) (place : �
       let one = ap (λ o. is_some o) ((host-knows network place socket e wired there found).same.meeter to) in
       rw (one, either-way (is_some socket.met) _ _ enrolled-known) refl
 
+-- ---- what a call may do
+
+module _ {C : Type 0} (sights : List (Sight C)) (sight : Sight C) where
+  -- no socket of its host holds the place that a call asks for
+  abbrev pub IsFree : Act → Type 0
+  IsFree (Listen most secret) = is_some (first_with (listens sight.host) sights) ≡ false
+  IsFree (Meet to) =
+      (is_some (first_with (meets sight.host to) sights) || (is_here sight.host sight && is_some sight.met)) ≡ false
+  IsFree other = Unit {0}
+
+abbrev IsCall : Act → Type 0
+IsCall (Offer id) = ⊥
+IsCall (Arrive from bytes) = ⊥
+IsCall other = Unit {0}
+
+is-call : (call : Call) → IsCall (act_of call)
+is-call other = tt
+
+is-none : {A : Type 0} (o : Option A) → is_some o ≡ false → o ≡ None
+is-none None e = refl
+is-none (Some x) e = absurd (cc)
+
+neither : (a b : Bool) → (a || b) ≡ false → (a ≡ false) × (b ≡ false)
+neither true b e = absurd (cc)
+neither false b e = (refl, e)
+
+-- and then it may happen
+pub may-call : {C : Type 0} (sights : List (Sight C)) (place : ℕ) (sight : Sight C) (call : Call)
+    → slice_get sights place ≡ Some sight → IsFree sights sight (act_of call) → MayHappen sights place (act_of call)
+may-call sights place sight call found free = record {
+  listens = λ s most secret at is.
+      let same : sight ≡ s = same_Some sight s (sym found ∙ at) in
+      let none : is_some (first_with (listens sight.host) sights) ≡ false = subst (λ a. IsFree sights sight a) is free in
+      subst (λ (x : Sight _). first_with (listens x.host) sights ≡ None) same (is-none _ none);
+  meets = λ s to at is.
+      let same : sight ≡ s = same_Some sight s (sym found ∙ at) in
+      let both : (is_some (first_with (meets sight.host to) sights) || (is_here sight.host sight && is_some sight.met)) ≡ false =
+      subst (λ a. IsFree sights sight a) is free in
+      let none = neither _ _ both in
+      subst (λ (x : Sight _). (first_with (meets x.host to) sights ≡ None) × (is_here x.host x && is_some x.met ≡ false)) same
+      (is-none _ none.0, none.1);
+  offers = λ id is. absurd (subst (λ a. IsCall a) is (is-call call));
+  hears = λ s from bytes shake at is. absurd (subst (λ a. IsCall a) is (is-call call));
+}
+
 module _ {C : Type 0} (w : Ways C) where
   -- there are as many sockets
   pub count_same : (n : model.Network C) (network : Network C) → Shows w n (view_of network)
@@ -122,13 +169,7 @@ module _ {C : Type 0} (w : Ways C) where
         rw some (shows, rw (sym name) text)
 
     -- where no place is taken, the socket has the call
-    abbrev pub IsFree : Act → Type 0
-    IsFree (Listen most secret) = is_some (first_with (listens sight.host) view.sockets) ≡ false
-    IsFree (Meet to) =
-        (is_some (first_with (meets sight.host to) view.sockets) || (is_here sight.host sight && is_some sight.met)) ≡ false
-    IsFree other = Unit {0}
-
-    pub called : (now : ℕ) (act : Act) (new : View C) (before after : List ℕ) → IsFree act
+    pub called : (now : ℕ) (act : Act) (new : View C) (before after : List ℕ) → IsFree view.sockets sight act
         → HasEvent w place (event now act) view new before after
         → DoesLine w n (Some (call_at w n place socket (event now act))) true new before after
     called now (Listen most secret) new before after free happens =
