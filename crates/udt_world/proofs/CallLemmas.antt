@@ -75,6 +75,22 @@ module _ {C : Type 0} (network : Network C) (wired : IsWired network) (place : �
       let one = ap (λ o. is_some o) ((host-knows network place socket e wired there found).same.meeter to) in
       rw (one, either-way (is_some socket.met) _ _ enrolled-known) refl
 
+-- ---- what is asked one after another
+
+pub first-holds : (r a b : Bool) → r ≡ a → r ≡ true → r ≡ (a || b)
+first-holds r true b same is = same
+first-holds r false b same is = absurd (cc)
+
+pub then-asked : (a m r : Bool) → false ≡ a → true ≡ m → r ≡ (a || (m && r))
+then-asked false true r none some = refl
+then-asked true m r none some = absurd (cc)
+then-asked a false r none some = absurd (cc)
+
+pub none-asked : (a m b : Bool) → false ≡ a → false ≡ m → false ≡ (a || (m && b))
+none-asked false false b none other = refl
+none-asked true m b none other = absurd (cc)
+none-asked a true b none other = absurd (cc)
+
 -- ---- what a call may do
 
 module _ {C : Type 0} (sights : List (Sight C)) (sight : Sight C) where

@@ -1,0 +1,33 @@
+use Rattle.std.proofs.Common.{◌≡◌, length, is_some, refl, ap, ◌∙◌, sym, arith}
+use Rattle.std.proofs.lemmas.Option.{same_Some, slice_get_read, slice_get_within}
+use Rattle.udt_world.specs.Views.{Sight, sight_of}
+use Rattle.udt_world.specs.Wiring.{first_with, listens, sights_of}
+use Rattle.udt_world.proofs.CallLemmas.{listener-known}
+use Rattle.udt_world.proofs.DatagramLemmas.{datagram_shown}
+use Rattle.udt_world.proofs.GivenLemmas.{line_named}
+use Rattle.udt_world.proofs.WiredLemmas.{sight-at}
+use Rattle.udt_world.proofs.network.Network.has_listener.Goals as goal
+
+-- the endpoint of the socket is there
+pub index-requires : goal.index-requires
+index-requires g c =
+    let network = c.args.self.now in
+    let socket = c.index-socket.result.now in
+    let read = slice_get_read network.sockets.items (length network.sockets.items) c.args.place socket refl
+    (omega (arith, network.sockets.ok.0, c.requires.place)) c.index-socket.ensures in
+    let at = c.requires.wired.stands c.args.place socket read in
+    omega (arith, slice_get_within network.endpoints.items socket.endpoint at.endpoint at.found, network.endpoints.ok.0)
+
+-- and knows whether a socket of its host listens
+pub returns : goal.returns
+returns g c = λ sight there.
+    let network = c.args.self.now in
+    let socket = c.index-socket.result.now in
+    let read = slice_get_read network.sockets.items (length network.sockets.items) c.args.place socket refl
+    (omega (arith, network.sockets.ok.0, c.requires.place)) c.index-socket.ensures in
+    let found = slice_get_read network.endpoints.items (length network.endpoints.items) socket.endpoint c.index.result.now refl
+    (omega (arith, network.endpoints.ok.0, index-requires g c)) c.index.ensures in
+    let same : sight_of socket ≡ sight = same_Some _ _ (sym (sight-at network c.args.place socket read) ∙ there) in
+    c.is_some.ensures ∙ (ap (λ o. is_some o) c.listener.ensures
+    ∙ (listener-known network c.requires.wired c.args.place socket c.index.result.now read found
+    ∙ ap (λ (s : Sight g.row.C.Denot). is_some (first_with (listens s.host) (sights_of network))) same))
