@@ -1,5 +1,5 @@
 -- A call of a socket does what the definitions say: the places at its host are those that are seen.
-use Rattle.std.proofs.Common.{◌≡◌, ℕ, zero, suc, ◌+◌, ◌<◌, Bool, true, false, List, [], ◌∷◌, ◌++◌, length, map, Some, None, Option, refl, ap, ◌∙◌, sym, subst, arith}
+use Rattle.std.proofs.Common.{◌≡◌, ℕ, zero, suc, ◌+◌, ◌<◌, Bool, true, false, List, [], ◌∷◌, ◌++◌, length, map, Some, None, Option, refl, ap, ◌∙◌, sym, subst, arith, option_map}
 use Rattle.std.specs.Prelude.{slice_get, is_some, ◌||◌, ◌&&◌, if◌then◌else◌}
 use Rattle.std.proofs.lemmas.List.{length-map}
 use Rattle.std.proofs.lemmas.Option.{same_Some}
@@ -54,7 +54,7 @@ module _ {C : Type 0} (network : Network C) (wired : IsWired network) (place : �
     (there : slice_get network.sockets.items place ≡ Some socket)
     (found : slice_get network.endpoints.items socket.endpoint ≡ Some e) where
   -- the endpoint of a socket knows whether one of its host listens
-  pub listener-known : is_some e.routes.listener ≡ is_some (first_with (listens socket.host) (sights_of network))
+  listener-known : is_some e.routes.listener ≡ is_some (first_with (listens socket.host) (sights_of network))
   listener-known = ap (λ o. is_some o) (host-knows network place socket e wired there found).same.listener
 
   -- and whether the socket is enrolled
@@ -69,11 +69,32 @@ module _ {C : Type 0} (network : Network C) (wired : IsWired network) (place : �
       )
 
   -- and whether one of them meets this address, or the socket meets any
-  pub meeting-known : (to : Addr) → (is_some (meeter_of e.routes.meetings to) || (is_some socket.met && is_some (what_of e.routes socket.socket.own)))
+  meeting-known : (to : Addr)
+      → (is_some (meeter_of e.routes.meetings to) || (is_some socket.met && is_some (what_of e.routes socket.socket.own)))
       ≡ (is_some (first_with (meets socket.host to) (sights_of network)) || (is_here socket.host (sight_of socket) && is_some socket.met))
   meeting-known to =
       let one = ap (λ o. is_some o) ((host-knows network place socket e wired there found).same.meeter to) in
       rw (one, either-way (is_some socket.met) _ _ enrolled-known) refl
+
+  module _ (sight : Sight C) (at : slice_get (sights_of network) place ≡ Some sight) where
+    seen-same : sight_of socket ≡ sight
+    seen-same = same_Some _ _ (sym (sight-at network place socket there) ∙ at)
+
+    pub listener-seen : is_some e.routes.listener ≡ is_some (first_with (listens sight.host) (sights_of network))
+    listener-seen =
+        listener-known ∙ ap (λ (s : Sight C). is_some (first_with (listens s.host) (sights_of network))) seen-same
+
+    pub meeting-seen : (to : Addr)
+        → (is_some (meeter_of e.routes.meetings to) || (is_some socket.met && is_some (what_of e.routes socket.socket.own)))
+        ≡ (is_some (first_with (meets sight.host to) (sights_of network)) || (is_here sight.host sight && is_some sight.met))
+    meeting-seen to =
+        meeting-known to
+        ∙ ap (λ (s : Sight C). is_some (first_with (meets s.host to) (sights_of network)) || (is_here s.host s && is_some s.met))
+        seen-same
+
+pub some-mapped : {A B : Type 0} (f : A → B) (o : Option A) → is_some (option_map f o) ≡ is_some o
+some-mapped f None = refl
+some-mapped f (Some x) = refl
 
 -- ---- what is asked one after another
 

@@ -1,11 +1,8 @@
-use Rattle.std.proofs.Common.{◌≡◌, length, is_some, refl, ap, ◌∙◌, sym, arith}
-use Rattle.std.proofs.lemmas.Option.{same_Some, slice_get_read, slice_get_within}
-use Rattle.udt_world.specs.Views.{Sight, sight_of}
-use Rattle.udt_world.specs.Wiring.{first_with, listens, sights_of}
-use Rattle.udt_world.proofs.CallLemmas.{listener-known}
+use Rattle.std.proofs.Common.{◌≡◌, length, is_some, refl, ap, ◌∙◌, arith}
+use Rattle.std.proofs.lemmas.Option.{slice_get_read, slice_get_within}
+use Rattle.udt_world.proofs.CallLemmas.{listener-seen}
 use Rattle.udt_world.proofs.DatagramLemmas.{datagram_shown}
 use Rattle.udt_world.proofs.GivenLemmas.{line_named}
-use Rattle.udt_world.proofs.WiredLemmas.{sight-at}
 use Rattle.udt_world.proofs.network.Network.has_listener.Goals as goal
 
 -- the endpoint of the socket is there
@@ -27,7 +24,5 @@ returns g c = λ sight there.
     (omega (arith, network.sockets.ok.0, c.requires.place)) c.index-socket.ensures in
     let found = slice_get_read network.endpoints.items (length network.endpoints.items) socket.endpoint c.index.result.now refl
     (omega (arith, network.endpoints.ok.0, index-requires g c)) c.index.ensures in
-    let same : sight_of socket ≡ sight = same_Some _ _ (sym (sight-at network c.args.place socket read) ∙ there) in
     c.is_some.ensures ∙ (ap (λ o. is_some o) c.listener.ensures
-    ∙ (listener-known network c.requires.wired c.args.place socket c.index.result.now read found
-    ∙ ap (λ (s : Sight g.row.C.Denot). is_some (first_with (listens s.host) (sights_of network))) same))
+    ∙ listener-seen network c.requires.wired c.args.place socket c.index.result.now read found sight there)

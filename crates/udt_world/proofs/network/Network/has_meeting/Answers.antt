@@ -1,10 +1,6 @@
 use Rattle.std.proofs.Common.{◌≡◌, length, is_some, refl, ap, ◌∙◌, sym, arith}
-use Rattle.std.specs.Prelude.{◌||◌, ◌&&◌}
-use Rattle.std.proofs.lemmas.Option.{same_Some, slice_get_read, slice_get_within}
-use Rattle.udt_world.specs.Views.{Sight, sight_of}
-use Rattle.udt_world.specs.Wiring.{first_with, is_here, meets, sights_of}
-use Rattle.udt_world.proofs.CallLemmas.{meeting-known, first-holds, then-asked, none-asked}
-use Rattle.udt_world.proofs.WiredLemmas.{sight-at}
+use Rattle.std.proofs.lemmas.Option.{slice_get_read, slice_get_within}
+use Rattle.udt_world.proofs.CallLemmas.{meeting-seen, some-mapped, first-holds, then-asked, none-asked}
 use Rattle.udt_world.proofs.network.Network.has_meeting.Goals as goal
 
 -- the endpoint of the socket is there
@@ -17,11 +13,44 @@ index-requires g c =
     let at = c.requires.wired.stands c.args.place socket read in
     omega (arith, slice_get_within network.endpoints.items socket.endpoint at.endpoint at.found, network.endpoints.ok.0)
 
+-- a socket of its host meets the address
 pub returns-then-is_some : goal.returns-then-is_some
-returns-then-is_some g c = ?
+returns-then-is_some g c = λ sight there.
+    let network = c.args.self.now in
+    let socket = c.index-socket.result.now in
+    let read = slice_get_read network.sockets.items (length network.sockets.items) c.args.place socket refl
+    (omega (arith, network.sockets.ok.0, c.requires.place)) c.index-socket.ensures in
+    let found = slice_get_read network.endpoints.items (length network.endpoints.items) socket.endpoint c.index.result.now refl
+    (omega (arith, network.endpoints.ok.0, index-requires g c)) c.index.ensures in
+    let seen = meeting-seen network c.requires.wired c.args.place socket c.index.result.now read found sight there c.args.to in
+    first-holds c.is_some.result _ _ (c.is_some.ensures ∙ ap (λ o. is_some o) c.meeting.ensures.value) c.if-is_some.true ∙ seen
 
+-- this one met an address, and may be closed
 pub returns-then-is_some-2 : goal.returns-then-is_some-2
-returns-then-is_some-2 g c = ?
+returns-then-is_some-2 g c = λ sight there.
+    let network = c.args.self.now in
+    let socket = c.index-socket.result.now in
+    let read = slice_get_read network.sockets.items (length network.sockets.items) c.args.place socket refl
+    (omega (arith, network.sockets.ok.0, c.requires.place)) c.index-socket.ensures in
+    let found = slice_get_read network.endpoints.items (length network.endpoints.items) socket.endpoint c.index.result.now refl
+    (omega (arith, network.endpoints.ok.0, index-requires g c)) c.index.ensures in
+    let seen = meeting-seen network c.requires.wired c.args.place socket c.index.result.now read found sight there c.args.to in
+    let none = sym c.if-is_some.false ∙ (c.is_some.ensures ∙ ap (λ o. is_some o) c.meeting.ensures.value) in
+    let some = sym c.if-is_some-2.true ∙ c.is_some-else-is_some.ensures in
+    let enrolled = c.is_some-then-is_some-2.ensures ∙ (sym (some-mapped (λ x. x.now) c.route.result)
+    ∙ ap (λ o. is_some o) (rw c.own.ensures at c.route.ensures)) in
+    then-asked _ _ c.is_some-then-is_some-2.result none some ∙ (rw enrolled seen)
 
+-- it met none
 pub returns-else-is_some-2 : goal.returns-else-is_some-2
-returns-else-is_some-2 g c = ?
+returns-else-is_some-2 g c = λ sight there.
+    let network = c.args.self.now in
+    let socket = c.index-socket.result.now in
+    let read = slice_get_read network.sockets.items (length network.sockets.items) c.args.place socket refl
+    (omega (arith, network.sockets.ok.0, c.requires.place)) c.index-socket.ensures in
+    let found = slice_get_read network.endpoints.items (length network.endpoints.items) socket.endpoint c.index.result.now refl
+    (omega (arith, network.endpoints.ok.0, index-requires g c)) c.index.ensures in
+    let seen = meeting-seen network c.requires.wired c.args.place socket c.index.result.now read found sight there c.args.to in
+    let none = sym c.if-is_some.false ∙ (c.is_some.ensures ∙ ap (λ o. is_some o) c.meeting.ensures.value) in
+    let other = sym c.if-is_some-2.false ∙ c.is_some-else-is_some.ensures in
+    rw c.if-is_some-2.false (none-asked _ _ _ none other ∙ seen)
