@@ -13,6 +13,7 @@ use Rattle.udt_routes.specs.Meets.{meeter_of}
 use Rattle.udt_routes.specs.Tables.{what_of}
 use Rattle.udt_script.specs.CodeLines.{act_of}
 use Rattle.udt_script.specs.declared.lines.Call.{Call}
+use Rattle.udt_script.specs.declared.lines.Call.TheVariants as code_call
 use Rattle.udt_world.specs.declared.hosts.Endpoint.{Endpoint}
 use Rattle.udt_world.specs.declared.network.Network.{Network}
 use Rattle.udt_world.specs.declared.network.ScriptSocket.{ScriptSocket}
@@ -45,7 +46,7 @@ some-if true x = refl
 some-if false x = refl
 
 either-way : (a b c : Bool) → b ≡ c → (a && b) ≡ (c && a)
-either-way true true c same = same
+either-way true true c same = rw (sym same) refl
 either-way true false c same = rw (sym same) refl
 either-way false true c same = rw (sym same) refl
 either-way false false c same = rw (sym same) refl
@@ -128,7 +129,18 @@ IsCall (Arrive from bytes) = ⊥
 IsCall other = Unit {0}
 
 is-call : (call : Call) → IsCall (act_of call)
-is-call other = tt
+is-call (code_call.Listen most) = tt
+is-call (code_call.Connect to) = tt
+is-call (code_call.Meet to) = tt
+is-call code_call.Shake = tt
+is-call (code_call.Send bytes) = tt
+is-call (code_call.Recv room) = tt
+is-call (code_call.SendMessage ttl order bytes) = tt
+is-call (code_call.RecvMessage room) = tt
+is-call code_call.Pack = tt
+is-call code_call.Tick = tt
+is-call code_call.Close = tt
+is-call code_call.Perf = tt
 
 is-none : {A : Type 0} (o : Option A) → is_some o ≡ false → o ≡ None
 is-none None e = refl
