@@ -1,8 +1,8 @@
 -- A call of a socket does what the definitions say: the places at its host are those that are seen.
 use Rattle.std.proofs.Common.{◌≡◌, ℕ, zero, suc, ◌+◌, ◌<◌, Bool, true, false, List, [], ◌∷◌, ◌++◌, length, map, Some, None, Option, refl, ap, ◌∙◌, sym, subst, arith, option_map}
-use Rattle.std.specs.Prelude.{slice_get, is_some, ◌||◌, ◌&&◌, if◌then◌else◌}
+use Rattle.std.specs.Prelude.{slice_get, is_some, vec_len, ◌||◌, ◌&&◌, if◌then◌else◌}
 use Rattle.std.proofs.lemmas.List.{length-map}
-use Rattle.std.proofs.lemmas.Option.{same_Some}
+use Rattle.std.proofs.lemmas.Option.{same_Some, slice_get_within}
 use Rattle.udt_model.specs.declared.addresses.Addr.{Addr}
 use Rattle.udt_model.specs.Events.{Act, Listen, Meet, Offer, Arrive, Event, event}
 use Rattle.udt_model.specs.Network as model
@@ -40,6 +40,13 @@ module _ {C : Type 0} where
       let same : at.endpoint ≡ e = same_Some _ _ (sym at.found ∙ found) in
       let addr : e.addr ≡ socket.host = ap (λ (x : Endpoint). x.addr) (sym same) ∙ at.addr_is in
       rw addr at (wired.knows socket.endpoint e found)
+
+  -- and there is one
+  pub endpoint-within : (network : Network C) (place : ℕ) (socket : ScriptSocket C) → IsWired network
+      → slice_get network.sockets.items place ≡ Some socket → socket.endpoint < vec_len network.endpoints
+  endpoint-within network place socket wired there =
+      let at = wired.stands place socket there in
+      omega (arith, slice_get_within network.endpoints.items socket.endpoint at.endpoint at.found, network.endpoints.ok.0)
 
 some-if : {A : Type 0} (b : Bool) (x : A) → is_some (if b then Some x else None) ≡ b
 some-if true x = refl

@@ -1,6 +1,6 @@
 use Rattle.std.proofs.Common.{◌≡◌, length, is_some, refl, ap, ◌∙◌, arith}
-use Rattle.std.proofs.lemmas.Option.{slice_get_read, slice_get_within}
-use Rattle.udt_world.proofs.CallLemmas.{listener-seen}
+use Rattle.std.proofs.lemmas.Option.{slice_get_read}
+use Rattle.udt_world.proofs.CallLemmas.{endpoint-within, listener-seen}
 use Rattle.udt_world.proofs.DatagramLemmas.{datagram_shown}
 use Rattle.udt_world.proofs.GivenLemmas.{line_named}
 use Rattle.udt_world.proofs.network.Network.has_listener.Goals as goal
@@ -12,8 +12,7 @@ index-requires g c =
     let socket = c.index-socket.result.now in
     let read = slice_get_read network.sockets.items (length network.sockets.items) c.args.place socket refl
     (omega (arith, network.sockets.ok.0, c.requires.place)) c.index-socket.ensures in
-    let at = c.requires.wired.stands c.args.place socket read in
-    omega (arith, slice_get_within network.endpoints.items socket.endpoint at.endpoint at.found, network.endpoints.ok.0)
+    endpoint-within network c.args.place socket c.requires.wired read
 
 -- and knows whether a socket of its host listens
 pub returns : goal.returns
@@ -23,6 +22,6 @@ returns g c = λ sight there.
     let read = slice_get_read network.sockets.items (length network.sockets.items) c.args.place socket refl
     (omega (arith, network.sockets.ok.0, c.requires.place)) c.index-socket.ensures in
     let found = slice_get_read network.endpoints.items (length network.endpoints.items) socket.endpoint c.index.result.now refl
-    (omega (arith, network.endpoints.ok.0, index-requires g c)) c.index.ensures in
+    (omega (arith, network.endpoints.ok.0, endpoint-within network c.args.place socket c.requires.wired read)) c.index.ensures in
     c.is_some.ensures ∙ (ap (λ o. is_some o) c.listener.ensures
     ∙ listener-seen network c.requires.wired c.args.place socket c.index.result.now read found sight there)

@@ -1,6 +1,6 @@
 use Rattle.std.proofs.Common.{◌≡◌, length, is_some, refl, ap, ◌∙◌, sym, arith}
-use Rattle.std.proofs.lemmas.Option.{slice_get_read, slice_get_within}
-use Rattle.udt_world.proofs.CallLemmas.{meeting-seen, some-mapped, first-holds, then-asked, none-asked}
+use Rattle.std.proofs.lemmas.Option.{slice_get_read}
+use Rattle.udt_world.proofs.CallLemmas.{endpoint-within, meeting-seen, some-mapped, first-holds, then-asked, none-asked}
 use Rattle.udt_world.proofs.network.Network.has_meeting.Goals as goal
 
 -- the endpoint of the socket is there
@@ -10,8 +10,7 @@ index-requires g c =
     let socket = c.index-socket.result.now in
     let read = slice_get_read network.sockets.items (length network.sockets.items) c.args.place socket refl
     (omega (arith, network.sockets.ok.0, c.requires.place)) c.index-socket.ensures in
-    let at = c.requires.wired.stands c.args.place socket read in
-    omega (arith, slice_get_within network.endpoints.items socket.endpoint at.endpoint at.found, network.endpoints.ok.0)
+    endpoint-within network c.args.place socket c.requires.wired read
 
 -- a socket of its host meets the address
 pub returns-then-is_some : goal.returns-then-is_some
@@ -21,7 +20,7 @@ returns-then-is_some g c = λ sight there.
     let read = slice_get_read network.sockets.items (length network.sockets.items) c.args.place socket refl
     (omega (arith, network.sockets.ok.0, c.requires.place)) c.index-socket.ensures in
     let found = slice_get_read network.endpoints.items (length network.endpoints.items) socket.endpoint c.index.result.now refl
-    (omega (arith, network.endpoints.ok.0, index-requires g c)) c.index.ensures in
+    (omega (arith, network.endpoints.ok.0, endpoint-within network c.args.place socket c.requires.wired read)) c.index.ensures in
     let seen = meeting-seen network c.requires.wired c.args.place socket c.index.result.now read found sight there c.args.to in
     first-holds c.is_some.result _ _ (c.is_some.ensures ∙ ap (λ o. is_some o) c.meeting.ensures.value) c.if-is_some.true ∙ seen
 
@@ -33,7 +32,7 @@ returns-then-is_some-2 g c = λ sight there.
     let read = slice_get_read network.sockets.items (length network.sockets.items) c.args.place socket refl
     (omega (arith, network.sockets.ok.0, c.requires.place)) c.index-socket.ensures in
     let found = slice_get_read network.endpoints.items (length network.endpoints.items) socket.endpoint c.index.result.now refl
-    (omega (arith, network.endpoints.ok.0, index-requires g c)) c.index.ensures in
+    (omega (arith, network.endpoints.ok.0, endpoint-within network c.args.place socket c.requires.wired read)) c.index.ensures in
     let seen = meeting-seen network c.requires.wired c.args.place socket c.index.result.now read found sight there c.args.to in
     let none = sym c.if-is_some.false ∙ (c.is_some.ensures ∙ ap (λ o. is_some o) c.meeting.ensures.value) in
     let some = sym c.if-is_some-2.true ∙ c.is_some-else-is_some.ensures in
@@ -49,7 +48,7 @@ returns-else-is_some-2 g c = λ sight there.
     let read = slice_get_read network.sockets.items (length network.sockets.items) c.args.place socket refl
     (omega (arith, network.sockets.ok.0, c.requires.place)) c.index-socket.ensures in
     let found = slice_get_read network.endpoints.items (length network.endpoints.items) socket.endpoint c.index.result.now refl
-    (omega (arith, network.endpoints.ok.0, index-requires g c)) c.index.ensures in
+    (omega (arith, network.endpoints.ok.0, endpoint-within network c.args.place socket c.requires.wired read)) c.index.ensures in
     let seen = meeting-seen network c.requires.wired c.args.place socket c.index.result.now read found sight there c.args.to in
     let none = sym c.if-is_some.false ∙ (c.is_some.ensures ∙ ap (λ o. is_some o) c.meeting.ensures.value) in
     let other = sym c.if-is_some-2.false ∙ c.is_some-else-is_some.ensures in
