@@ -7,7 +7,8 @@ use Rattle.udt_model.specs.declared.addresses.Addr.{Addr}
 use Rattle.udt_model.specs.Events.{Act, Listen, Meet, Offer, Arrive, Event, event}
 use Rattle.udt_model.specs.Network as model
 use Rattle.udt_model.specs.Rate.{Ways}
-use Rattle.udt_model.specs.Script.{call_at}
+use Rattle.udt_model.specs.Lines.{CallLine}
+use Rattle.udt_model.specs.Script.{call_at, on_line}
 use Rattle.udt_model.specs.Texts.{listen_twice_text, meet_taken_text}
 use Rattle.udt_routes.specs.Meets.{meeter_of}
 use Rattle.udt_routes.specs.Tables.{what_of}
@@ -236,3 +237,15 @@ module _ {C : Type 0} (w : Ways C) where
         rw (meeting to, any-meeting) free in
         rw none (event_shown w n place socket (event now (Meet to)) view new before after shows there happens)
     called now act new before after free happens = event_shown w n place socket (event now act) view new before after shows there happens
+
+  -- ---- calls by their names
+
+  pub no_name : (n : model.Network C) (view : View C) (name text : List ℕ) (happens : Event) → Shows w n view
+      → None ≡ model.place_of name n.sockets → DoesLine w n (on_line w n (CallLine name happens)) false view text text
+  no_name n view name text happens shows none = rw (sym none) (shows, refl)
+
+  pub named_call : (n : model.Network C) (new : View C) (name before after : List ℕ) (happens : Event) (place : ℕ)
+      (socket : model.ScriptSocket C) → Some place ≡ model.place_of name n.sockets → slice_get n.sockets place ≡ Some socket
+      → DoesLine w n (Some (call_at w n place socket happens)) true new before after
+      → DoesLine w n (on_line w n (CallLine name happens)) true new before after
+  named_call n new name before after happens place socket at there does = rw (sym at, there) does
