@@ -195,10 +195,10 @@ first-none None = refl
 first-none (Some to) = refl
 
 -- who hears a datagram begins neither to listen nor to meet anybody
-pub heard-same : {C : Type 0} (w : Ways C) (s : Sight C) (now : ℕ) (from : Addr) (bytes : List ℕ) (after : State C) (answer : Heard)
-    → after ≡ (step w s.state (event now (Arrive from bytes))).after → DidHear answer ≡ (step w s.state (event now (Arrive from bytes))).reply
+pub heard-same : {C : Type 0} (w : Ways C) (s : Sight C) (now : ℕ) (from : Addr) (bytes : List ℕ) (after : State C) (heard : Heard)
+    → after ≡ (step w s.state (event now (Arrive from bytes))).after → DidHear heard ≡ (step w s.state (event now (Arrive from bytes))).reply
     → record s { state = after } ≡ after_event w s (event now (Arrive from bytes))
-heard-same w s now from bytes after answer is reply =
+heard-same w s now from bytes after heard is reply =
     let listened : (s.listened || is_listening (step w s.state (event now (Arrive from bytes))).reply) ≡ s.listened =
     ap (λ (r : Reply). s.listened || is_listening r) (sym reply) ∙ or-false s.listened in
     rw (listened, first-none s.met, is) refl
