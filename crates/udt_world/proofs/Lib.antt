@@ -6,6 +6,7 @@ pub mod FollowLemmas
 pub mod ToldLemmas
 pub mod MovedLemmas
 pub mod WiredLemmas
+pub mod AlikeLemmas
 pub mod PlaceLemmas
 pub mod ClosedLemmas
 pub mod HostLemmas

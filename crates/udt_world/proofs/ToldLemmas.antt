@@ -302,7 +302,7 @@ module _ {C R : Type 0} (t : Table R) (sights : List (Sight C)) (host : Addr) (k
   adopts-holds : (x : Sight C) (p : PeerPair) → x.host ≡ host → peer_in x ≡ Some p → adopts host p.addr p.id x ≡ true
   adopts-holds x p at has = both _ _ (ap (same_addr x.host) (sym at) ∙ same-addr x.host) (is-pair p (peer_in x) has)
 
-  own-pair : pair_of t.adoptions (k + 1) ≡ pair_in (peer_in s)
+  pub own-pair : pair_of t.adoptions (k + 1) ≡ pair_in (peer_in s)
   own-pair = by (peer_in s) refl
     where
       none : peer_in s ≡ None → (o : Option Pair) → pair_of t.adoptions (k + 1) ≡ o → o ≡ None

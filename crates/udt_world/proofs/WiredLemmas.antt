@@ -1,29 +1,32 @@
 -- An event of a socket, of which the endpoint at its host is told, leaves the network wired.
-use Rattle.std.proofs.Common.{◌≡◌, ℕ, ◌+◌, ◌≤◌, ◌<◌, Bool, true, false, List, Some, None, Option, length, map, refl, ap, ◌∙◌, sym, subst, arith, inl, inr, option_map}
-use Rattle.std.specs.Prelude.{slice_get, slice_set, vec_len}
+use Rattle.std.proofs.Common.{◌≡◌, ℕ, ◌+◌, ◌≤◌, ◌<◌, Bool, true, false, List, Some, None, Option, length, map, refl, ap, ◌∙◌, sym, subst, arith, inl, inr, option_map, is_some}
+use Rattle.std.specs.Global.{Global}
+use Rattle.std.specs.Prelude.{slice_get, slice_set, vec_len, Vec}
 use Rattle.std.specs.List.{Contains}
 use Rattle.std.specs.Map.{lookup}
 use Rattle.std.proofs.lemmas.Bool.{cases_eq}
 use Rattle.std.proofs.lemmas.List.{length-set, length-map}
-use Rattle.std.proofs.lemmas.Option.{slice_get-map}
+use Rattle.std.proofs.lemmas.Option.{slice_get-map, slice_get_within}
 use Rattle.udt_model.specs.declared.addresses.Addr.{Addr}
 use Rattle.udt_model.specs.declared.limits.TheConstants.{MOST_SOCKETS}
 use Rattle.udt_model.specs.Events.{Act, Offer, event, at_moment}
 use Rattle.udt_model.specs.Rate.{Ways}
+use Rattle.udt_model.specs.Records.{PeerPair}
 use Rattle.udt_model.specs.Step.{step}
 use Rattle.udt_model.specs.Words.{is_word}
+use Rattle.udt_routes.specs.Pairs.{pair_of}
 use Rattle.udt_laws.proofs.scripts.ReplacedOne.{set-same, set-other, found-once}
 use Rattle.udt_world.specs.declared.hosts.TheConstants.{MOST_ENROLLED}
 use Rattle.udt_world.specs.declared.hosts.Endpoint.{Endpoint}
 use Rattle.udt_world.specs.declared.network.Network.{Network}
 use Rattle.udt_world.specs.declared.network.ScriptSocket.{ScriptSocket}
 use Rattle.udt_world.specs.Views.{Sight, after_event, sight_of}
-use Rattle.udt_world.specs.Wiring.{FitsPhase, HasAddress, IsGiven, IsWired, KeepsAddresses, Knows, MayHappen, place_seen, place_under, sights_of, waiting_at, with_told}
+use Rattle.udt_world.specs.Wiring.{FitsPhase, HasAddress, IsGiven, IsWired, KeepsAddresses, KeepsPlaces, Knows, MayHappen, one_if, pair_in, peer_in, place_seen, place_under, sights_of, waiting_at, with_told}
 use Rattle.udt_world.proofs.ActLemmas.{Acts, step-acts}
-use Rattle.udt_world.proofs.FirstLemmas.{position-set, replaced-cases}
+use Rattle.udt_world.proofs.FirstLemmas.{position-set, replaced-cases, sum-below}
 use Rattle.udt_world.proofs.FollowLemmas.{AreOnce, Follows, MayFollow, once-kept}
 use Rattle.udt_world.proofs.MovedLemmas.{event-follows, event-may, others-know}
-use Rattle.udt_world.proofs.ToldLemmas.{told-knows}
+use Rattle.udt_world.proofs.ToldLemmas.{own-pair, told-knows}
 
 module _ {C : Type 0} where
   -- what is seen at a place is seen of the socket there
@@ -205,3 +208,91 @@ module _ {C : Type 0} (w : Ways C) (old new : Network C) (place now : ℕ) (act 
     meets_once = still_once.meeter;
     adopts_once = still_once.adopter;
   }
+
+none-in : (o : Option PeerPair) → pair_in o ≡ None → o ≡ None
+none-in None is = refl
+none-in (Some pair) is = absurd (cc)
+
+small : (b : Bool) → one_if b ≤ 1
+small true = omega arith
+small false = omega arith
+
+module _ {C : Type 0} (w : Ways C) (old mid : Network C) (place now : ℕ) (act : Act) (s : Sight C)
+    (wired : IsWired old) (may : MayHappen (sights_of old) place act)
+    (found : slice_get (sights_of old) place ≡ Some s)
+    (sights_are : sights_of mid ≡ slice_set (sights_of old) place (after_event w s (event now act)))
+    (keeps : KeepsPlaces old mid) where
+  -- the endpoint of the socket is there
+  pub event-endpoint : (socket : ScriptSocket C) → slice_get mid.sockets.items place ≡ Some socket → socket.endpoint < vec_len mid.endpoints
+  event-endpoint socket at =
+      let was = mapped old place s found in
+      let home = wired.stands place was.0 was.1 in
+      let same : socket.endpoint ≡ was.0.endpoint = keeps.endpoint_of place was.0 socket was.1 at in
+      let within = slice_get_within old.endpoints.items was.0.endpoint home.endpoint home.found in
+      subst (λ (v : Vec Endpoint Global). socket.endpoint < vec_len v) (sym keeps.endpoints)
+      (omega (arith, same, within, old.endpoints.ok.0))
+
+  -- and has room for its pair
+  pub event-room : (socket : ScriptSocket C) (endpoint : Endpoint) → slice_get mid.sockets.items place ≡ Some socket
+      → slice_get mid.endpoints.items socket.endpoint ≡ Some endpoint → pair_of endpoint.routes.adoptions (place + 1) ≡ None
+      → length endpoint.routes.adoptions < endpoint.routes.ids
+  event-room socket endpoint at end_at none =
+      let was = mapped old place s found in
+      let home = wired.stands place was.0 was.1 in
+      let same : socket.endpoint ≡ was.0.endpoint = keeps.endpoint_of place was.0 socket was.1 at in
+      let old_at : slice_get old.endpoints.items socket.endpoint ≡ Some endpoint =
+      ap (λ (v : Vec Endpoint Global). slice_get v.items socket.endpoint) (sym keeps.endpoints) ∙ end_at in
+      let is : endpoint ≡ home.endpoint =
+      found-once old.endpoints.items socket.endpoint endpoint home.endpoint old_at (ap (slice_get old.endpoints.items) same ∙ home.found) in
+      let stands : s.host ≡ endpoint.addr =
+      sym (ap (λ (x : Sight C). x.host) was.2) ∙ (sym home.addr_is ∙ ap (λ (e : Endpoint). e.addr) (sym is)) in
+      let few : length (sights_of old) ≤ MOST_ENROLLED = omega (arith, wired.few, old.sockets.ok.0, length-map old.sockets.items sight_of) in
+      let knows = wired.knows socket.endpoint endpoint old_at in
+      let own =
+      own-pair endpoint.routes (sights_of old) endpoint.addr place s (after_event w s (event now act)) found stands few knows
+      (record { listener = wired.listens_once; meeter = wired.meets_once; adopter = wired.adopts_once })
+      (event-follows w (sights_of old) place s now act found (wired.peers place s found) may)
+      (event-may w (sights_of old) place s now act found (wired.peers place s found) may) in
+      let nobody : peer_in s ≡ None = none-in (peer_in s) (sym own ∙ none) in
+      let below =
+      sum-below (λ (x : Sight C). one_if (is_some (peer_in x))) (sights_of old) place s (λ x. small (is_some (peer_in x))) found
+      (ap (λ (o : Option PeerPair). one_if (is_some o)) nobody) in
+      omega (arith, below, knows.adoptions, knows.ids, few)
+
+  -- the endpoint was told
+  module _ (new : Network C) (kept : new ≡ record mid { endpoints = new.endpoints })
+      (told : (b : ScriptSocket C) (e : Endpoint) → slice_get mid.sockets.items place ≡ Some b
+      → slice_get mid.endpoints.items b.endpoint ≡ Some e
+      → new.endpoints.items
+      ≡ slice_set mid.endpoints.items b.endpoint (record e { routes = with_told e.routes (place + 1) (sight_of b) })) where
+    new_sockets : new.sockets ≡ mid.sockets
+    new_sockets = ap (λ (n : Network C). n.sockets) kept
+
+    new_sights : sights_of new ≡ slice_set (sights_of old) place (after_event w s (event now act))
+    new_sights = ap (λ (v : Vec (ScriptSocket C) Global). map sight_of v.items) new_sockets ∙ sights_are
+
+    new_ends : (p : ℕ) (a b : ScriptSocket C) → slice_get old.sockets.items p ≡ Some a → slice_get new.sockets.items p ≡ Some b
+        → b.endpoint ≡ a.endpoint
+    new_ends p a b at_a at_b =
+        keeps.endpoint_of p a b at_a (ap (λ (v : Vec (ScriptSocket C) Global). slice_get v.items p) (sym new_sockets) ∙ at_b)
+
+    new_told : (b : ScriptSocket C) (e : Endpoint) → slice_get new.sockets.items place ≡ Some b
+        → slice_get old.endpoints.items b.endpoint ≡ Some e
+        → new.endpoints.items
+        ≡ slice_set old.endpoints.items b.endpoint (record e { routes = with_told e.routes (place + 1) (sight_of b) })
+    new_told b e at_b at_e =
+        told b e (ap (λ (v : Vec (ScriptSocket C) Global). slice_get v.items place) (sym new_sockets) ∙ at_b)
+        (ap (λ (v : Vec Endpoint Global). slice_get v.items b.endpoint) keeps.endpoints ∙ at_e)
+        ∙ ap (λ (v : Vec Endpoint Global). slice_set v.items b.endpoint (record e { routes = with_told e.routes (place + 1) (sight_of b) })) keeps.endpoints
+
+    new_names : new.names ≡ old.names
+    new_names = ap (λ (n : Network C). n.names) kept ∙ keeps.names
+
+    new_count : vec_len new.sockets ≡ vec_len old.sockets
+    new_count = ap (λ (v : Vec (ScriptSocket C) Global). vec_len v) new_sockets ∙ keeps.count
+
+    pub entered-wired : IsWired new
+    entered-wired = event-wired w old new place now act s wired may found new_sights new_names new_count new_ends new_told
+
+    pub entered-stands : KeepsAddresses old new
+    entered-stands = event-stands w old new place now act s wired may found new_sights new_names new_count new_ends new_told

@@ -8,7 +8,7 @@ ghost use Rattle.udt_model.specs.Script.{from_host};
 ghost use Rattle.udt_script.specs.CodeLines.{datagram_of};
 ghost use Rattle.udt_world.specs.Done.{IsRoute};
 ghost use Rattle.udt_world.specs.Views.{act_in, view_of, event_of, Answers, Moves, Shows};
-ghost use Rattle.udt_world.specs.Wiring.{sights_of, IsWired, MayHappen};
+ghost use Rattle.udt_world.specs.Wiring.{sights_of, IsWired, KeepsPlaces, MayHappen};
 
 use crate::arrivals::Route;
 use crate::network::{Act, Network, happen, room};
@@ -62,14 +62,12 @@ impl<C: Control> Network<C> {
         self.sockets[place].socket.recv(now, into)
     }
 
-    /// An event of the socket at this place.
-    pub fn move_on(&mut self, place: usize, now: u64, act: &Act) -> Result<(), AllocError>
-        requires place { place < vec_len self.old.sockets }
-        requires wired { IsWired self.old }
-        requires may { MayHappen (sights_of self.old) place (act_in act.now) }
+    // The socket at this place has an event, and what it emitted is kept.
+    fn stir(&mut self, place: usize, now: u64, act: &Act) -> Result<(), AllocError>
+        requires { place < vec_len self.old.sockets }
         ensures moves { OnOk result (Moves C.ways place (event_of now act.now)
             (view_of self.old) (view_of self.new)) }
-        ensures wired { OnOk result (IsWired self.new) }
+        ensures kept { OnOk result (KeepsPlaces self.old self.new) }
     {
         let mut outs = room(self.alloc, &mut self.outs)?;
         let socket = &mut self.sockets[place];
@@ -78,6 +76,19 @@ impl<C: Control> Network<C> {
         socket.note(act, &reply);
         keep(self.alloc, &mut self.datagrams, host, &outs)?;
         self.outs = Some(outs);
+        Ok(())
+    }
+
+    /// An event of the socket at this place. The endpoint at its host is told of it.
+    pub fn move_on(&mut self, place: usize, now: u64, act: &Act) -> Result<(), AllocError>
+        requires place { place < vec_len self.old.sockets }
+        requires wired { IsWired self.old }
+        requires may { MayHappen (sights_of self.old) place (act_in act.now) }
+        ensures moves { OnOk result (Moves C.ways place (event_of now act.now)
+            (view_of self.old) (view_of self.new)) }
+        ensures wired { OnOk result (IsWired self.new) }
+    {
+        self.stir(place, now, act)?;
         self.enter(place);
         Ok(())
     }
@@ -103,6 +114,28 @@ impl<C: Control> Network<C> {
         Ok(self.route(endpoint, datagram.from, &datagram.bytes))
     }
 
+    // The datagram with this number arrives at the socket at this place, and what that emits is kept.
+    fn take_in(&mut self, place: usize, number: usize, now: u64) -> Result<(), AllocError>
+        requires place { place < vec_len self.old.sockets }
+        requires number { number < vec_len self.old.datagrams }
+        ensures moves { OnOk result ((datagram : model.ScriptDatagram)
+            → slice_get (view_of self.old).datagrams number ≡ Some datagram
+            → Moves C.ways place (event now (Arrive datagram.from datagram.bytes))
+            (view_of self.old) (view_of self.new)) }
+        ensures kept { OnOk result (KeepsPlaces self.old self.new) }
+    {
+        let mut outs = room(self.alloc, &mut self.outs)?;
+        let emitted = &self.datagrams[number];
+        let socket = &mut self.sockets[place];
+        let host = socket.host;
+        let _ = socket
+            .socket
+            .arrive(now, emitted.from, &emitted.bytes, &mut outs);
+        keep(self.alloc, &mut self.datagrams, host, &outs)?;
+        self.outs = Some(outs);
+        Ok(())
+    }
+
     /// The arrival of the datagram with this number at the socket at this place.
     pub fn hear(&mut self, place: usize, number: usize, now: u64) -> Result<(), AllocError>
         requires place { place < vec_len self.old.sockets }
@@ -117,15 +150,7 @@ impl<C: Control> Network<C> {
             (view_of self.old) (view_of self.new)) }
         ensures wired { OnOk result (IsWired self.new) }
     {
-        let mut outs = room(self.alloc, &mut self.outs)?;
-        let emitted = &self.datagrams[number];
-        let socket = &mut self.sockets[place];
-        let host = socket.host;
-        let _ = socket
-            .socket
-            .arrive(now, emitted.from, &emitted.bytes, &mut outs);
-        keep(self.alloc, &mut self.datagrams, host, &outs)?;
-        self.outs = Some(outs);
+        self.take_in(place, number, now)?;
         self.enter(place);
         Ok(())
     }
