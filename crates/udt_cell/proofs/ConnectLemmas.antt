@@ -1,12 +1,12 @@
 -- The events by which a socket comes by a connection emit nothing, and answer never that the events are spent.
 use Rattle.std.proofs.Common.{◌≡◌, ℕ, Bool, true, false, List, [], ◌∷◌, refl, sym, ◌∙◌}
-use Rattle.std.specs.Prelude.{◌≢◌, Result, Ok, Err}
+use Rattle.std.specs.Prelude.{◌≢◌, Result, Err}
 use Rattle.udt_model.specs.declared.addresses.Addr.{Addr}
 use Rattle.udt_model.specs.declared.answers.Refusal.{Refusal}
 use Rattle.udt_model.specs.declared.answers.Refusal.TheVariants as refusal
-use Rattle.udt_model.specs.Connections.{begun, has_port, accept_answer, first_offered}
-use Rattle.udt_model.specs.Events.{Connect, Meet, Accept, Shake, Offer, Withdraw, PortDown, at_moment, event, outs_of}
-use Rattle.udt_model.specs.Events.{DidConnect, DidMeet, Accepted, DidWithdraw, DidPortDown}
+use Rattle.udt_model.specs.Connections.{begun, is_backlog, has_port, accept_answer, first_offered}
+use Rattle.udt_model.specs.Events.{Listen, Connect, Meet, Accept, Shake, Offer, Withdraw, PortDown, at_moment, event, outs_of}
+use Rattle.udt_model.specs.Events.{DidListen, DidConnect, DidMeet, Accepted, DidWithdraw, DidPortDown}
 use Rattle.udt_model.specs.Phases.{Phase}
 use Rattle.udt_model.specs.Phases as phase
 use Rattle.udt_model.specs.Rate.{Ways}
@@ -40,6 +40,9 @@ accept_is_unspent (phase.Failed why) e = cc
 accept_is_unspent phase.Closing e = cc
 accept_is_unspent phase.Closed e = cc
 
+listen_is : (a b : Result (Unit {0}) Refusal) → DidListen a ≡ DidListen b → a ≡ b
+listen_is a b e = cc
+
 connect_is : (a b : Result (Unit {0}) Refusal) → DidConnect a ≡ DidConnect b → a ≡ b
 connect_is a b e = cc
 
@@ -50,6 +53,20 @@ accepted_is : (a b : Result ℕ Refusal) → Accepted a ≡ Accepted b → a ≡
 accepted_is a b e = cc
 
 module _ {C : Type 0} (w : Ways C) where
+  pub listen_quiet : (s : State C) (now backlog : ℕ) (secret : List ℕ)
+      → [] ≡ outs_of (step w s (event now (Listen backlog secret)))
+  unfolding step
+  listen_quiet s now backlog secret = refl
+
+  -- where there was memory
+  pub listen_unspent : (s : State C) (now backlog : ℕ) (secret : List ℕ) (answer : Result (Unit {0}) Refusal)
+      → (answer ≢ Err refusal.OutOfMemory → DidListen answer ≡ (step w s (event now (Listen backlog secret))).reply)
+      → answer ≢ Err refusal.EventsSpent
+  unfolding step
+  listen_unspent s now backlog secret answer told spent =
+      let e = told (λ (memory : answer ≡ Err refusal.OutOfMemory). cc) in
+      begun_unspent (is_backlog backlog) (at_moment s now).phase (sym (listen_is _ _ e) ∙ spent)
+
   pub connect_quiet : (s : State C) (now : ℕ) (to : Addr) → [] ≡ outs_of (step w s (event now (Connect to)))
   unfolding step
   connect_quiet s now to = refl

@@ -8,8 +8,10 @@ use Rattle.udt_model.specs.declared.packets.Malformed.{Malformed}
 use Rattle.udt_model.specs.declared.sockets.ExpOutcome.{ExpOutcome}
 use Rattle.udt_model.specs.declared.sockets.ExpOutcome.TheVariants as exp
 use Rattle.udt_model.specs.Arrivals.{on_read}
-use Rattle.udt_model.specs.Calls.{send_in, send_as, recv_in, recv_as, send_message_in, send_message_as, recv_message_in, recv_message_as, pack_in}
-use Rattle.udt_model.specs.Events.{Act, Listen, Connect, Meet, Accept, Shake, Offer, Withdraw, PortDown, Send, Recv, SendMessage, RecvMessage, Pack, Tick, Close, Measure, Arrive, Event, at_moment, risen}
+use Rattle.udt_model.specs.Calls.{send_in, send_as, recv_in, recv_as, pack_in}
+use Rattle.udt_model.specs.Calls.{send_message_in, send_message_as, recv_message_in, recv_message_as}
+use Rattle.udt_model.specs.Events.{Act, Listen, Connect, Meet, Accept, Shake, Offer, Withdraw, PortDown, Event, at_moment, risen}
+use Rattle.udt_model.specs.Events.{Send, Recv, SendMessage, RecvMessage, Pack, Tick, Close, Measure, Arrive}
 use Rattle.udt_model.specs.Connections.{repeats}
 use Rattle.udt_model.specs.Phases.{Phase, Link, Stands, Lost, Absent, link_of}
 use Rattle.udt_model.specs.Phases as phase
@@ -90,7 +92,8 @@ module _ {C : Type 0} (w : Ways C) where
   tick-counts s phase.Closing = refl
   tick-counts s phase.Closed = refl
 
-  on_read-counts : (s : State C) (from : Addr) (result : Result Packet Malformed) → (on_read w s from result).after.count ≡ s.count
+  on_read-counts : (s : State C) (from : Addr) (result : Result Packet Malformed)
+      → (on_read w s from result).after.count ≡ s.count
   on_read-counts s from result = arrival-shows w s from (λ outcome. outcome.after.count ≡ s.count) result (record {
     passed = λ counters answer differs. refl;
     noticed = λ counters answer differs connected. refl;

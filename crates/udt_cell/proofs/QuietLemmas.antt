@@ -45,7 +45,8 @@ if_unspent true none why bytes not e = cc
 if_unspent false true why bytes not e = not (cc)
 if_unspent false false why bytes not e = cc
 
-with_unspent : (why : Refusal) (room : ℕ) (bytes : List ℕ) → why ≢ refusal.EventsSpent → answer_with why room bytes ≢ Err refusal.EventsSpent
+with_unspent : (why : Refusal) (room : ℕ) (bytes : List ℕ) → why ≢ refusal.EventsSpent
+    → answer_with why room bytes ≢ Err refusal.EventsSpent
 with_unspent why room bytes not = if_unspent (room == 0) (length bytes == 0) why bytes not
 
 received_is : (a b : Result (List ℕ) Refusal) → Received a ≡ Received b → a ≡ b
@@ -125,7 +126,8 @@ module _ {C : Type 0} where
       with_unspent refusal.AgainRecv room (received_by s.receiving room) (λ (is : refusal.AgainRecv ≡ refusal.EventsSpent). cc)
       (sym (received_is _ _ e) ∙ spent)
   recv_in_unspent s room (Lost why) answer e spent =
-      with_unspent (refusal.ConnLost why) room (received_by s.receiving room) (λ (is : refusal.ConnLost why ≡ refusal.EventsSpent). cc)
+      with_unspent (refusal.ConnLost why) room (received_by s.receiving room)
+      (λ (is : refusal.ConnLost why ≡ refusal.EventsSpent). cc)
       (sym (received_is _ _ e) ∙ spent)
   recv_in_unspent s room Absent answer e spent = cc
 
@@ -193,7 +195,8 @@ module _ {C : Type 0} (w : Ways C) where
       → Received (received_in answer into) ≡ (step w s (event now (Recv room))).reply → answer ≢ Err refusal.EventsSpent
   unfolding step
   recv_unspent s now room answer into e spent =
-      recv_as_unspent (at_moment s now) room (at_moment s now).kind (received_in answer into) e (ap (λ a. received_in a into) spent)
+      recv_as_unspent (at_moment s now) room (at_moment s now).kind (received_in answer into) e
+      (ap (λ a. received_in a into) spent)
 
   pub recv_message_quiet : (s : State C) (now room : ℕ) → [] ≡ outs_of (step w s (event now (RecvMessage room)))
   unfolding step
@@ -219,7 +222,8 @@ module _ {C : Type 0} (w : Ways C) where
   unfolding step
   perf_quiet s now = refl
 
-  repeats_done : (s : State C) (began again : ℕ) (next : Phase) (emission : Emission) → DidTick ≡ (repeats s began again next emission).reply
+  repeats_done : (s : State C) (began again : ℕ) (next : Phase) (emission : Emission)
+      → DidTick ≡ (repeats s began again next emission).reply
   repeats_done s began again next emission =
       repeats-show s began again next emission (λ outcome. DidTick ≡ outcome.reply)
       (record { fails = refl; again = refl; waits = refl })

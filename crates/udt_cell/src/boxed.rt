@@ -65,7 +65,8 @@ impl<C: Control> BoxedSocket<C> {
     ghost use Rattle.std.specs.Prelude.{IfOk, OnOk, OnErr, MatchBool};
     ghost use Rattle.udt_core.specs.Received.{received_in};
     ghost use Rattle.udt_model.specs.Events.{Send, Recv, SendMessage, RecvMessage, Pack, Tick, Close, Measure, Arrive, event};
-    ghost use Rattle.udt_model.specs.Events.{Sent, Received, SentMessage, ReceivedMessage, DidPack, DidTick, DidClose, DidMeasure, DidHear};
+    ghost use Rattle.udt_model.specs.Events.{Sent, Received, SentMessage, ReceivedMessage};
+    ghost use Rattle.udt_model.specs.Events.{DidPack, DidTick, DidClose, DidMeasure, DidHear};
     ghost use Rattle.udt_model.specs.Moments as moments;
     ghost use Rattle.udt_cell.specs.Entries.{entry, Follows, last_count};
 

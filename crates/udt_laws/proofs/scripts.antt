@@ -10,3 +10,9 @@ pub mod StandsThere
 pub mod HostReached
 pub mod EventPeer
 pub mod KeptPeers
+pub mod LineRanges
+pub mod KeptByLines
+pub mod ScriptNetworks
+pub mod MadeSockets
+pub mod KeepsNetwork
+pub mod ScriptLawful

@@ -30,5 +30,6 @@ pub mod RecordLemmas
 pub mod TakenOffsets
 pub mod MissingOffsets
 pub mod InOrder
+pub mod Members
 pub mod MessageLemmas
 pub mod DropLemmas

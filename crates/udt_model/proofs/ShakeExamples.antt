@@ -201,7 +201,7 @@ listening-accept = refl
 
 -- ---- a socket that a listener made
 
--- the socket 3 was made for the request of the client, and answers it as often as it comes
+-- the socket 3 was made for what the client asked, and answers it as often as it comes
 client_peer : Peer
 client_peer = record { addr = at 0x0a000008 7000; id = 2; isn = 5; payload = 4; flow = 4 }
 

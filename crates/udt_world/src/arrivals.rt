@@ -1,6 +1,7 @@
 // Datagrams that arrive: where each goes, and the sockets that are made for requests.
 
-ghost use Rattle.std.specs.Prelude.{◌≡◌, ℕ, ◌<◌, ◌^◌, true, take, Some, slice_get, vec_len, ForSome, IfOk, OnOk, OnErr};
+ghost use Rattle.std.specs.Prelude.{◌≡◌, ℕ, ◌<◌, ◌^◌, true, take, Some, slice_get, vec_len, IfOk, OnOk, OnErr};
+ghost use Rattle.std.specs.Option.{ForSome};
 ghost use Rattle.udt_model.specs.Connections.{config_of};
 ghost use Rattle.udt_model.specs.Events.{Arrive};
 ghost use Rattle.udt_model.specs.Handshakes as model;

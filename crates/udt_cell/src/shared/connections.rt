@@ -1,14 +1,14 @@
 // The events by which a socket comes by a connection.
 ghost use Rattle.std.specs.Prelude.{◌≡◌, ◌≢◌, [], Some, Err};
 ghost use Rattle.std.specs.Prelude.{IfOk, OnOk, OnErr};
-ghost use Rattle.udt_model.specs.Events.{Connect, Meet, Accept, Shake, Offer, Withdraw, PortDown, event};
-ghost use Rattle.udt_model.specs.Events.{DidConnect, DidMeet, Accepted, DidShake, DidOffer, DidWithdraw, DidPortDown};
+ghost use Rattle.udt_model.specs.Events.{Listen, Connect, Meet, Accept, Shake, Offer, Withdraw, PortDown, event};
+ghost use Rattle.udt_model.specs.Events.{DidListen, DidConnect, DidMeet, Accepted, DidShake, DidOffer, DidWithdraw, DidPortDown};
 ghost use Rattle.udt_turn.specs.History.{value_of};
 ghost use Rattle.udt_turn.specs.Words.{IsPassOf, IsHeld, KeepsNames, found_by, view_of};
 ghost use Rattle.udt_cell.specs.Entries.{entry, Follows, tale_of_sockets};
-ghost use Rattle.udt_cell.specs.Sharing.{AddsEvent, FindsSpent};
+ghost use Rattle.udt_cell.specs.Sharing.{AddsEvent, FindsSpent, FindsUnspent};
 
-use super::leaving::pass_by;
+use super::leaving::{give_up, pass_by};
 use crate::boxed::{BoxedSocket, EventEntry, EventsSpent};
 use crate::shared::{SharedSocket, SocketPass};
 use std::marker::Brand;
@@ -18,6 +18,42 @@ use udt_rate::Control;
 use udt_turn::{Held, Naming};
 
 impl<C: Control> SharedSocket<C> {
+    /// Has the socket listen, and keep at most so many connections until they are accepted: 1 to 1,024.
+    /// The secret makes its cookies. Beside what the socket answers, EventsSpent comes where its count
+    /// stands at 2^55 - 1. OutOfMemory changes nothing at all, and is no event.
+    pub fn listen<R: Wait>(
+        &self,
+        rt: &R,
+        pass: &mut SocketPass<C>,
+        now: u64,
+        backlog: u32,
+        secret: [u8; 16],
+    ) -> Result<(), Refusal>
+        requires { IsPassOf self.now.turn pass.old }
+        ensures own { IsPassOf self.now.turn pass.new }
+        ensures names { KeepsNames (view_of pass.old) (view_of pass.new) }
+        ensures event { result ≢ Err Refusal.EventsSpent → result ≢ Err Refusal.OutOfMemory
+            → AddsEvent C.ways now (Listen backlog secret) (DidListen result) [] pass.old pass.new }
+        ensures spent { result ≡ Err Refusal.EventsSpent → FindsSpent C.ways pass.old pass.new }
+        ensures memory { result ≡ Err Refusal.OutOfMemory → FindsUnspent C.ways pass.old pass.new }
+    {
+        let mut held = self.turn.enter(rt, pass);
+        match held.value().listen(now, backlog, secret) {
+            Ok(Err(Refusal::OutOfMemory)) => {
+                give_up(held);
+                Err(Refusal::OutOfMemory)
+            }
+            Ok(answer) => {
+                tell_listen::<C, Brand>(held, now, backlog, secret, &answer);
+                answer
+            }
+            Err(EventsSpent) => {
+                pass_by(held);
+                Err(Refusal::EventsSpent)
+            }
+        }
+    }
+
     /// Has the socket ask a listener at this address for a connection. Beside what the socket answers,
     /// EventsSpent comes where its count stands at 2^55 - 1.
     pub fn connect<R: Wait>(
@@ -210,6 +246,27 @@ impl<C: Control> SharedSocket<C> {
             }
         }
     }
+}
+
+// Publishes a call of `listen`.
+#[tactic(auto, using(crate::proofs::ItemLemmas::follows_goes))]
+fn tell_listen<C: Control, N: Naming<EventEntry>>(
+    held: Held<'_, BoxedSocket<C>>,
+    now: u64,
+    backlog: u32,
+    secret: [u8; 16],
+    answer: &Result<(), Refusal>,
+)
+    requires held { IsHeld (tale_of_sockets C.ways) held }
+    requires item { N.item ≡ Some (entry (event now (Listen backlog secret)) (DidListen answer.now) []) }
+    requires follows { Follows C.ways (entry (event now (Listen backlog secret)) (DidListen answer.now) [])
+        (value_of (tale_of_sockets C.ways) (found_by held)) held.value }
+    ensures own { IsPassOf held.entry.turn.now held.exit.1.0.now }
+    ensures names { KeepsNames (view_of held.entry.pass.now) (view_of held.exit.1.0.now) }
+    ensures adds { AddsEvent C.ways now (Listen backlog secret) (DidListen answer.now) []
+        held.entry.pass.now held.exit.1.0.now }
+{
+    held.publish::<N>();
 }
 
 // Publishes a call of `connect`.

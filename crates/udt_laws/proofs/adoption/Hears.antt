@@ -28,7 +28,7 @@ use Rattle.udt_laws.proofs.acked_has_arrived.AckedWasNamed.{AcksAct, AllAck, ite
 use Rattle.udt_laws.proofs.delivered_is_carried.DeliversPlacedBlocks.{MeetsAct, AllMeet}
 use Rattle.udt_laws.proofs.laid_messages.KeepsLayout.{MeetsLayout, AllMeetLayout}
 use Rattle.udt_laws.proofs.laid_messages.Layout.{LaidMessage}
-use Rattle.udt_laws.proofs.laid_messages.Members.{none-contained}
+use Rattle.udt_model.proofs.Members.{none-contained}
 
 module _ {C : Type 0} where
   -- an arrival from the peer for this socket that is no handshake shows this

@@ -15,7 +15,7 @@ use Rattle.udt_laws.proofs.adoption.Agreement.{agree, connects-part}
 use Rattle.udt_laws.proofs.adoption.Hears.{AllHear, acked-shows, placed-shows, dropped-shows, items-hear}
 use Rattle.udt_laws.proofs.adoption.NamesBack.{named-by}
 use Rattle.udt_laws.proofs.adoption.PeersMeet.{names-so, Connects, stands-socket, stands-connects}
-use Rattle.udt_laws.proofs.laid_messages.Members.{none-contained}
+use Rattle.udt_model.proofs.Members.{none-contained}
 use Rattle.udt_laws.proofs.sockets.Begins.{begins_settled, last_peer}
 use Rattle.udt_laws.proofs.sockets.ConnectedParts.{ConnectedPart, NeverConnected, socket-own, part-acked, never-acked, never-emits}
 use Rattle.udt_laws.proofs.sockets.OneSocket.{packet-bound, emitter-names}

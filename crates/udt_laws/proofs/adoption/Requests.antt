@@ -24,7 +24,7 @@ use Rattle.udt_model.specs.Step.{on_act, step}
 use Rattle.udt_model.specs.Wire.{Packet, Handshake, read}
 use Rattle.udt_model.proofs.ArrivalLemmas.{Shakes, packet-shows}
 use Rattle.udt_model.proofs.ArrivalLemmas as arrives
-use Rattle.udt_laws.proofs.laid_messages.Members.{contained-cases, none-contained}
+use Rattle.udt_model.proofs.Members.{contained-cases, none-contained}
 
 module _ {C : Type 0} where
   -- a socket that is connected promises none

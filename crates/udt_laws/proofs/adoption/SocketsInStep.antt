@@ -21,7 +21,7 @@ use Rattle.udt_laws.proofs.delivered_is_carried.DeliveredIsCarried.{begins_given
 use Rattle.udt_laws.proofs.delivered_is_carried.DeliversPlacedBlocks.{delivers-front_of}
 use Rattle.udt_laws.proofs.delivered_prefix.DeliveredPrefix.{prefix-delivered}
 use Rattle.udt_laws.proofs.laid_messages.Layout.{AreLaidOut}
-use Rattle.udt_laws.proofs.laid_messages.Members.{first-contained, none-contained}
+use Rattle.udt_model.proofs.Members.{first-contained, none-contained}
 use Rattle.udt_laws.proofs.laid_messages.PeerMessagesAlone.{peer-messages}
 use Rattle.udt_laws.proofs.laid_messages.ShownMessages.{AreShownOf, shows-layout}
 use Rattle.udt_laws.proofs.sockets.Begins.{begins_placed, begins_given}

@@ -31,7 +31,7 @@ use Rattle.udt_laws.proofs.delivered_prefix.PeerBlocksAlone.{mates}
 use Rattle.udt_laws.proofs.laid_messages.Layout.{LaidMessage}
 use Rattle.udt_laws.proofs.laid_messages.LayoutEnds.{laid-below}
 use Rattle.udt_laws.proofs.laid_messages.LayoutLemmas.{lies-from, first-covered}
-use Rattle.udt_laws.proofs.laid_messages.Members.{none-contained, contained-cases}
+use Rattle.udt_model.proofs.Members.{none-contained, contained-cases}
 use Rattle.udt_laws.proofs.laid_messages.KeepsLayout.{MeetsLayout, AllMeetLayout}
 use Rattle.udt_laws.proofs.laid_messages.PeerMessagesAlone.{places-laid, drops-laid}
 use Rattle.udt_laws.proofs.laid_messages.SentMessages.{payload_of, SendsMessages, sends_messages}

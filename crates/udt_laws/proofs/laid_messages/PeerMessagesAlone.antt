@@ -28,7 +28,7 @@ use Rattle.udt_laws.proofs.sockets.OneSocket.{IsEmittedNear, ComesNear}
 use Rattle.udt_laws.proofs.acked_has_arrived.AckedHasArrived.{acked-arrived-or-dropped}
 use Rattle.udt_laws.proofs.delivered_prefix.PeerBlocksAlone.{mates}
 use Rattle.udt_laws.proofs.laid_messages.Layout.{IsBlockOf, IsRangeOf}
-use Rattle.udt_laws.proofs.laid_messages.Members.{first-contained, other-contained}
+use Rattle.udt_model.proofs.Members.{first-contained, other-contained}
 use Rattle.udt_laws.proofs.laid_messages.KeepsLayout.{MeetsLayout, AllMeetLayout}
 use Rattle.udt_laws.proofs.laid_messages.SentMessages.{payload_of, SendsMessages, sends_messages}
 use Rattle.udt_laws.proofs.laid_messages.ShowsAsked.{shows-asked}

@@ -17,7 +17,7 @@ use Rattle.udt_model.proofs.StepLemmas.{step-keeps_name}
 use Rattle.udt_laws.proofs.laid_messages.Layout.{LaidMessage, AreLaidOut}
 use Rattle.udt_laws.proofs.laid_messages.LayoutLemmas.{Covers}
 use Rattle.udt_laws.proofs.laid_messages.LayoutEnds.{same-first}
-use Rattle.udt_laws.proofs.laid_messages.Members.{first-contained, other-contained, none-contained, contained-cases}
+use Rattle.udt_model.proofs.Members.{first-contained, other-contained, none-contained, contained-cases}
 use Rattle.udt_laws.proofs.laid_messages.ConsumedOffsets.{IsConsumed}
 use Rattle.udt_laws.proofs.laid_messages.ReceivedLayout.{IsOfLayout, GoesOn}
 use Rattle.udt_laws.proofs.laid_messages.ReadMessages.{IsReadAs}

@@ -17,7 +17,7 @@ use Rattle.udt_model.specs.Step.{step}
 use Rattle.udt_model.specs.Wire.{Packet, Handshake, destination, read}
 use Rattle.udt_model.proofs.RecordLemmas.{arrived_by-append}
 use Rattle.udt_model.proofs.ShakeLemmas.{shake-kind}
-use Rattle.udt_laws.proofs.laid_messages.Members.{contained-cases, none-contained}
+use Rattle.udt_model.proofs.Members.{contained-cases, none-contained}
 
 -- a datagram from an address
 abbrev pub datagram_from : Addr → List ℕ → Datagram
