@@ -140,6 +140,12 @@ module _ {R : Type 0} where
 
 -- ---- the sockets and the endpoints fit together
 
+-- the endpoint at this place has this address
+pub record HasAddress (endpoints : List Endpoint) (place : ℕ) (addr : Addr) : Type 0 where
+  pub endpoint : Endpoint
+  pub found : slice_get endpoints place ≡ Some endpoint
+  pub addr_is : endpoint.addr ≡ addr
+
 module _ {C : Type 0} where
   -- a table knows what is seen of the sockets at a host, and has room for what there may be
   pub record Knows {R : Type 0} (t : Table R) (sights : List (Sight C)) (host : Addr) : Type 0 where
@@ -156,12 +162,6 @@ module _ {C : Type 0} where
 
   abbrev pub sights_of : Network C → List (Sight C)
   sights_of network = map sight_of network.sockets.items
-
-  -- the endpoint at this place has this address
-  pub record HasAddress (endpoints : List Endpoint) (place : ℕ) (addr : Addr) : Type 0 where
-    pub endpoint : Endpoint
-    pub found : slice_get endpoints place ≡ Some endpoint
-    pub addr_is : endpoint.addr ≡ addr
 
   -- where an address has an endpoint, it is the one at this place, and a host has the address; where it has none, no host has it
   abbrev pub IsEndpoint : Network C → Option ℕ → Addr → Type 0
