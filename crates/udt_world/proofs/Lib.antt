@@ -1,5 +1,9 @@
 pub mod EventLemmas
 pub mod ActLemmas
+pub mod FirstLemmas
+pub mod KeyLemmas
+pub mod FollowLemmas
+pub mod ToldLemmas
 pub mod PlaceLemmas
 pub mod ClosedLemmas
 pub mod HostLemmas
