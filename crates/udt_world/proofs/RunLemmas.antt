@@ -1,6 +1,6 @@
 -- What the turns of a generated run do.
 use Rattle.std.proofs.Common.{◌≡◌, ℕ, zero, suc, ◌+◌, ◌-◌, ◌≤◌, ◌<◌, Bool, true, false, eqb, ◌*◌, List, [], ◌++◌, length, get_or, inl, inr, ◌⊎◌, Some, refl, ap, ◌∙◌, sym, arith}
-use Rattle.std.specs.Prelude.{slice_get, None, codes, Result, Ok, Err, IfOk, nat_lt, ◌%◌, vec_len}
+use Rattle.std.specs.Prelude.{slice_get, None, codes, Result, Ok, Err, IfOk, OnOk, nat_lt, ◌%◌, vec_len}
 use Rattle.std.proofs.lemmas.Bool.{le-ltb, lt-ltb, ne_eqb}
 use Rattle.std.proofs.lemmas.List.{append-nil, length-append, length-map, length-take-le, length-set}
 use Rattle.std.proofs.lemmas.Option.{same_Some, slice_get-map, slice_get_cases}
@@ -36,9 +36,9 @@ use Rattle.udt_world.specs.declared.generated.Run as code_run
 use Rattle.udt_world.specs.declared.network.Network as code
 use Rattle.udt_world.specs.declared.network.ScriptSocket as code_socket
 use Rattle.udt_world.specs.Done.{DoesLine, GoesTo}
-use Rattle.udt_world.specs.Runs.{count_in, Counts, IsRun}
+use Rattle.udt_world.specs.Runs.{count_in, Counts, IsRun, IsSet}
 use Rattle.udt_world.specs.Views.{Sight, View, Shows, Moves, Answers, sight_of, sight_of_history, view_of}
-use Rattle.udt_world.specs.Wiring.{MayHappen}
+use Rattle.udt_world.specs.Wiring.{IsWired, MayHappen}
 use Rattle.udt_world.proofs.ArriveLemmas.{arrive-gives, not_followed, paired-settled, settled-promises}
 use Rattle.udt_world.proofs.CountedLemmas.{counted-length}
 use Rattle.udt_world.proofs.EventLemmas.{shown_at, moves_shown, reply_shown, tick_reply}
@@ -52,6 +52,11 @@ there_by xs i within (inr past) = absurd (omega (arith, within, past.0))
 
 there_at : {A : Type 0} (xs : List A) (i : ℕ) → i < length xs → (x : A) × (slice_get xs i ≡ Some x)
 there_at xs i within = there_by xs i within (slice_get_cases xs i).1
+
+-- two facts of a result
+pub on_ok_both : {T E P Q : Type 0} (r : Result T E) → OnOk r P → OnOk r Q → OnOk r (P × Q)
+on_ok_both (Ok x) p q = (p, q)
+on_ok_both (Err e) p q = tt
 
 -- a pack and a tick need nothing
 pub may_pack : {C : Type 0} (sights : List (Sight C)) (place : ℕ) → MayHappen sights place Pack
@@ -136,6 +141,18 @@ module _ {C : Type 0} (w : Ways C) where
   moved_count place happens old new moves =
       let count = ap length moves.sockets ∙ length-set (view_of old).sockets place _ in
       omega (arith, count, length-map old.sockets.items sight_of, length-map new.sockets.items sight_of, old.sockets.ok.0, new.sockets.ok.0)
+
+  -- and what is set stays so
+  pub set_moved : (place : ℕ) (happens : Event) (old new : code_run.Run C) → IsSet old
+      → Moves w place happens (view_of old.network) (view_of new.network) → IsWired new.network
+      → new.pattern ≡ old.pattern → new.room ≡ old.room → IsSet new
+  set_moved place happens old new set moves wired pattern room = record {
+    wired = wired;
+    sockets = moved_count place happens old.network new.network moves ∙ set.sockets;
+    pattern = rw pattern set.pattern;
+    length = rw pattern set.length;
+    room = rw room set.room;
+  }
 
   -- ---- histories
 
