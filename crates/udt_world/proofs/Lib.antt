@@ -25,3 +25,5 @@ pub mod NameLemmas
 pub mod PushLemmas
 pub mod EmptyLemmas
 pub mod AddedLemmas
+pub mod GivenLemmas
+pub mod DatagramLemmas
