@@ -16,6 +16,7 @@ pub mod RouteLemmas
 pub mod LineLemmas
 pub mod ArriveLemmas
 pub mod MessageLemmas
+pub mod QueueLemmas
 pub mod TranscriptLemmas
 pub mod WorldLemmas
 pub mod CountedLemmas

@@ -13,26 +13,35 @@ use Rattle.udt_model.specs.declared.packets.Kind.{Kind}
 use Rattle.udt_model.specs.declared.packets.Kind.TheVariants.{Stream, Message}
 use Rattle.udt_model.specs.declared.answers.Peer.{Peer}
 use Rattle.udt_model.specs.Emissions.{IsPrefix}
-use Rattle.udt_model.specs.Events.{Arrive, DidTick, Event, Reply, outs_of}
+use Rattle.udt_model.specs.declared.answers.Heard.TheVariants as heard
+use Rattle.udt_model.specs.declared.packets.Shake.{Shake}
+use Rattle.udt_model.specs.Events.{Act, Listen, Meet, Accept, Offer, Withdraw, Arrive, Accepted, DidHear, DidTick, Event, Reply, event, outs_of}
 use Rattle.udt_model.specs.History.{History, state_of, happened, taken_by, given_by, accepted_by, delivered_by, accepted, delivered}
-use Rattle.udt_model.specs.Lines.{Pairing, Line, Silent, PairLine, CallLine, DeliverLine, RawLine, read_line, AreEmitted}
-use Rattle.udt_model.specs.Network.{ScriptSocket, ScriptDatagram, Network, empty_network, first_host, second_host, place_of, Route, ToSocket, Nowhere, route}
+use Rattle.udt_model.specs.declared.limits.TheConstants.{MOST_SOCKETS}
+use Rattle.udt_model.specs.Lines.{Pairing, OpeningLine, Line, Silent, PairLine, HostLine, OpenLine, AcceptLine, CallLine, DeliverLine, RawLine, read_line, AreEmitted}
+use Rattle.udt_model.specs.Network.{ScriptHost, ScriptSocket, ScriptDatagram, Network, empty_network, first_host, second_host, address_of_host, place_of, is_taken, holds_listener, holds_meeting, holds_any_meeting, first_id, Route, ToSocket, Nowhere, route}
 use Rattle.udt_model.specs.Opening.{opening}
 use Rattle.udt_model.specs.Rate.{Ways}
-use Rattle.udt_model.specs.Records.{own_peer}
-use Rattle.udt_model.specs.Script.{Printed, from_host, paired_socket, paired, may_pair, event_at, event_there, arrived, delivery, on_line, played_line, network_after, printed_after}
+use Rattle.udt_model.specs.Records.{PairedAt, peer_by, own_peer}
+use Rattle.udt_model.specs.Routes.{handshake_in}
+use Rattle.udt_model.specs.Script.{Printed, size_of, from_host, paired_socket, paired, may_pair, may_host, may_open, with_host, with_socket, with_name, named_at, named_by, and_then, opened_at, event_at, event_there, call_by, accept_at, made_for, offered, followed_by, arrived, delivery, on_line, played_line, network_after, printed_after}
 use Rattle.udt_model.specs.Step.{step}
-use Rattle.udt_model.specs.Texts.{datagrams_text}
-use Rattle.udt_model.specs.Words.{◌>>=◌, is_word}
+use Rattle.udt_model.specs.Texts.{datagrams_text, listen_twice_text, meet_taken_text}
+use Rattle.udt_model.specs.Wire.{read}
+use Rattle.udt_model.specs.Words.{◌>>=◌, is_name, is_word}
 use Rattle.udt_model.proofs.HistoryLemmas.{accepted_by-append, delivered_by-append}
-use Rattle.udt_laws.proofs.sockets.Opened.{last_peer}
+use Rattle.udt_model.proofs.PeerLemmas.{own_peer-stays}
 use Rattle.udt_laws.proofs.scripts.ReplacedOne.{set-other, set-same, append-found, append-first, append-second, found-once}
-use Rattle.udt_laws.proofs.scripts.ScriptsInStep.{route-found, script_prefix}
+use Rattle.udt_laws.proofs.scripts.HostReached.{host-reached}
+use Rattle.udt_world.proofs.ScriptLaws.{script_prefix}
 use Rattle.udt_world.specs.Kept.{AreAccepted}
 use Rattle.udt_world.specs.ScriptLines.{Accepts}
-use Rattle.udt_world.specs.Transcripts.{Entry, answer_text, entry_text, given_to, taken_from, received, sent, AreInStep, lines_in, ArePrinted, TellsLine}
+use Rattle.udt_world.specs.Transcripts.{Answer, Replied, ListensTwice, MeetsTaken, Entry, told_text, answer_text, given_in, taken_in, entry_text, given_to, taken_from, received, sent, AreInStep, lines_in, ArePrinted, TellsLine}
 use Rattle.udt_world.proofs.ArriveLemmas.{arrive-gives}
 use Rattle.udt_world.proofs.MessageLemmas.{happened-gives}
+use Rattle.udt_world.specs.Wiring.{IsGiven}
+use Rattle.udt_world.proofs.GivenLemmas.{line_names}
+use Rattle.udt_world.proofs.QueueLemmas.{queue_of, IsUnnamed, IsQueued, none-queued, added-queued, event-queued, offered-queued, accept-queued}
 use Rattle.udt_world.proofs.LineLemmas.{no_lines, accepted-by, left-after}
 use Rattle.udt_world.proofs.PlaceLemmas.{same_word, is_same_word, name_there, place-set, position-first, position-others, position-cons}
 
@@ -43,20 +52,20 @@ record SaysNothing (name : List ℕ) (entries : List Entry) : Type 0 where
 
 -- ---- what entries say
 
-received-more : (name : List ℕ) (entries : List Entry) (e : Entry) → received name (entries ++ e ∷ []) ≡ received name entries ++ given_to name (read_line e.line) e.reply
+received-more : (name : List ℕ) (entries : List Entry) (e : Entry) → received name (entries ++ e ∷ []) ≡ received name entries ++ given_to name (read_line e.line) e.answer
 received-more name entries e =
-    flat_map-append (λ (entry : Entry). given_to name (read_line entry.line) entry.reply) entries (e ∷ [])
-    ∙ ap (λ more. received name entries ++ more) (append-nil (given_to name (read_line e.line) e.reply))
+    flat_map-append (λ (entry : Entry). given_to name (read_line entry.line) entry.answer) entries (e ∷ [])
+    ∙ ap (λ more. received name entries ++ more) (append-nil (given_to name (read_line e.line) e.answer))
 
-sent-more : (name : List ℕ) (entries : List Entry) (e : Entry) → sent name (entries ++ e ∷ []) ≡ sent name entries ++ taken_from name (read_line e.line) e.reply
+sent-more : (name : List ℕ) (entries : List Entry) (e : Entry) → sent name (entries ++ e ∷ []) ≡ sent name entries ++ taken_from name (read_line e.line) e.answer
 sent-more name entries e =
-    flat_map-append (λ (entry : Entry). taken_from name (read_line entry.line) entry.reply) entries (e ∷ [])
-    ∙ ap (λ more. sent name entries ++ more) (append-nil (taken_from name (read_line e.line) e.reply))
+    flat_map-append (λ (entry : Entry). taken_from name (read_line entry.line) entry.answer) entries (e ∷ [])
+    ∙ ap (λ more. sent name entries ++ more) (append-nil (taken_from name (read_line e.line) e.answer))
 
 -- an entry tells this of a name
 record Adds (name : List ℕ) (e : Entry) (gave took : List ℕ) : Type 0 where
-  gives : given_to name (read_line e.line) e.reply ≡ gave
-  takes : taken_from name (read_line e.line) e.reply ≡ took
+  gives : given_to name (read_line e.line) e.answer ≡ gave
+  takes : taken_from name (read_line e.line) e.answer ≡ took
 
 says-nothing-on : (name : List ℕ) (entries : List Entry) (e : Entry) → Adds name e [] [] → SaysNothing name entries → SaysNothing name (entries ++ e ∷ [])
 says-nothing-on name entries e adds says = record {
@@ -68,39 +77,31 @@ says-nothing-on name entries e adds says = record {
 
 -- a line that is no call and no pair
 record IsQuiet (line : List ℕ) : Type 0 where
-  answers : (reply : Reply) → answer_text (read_line line) reply ≡ []
-  gives : (name : List ℕ) (reply : Reply) → given_to name (read_line line) reply ≡ []
-  takes : (name : List ℕ) (reply : Reply) → taken_from name (read_line line) reply ≡ []
+  answers : (answer : Answer) → answer_text (read_line line) answer ≡ []
+  gives : (name : List ℕ) (answer : Answer) → given_to name (read_line line) answer ≡ []
+  takes : (name : List ℕ) (answer : Answer) → taken_from name (read_line line) answer ≡ []
   no_pair : (p : Pairing) → read_line line ≡ Some (PairLine p) → ⊥
 
 entry_of : List ℕ → List ℕ → Entry
-entry_of line text = record { line = line; reply = DidTick; rest = text }
+entry_of line text = record { line = line; answer = Replied DidTick; rest = text }
 
 no_matter : (b : Bool) (xs : List ℕ) → xs ≡ [] → (if b then xs else []) ≡ []
 no_matter true xs none = none
 no_matter false xs none = refl
 
-quiet_deliver : (line : List ℕ) (number now : ℕ) → read_line line ≡ Some (DeliverLine number now) → IsQuiet line
-quiet_deliver line number now reads = record {
-  answers = λ reply. rw reads refl;
-  gives = λ name reply. rw reads refl;
-  takes = λ name reply. rw reads refl;
-  no_pair = λ p pairs. cc;
-}
+-- the form is no call and no pair
+abbrev IsQuietForm : Line → Type 0
+IsQuietForm (PairLine pairing) = ⊥
+IsQuietForm (CallLine name event) = ⊥
+IsQuietForm form = Unit {0}
 
-quiet_raw : (line : List ℕ) (now : ℕ) (datagram : ScriptDatagram) → read_line line ≡ Some (RawLine now datagram) → IsQuiet line
-quiet_raw line now datagram reads = record {
-  answers = λ reply. rw reads refl;
-  gives = λ name reply. rw reads refl;
-  takes = λ name reply. rw reads refl;
-  no_pair = λ p pairs. cc;
-}
-
-quiet_silent : (line : List ℕ) → read_line line ≡ Some Silent → IsQuiet line
-quiet_silent line reads = record {
-  answers = λ reply. rw reads refl;
-  gives = λ name reply. rw reads refl;
-  takes = λ name reply. rw reads refl;
+quiet-form : (line : List ℕ) (form : Line) → IsQuietForm form → read_line line ≡ Some form → IsQuiet line
+quiet-form line (PairLine pairing) is reads = absurd is
+quiet-form line (CallLine name event) is reads = absurd is
+quiet-form line form is reads = record {
+  answers = λ answer. rw reads refl;
+  gives = λ name answer. rw reads refl;
+  takes = λ name answer. rw reads refl;
   no_pair = λ p pairs. cc;
 }
 
