@@ -1,5 +1,5 @@
 -- Entries tell the histories of a network, so that what they say was received and sent is in step.
-use Rattle.std.proofs.Common.{◌≡◌, ℕ, zero, suc, ◌+◌, ◌<◌, ◌^◌, Bool, true, false, not, List, [], ◌∷◌, ◌++◌, length, map, Some, None, Option, refl, ap, ◌∙◌, sym, subst, inl, inr, ◌⊎◌, arith, option_map, append_assoc}
+use Rattle.std.proofs.Common.{◌≡◌, ℕ, zero, suc, ◌+◌, ◌<◌, ◌^◌, Bool, true, false, not, ◌||◌, List, [], ◌∷◌, ◌++◌, length, map, Some, None, Option, refl, ap, ◌∙◌, sym, subst, inl, inr, ◌⊎◌, arith, option_map, append_assoc}
 use Rattle.std.specs.Prelude.{slice_get, slice_set, if◌then◌else◌, is_some}
 use Rattle.std.specs.List.{Contains}
 use Rattle.std.proofs.lemmas.Bool.{cases_eq, and_parts}
@@ -24,7 +24,7 @@ use Rattle.udt_model.specs.Opening.{opening}
 use Rattle.udt_model.specs.Rate.{Ways}
 use Rattle.udt_model.specs.Records.{PairedAt, peer_by, own_peer}
 use Rattle.udt_model.specs.Routes.{handshake_in}
-use Rattle.udt_model.specs.Script.{Printed, size_of, from_host, paired_socket, paired, may_pair, may_host, may_open, with_host, with_socket, with_name, named_at, named_by, and_then, opened_at, event_at, event_there, call_by, accept_at, made_for, offered, followed_by, arrived, delivery, on_line, played_line, network_after, printed_after}
+use Rattle.udt_model.specs.Script.{Printed, size_of, from_host, paired_socket, paired, may_pair, may_host, may_open, with_host, with_socket, with_name, named_at, named_by, and_then, with_place, opened_at, event_at, event_there, call_by, accept_at, made_for, offered, followed_by, arrived, delivery, on_line, played_line, network_after, printed_after}
 use Rattle.udt_model.specs.Step.{step}
 use Rattle.udt_model.specs.Texts.{datagrams_text, listen_twice_text, meet_taken_text}
 use Rattle.udt_model.specs.Wire.{read}
@@ -151,6 +151,8 @@ module _ {C : Type 0} (w : Ways C) where
   pub record IsTold (n : Network C) (entries : List Entry) : Type 0 where
     sockets : (k : ℕ) (socket : ScriptSocket C) → slice_get n.sockets k ≡ Some socket → Says socket.name entries socket.history
     places : (k : ℕ) (socket : ScriptSocket C) → slice_get n.sockets k ≡ Some socket → place_of socket.name n.sockets ≡ Some k
+    given : (k : ℕ) (socket : ScriptSocket C) → slice_get n.sockets k ≡ Some socket → IsGiven k socket.name
+    queued : IsQueued w n
     others : (name : List ℕ) → place_of name n.sockets ≡ None → SaysNothing name entries
     pairs : (entry : Entry) (p : Pairing) → Contains entries entry → read_line entry.line ≡ Some (PairLine p) → HasPair n p
 
@@ -185,9 +187,45 @@ module _ {C : Type 0} (w : Ways C) where
   quiet n entries e adds new told = record {
     sockets = λ k socket at. says-on socket.name entries e socket.history (adds socket.name) (told.sockets k socket at);
     places = told.places;
+    given = told.given;
+    queued = told.queued;
     others = λ name none. says-nothing-on name entries e (adds name) (told.others name none);
     pairs = pairs-on n entries e new told.pairs;
   }
+
+  -- entries tell more of one name, and of no other
+  record SayMore (name gave took : List ℕ) (entries later : List Entry) : Type 0 where
+    received : (other : List ℕ) → received other later ≡ received other entries ++ (if is_word name other then gave else [])
+    sent : (other : List ℕ) → sent other later ≡ sent other entries ++ (if is_word name other then took else [])
+    pairs : (entry : Entry) (p : Pairing) → Contains later entry → read_line entry.line ≡ Some (PairLine p) → Contains entries entry
+
+  one-says : (name gave took : List ℕ) (entries : List Entry) (e : Entry)
+      → ((other : List ℕ) → Adds other e (if is_word name other then gave else []) (if is_word name other then took else []))
+      → ((p : Pairing) → read_line e.line ≡ Some (PairLine p) → ⊥) → SayMore name gave took entries (entries ++ e ∷ [])
+  one-says name gave took entries e adds no_pair = record {
+    received = λ other. received-more other entries e ∙ ap (λ more. received other entries ++ more) (adds other).gives;
+    sent = λ other. sent-more other entries e ∙ ap (λ more. sent other entries ++ more) (adds other).takes;
+    pairs = λ entry p among reads. elim (Contains-push_cases entries e entry among) [
+      | inl before ↦ before
+      | inr last ↦ absurd (no_pair p (ap (λ (x : Entry). read_line x.line) last ∙ reads))
+    ];
+  }
+
+  none-says : (name gave took : List ℕ) (entries : List Entry) → gave ≡ [] → took ≡ [] → SayMore name gave took entries entries
+  none-says name gave took entries gives takes = record {
+    received = λ other. sym (ap (λ more. received other entries ++ more) (no_matter (is_word name other) gave gives) ∙ append-nil (received other entries));
+    sent = λ other. sym (ap (λ more. sent other entries ++ more) (no_matter (is_word name other) took takes) ∙ append-nil (sent other entries));
+    pairs = λ entry p among reads. among;
+  }
+
+  -- and nothing of a name
+  record SaySame (name : List ℕ) (entries later : List Entry) : Type 0 where
+    received : received name later ≡ received name entries
+    sent : sent name later ≡ sent name entries
+
+  same-says : (name : List ℕ) (entries later : List Entry) (h : History C) → SaySame name entries later → Says name entries h → Says name later h
+  same-says name entries later h same says =
+      record { received = same.received ∙ says.received; sent = same.sent ∙ says.sent; none = says.none }
 
   -- ---- events
 
@@ -223,6 +261,10 @@ module _ {C : Type 0} (w : Ways C) where
       }
     ]
 
+    event-there : slice_get (event_at w n k socket event).network.sockets k ≡ Some later
+    unfolding event_at
+    event-there = set-same n.sockets k socket later at
+
     -- another name has another place
     another : (name : List ℕ) (found : Option ℕ) → place_of name n.sockets ≡ found → (found ≡ Some k → ⊥) → is_word socket.name name ≡ false
     another name found place apart =
@@ -233,49 +275,59 @@ module _ {C : Type 0} (w : Ways C) where
           | false ↦ λ e. refl
         ] refl
 
-    -- the entry tells of the socket's name what the event gave and took
-    event-told : (e : Entry) → ((name : List ℕ) → Adds name e (if is_word socket.name name then gave else []) (if is_word socket.name name then took else []))
-        → ((p : Pairing) → read_line e.line ≡ Some (PairLine p) → ⊥)
-        → IsTold (event_at w n k socket event).network (entries ++ e ∷ [])
+    -- the entries tell of the socket's name what the event gave and took
+    event-told : (longer : List Entry) → SayMore socket.name gave took entries longer → IsQueued w (event_at w n k socket event).network
+        → IsTold (event_at w n k socket event).network longer
     unfolding event_at
-    event-told e adds no_pair =
-        let silent : (name : List ℕ) → is_word socket.name name ≡ false → Adds name e [] [] = λ name other.
-        record { gives = (adds name).gives ∙ (rw other refl); takes = (adds name).takes ∙ (rw other refl) } in
+    event-told longer more queued =
+        let silent : (name : List ℕ) → is_word socket.name name ≡ false → SaySame name entries longer = λ name other. record {
+          received = more.received name ∙ (rw other (append-nil (received name entries)));
+          sent = more.sent name ∙ (rw other (append-nil (sent name entries)));
+        } in
         let own = is_same_word socket.name in
         let says = told.sockets k socket at in
-        let mine : Says socket.name (entries ++ e ∷ []) later.history = record {
-          received =
-              received-more socket.name entries e
-              ∙ (rw ((adds socket.name).gives, own, says.received) (sym (delivered-happened socket.history event)));
-          sent =
-              sent-more socket.name entries e
-              ∙ (rw ((adds socket.name).takes, own, says.sent) (sym (accepted-happened socket.history event)));
+        let mine : Says socket.name longer later.history = record {
+          received = more.received socket.name ∙ (rw (own, says.received) (sym (delivered-happened socket.history event)));
+          sent = more.sent socket.name ∙ (rw (own, says.sent) (sym (accepted-happened socket.history event)));
           none = λ carries. delivered-happened socket.history event ∙ rw (says.none carries, happened-gives w socket.history event carries) refl;
         } in
+        let there : (j : ℕ) → k ≡ j → slice_get (slice_set n.sockets k later) j ≡ Some later =
+        λ j same. subst (λ (i : ℕ). slice_get (slice_set n.sockets k later) i ≡ Some later) same (set-same n.sockets k socket later at) in
         record {
           sockets = λ j found found_at. elim (cases_eq k j) [
-            | inl same ↦
-                let there = subst (λ (i : ℕ). slice_get (slice_set n.sockets k later) i ≡ Some later) same (set-same n.sockets k socket later at) in
-                subst (λ (s : ScriptSocket C). Says s.name (entries ++ e ∷ []) s.history) (found-once _ j later found there found_at) mine
+            | inl same ↦ subst (λ (s : ScriptSocket C). Says s.name longer s.history) (found-once _ j later found (there j same) found_at) mine
             | inr apart ↦
                 let old = sym (set-other n.sockets k j later apart) ∙ found_at in
                 let other = another found.name (Some j) (told.places j found old) (λ (same : Some j ≡ Some k). apart (sym (same_Some j k same))) in
-                says-on found.name entries e found.history (silent found.name other) (told.sockets j found old)
+                same-says found.name entries longer found.history (silent found.name other) (told.sockets j found old)
           ];
           places = λ j found found_at. place-set found.name n.sockets k socket later at refl ∙ (elim (cases_eq k j) [
             | inl same ↦
-                let there = subst (λ (i : ℕ). slice_get (slice_set n.sockets k later) i ≡ Some later) same (set-same n.sockets k socket later at) in
-                let one = found-once _ j later found there found_at in
+                let one = found-once _ j later found (there j same) found_at in
                 ap (λ (s : ScriptSocket C). place_of s.name n.sockets) (sym one) ∙ (told.places k socket at ∙ ap Some same)
             | inr apart ↦ told.places j found (sym (set-other n.sockets k j later apart) ∙ found_at)
           ]);
+          given = λ j found found_at. elim (cases_eq k j) [
+            | inl same ↦
+                let one = found-once _ j later found (there j same) found_at in
+                subst (λ (s : ScriptSocket C). IsGiven j s.name) one (subst (λ (i : ℕ). IsGiven i socket.name) same (told.given k socket at))
+            | inr apart ↦ told.given j found (sym (set-other n.sockets k j later apart) ∙ found_at)
+          ];
+          queued = queued;
           others = λ name none.
               let before : place_of name n.sockets ≡ None = sym (place-set name n.sockets k socket later at refl) ∙ none in
-              says-nothing-on name entries e (silent name (another name None before (λ same. absurd (cc)))) (told.others name before);
-          pairs = pairs-on (event_at w n k socket event).network entries e (λ p reads. absurd (no_pair p reads)) (λ entry p among reads.
-              let pair = told.pairs entry p among reads in
-              record { place = pair.place; first = began-on pair.place _ pair.first; second = began-on (pair.place + 1) _ pair.second });
+              let same = silent name (another name None before (λ same. absurd (cc))) in
+              let says = told.others name before in
+              record { received = same.received ∙ says.received; sent = same.sent ∙ says.sent };
+          pairs = λ entry p among reads.
+              let pair = told.pairs entry p (more.pairs entry p among reads) reads in
+              record { place = pair.place; first = began-on pair.place _ pair.first; second = began-on (pair.place + 1) _ pair.second };
         }
+
+    -- an event that gives and takes no bytes, and by which nothing comes to wait
+    silent-told : gave ≡ [] → took ≡ [] → ((id : ℕ) → event.act ≡ Offer id → ⊥) → IsTold (event_at w n k socket event).network entries
+    silent-told gives takes no_offer =
+        event-told entries (none-says socket.name gave took entries gives takes) (event-queued w n k socket event at no_offer told.queued)
 
   -- ---- lines
 
@@ -286,70 +338,125 @@ module _ {C : Type 0} (w : Ways C) where
     pub text : entry_text entry ≡ p.text
     pub told : IsTold p.network (entries ++ entry ∷ [])
 
-  quiet-made : (n : Network C) (entries : List Entry) (line text : List ℕ) → IsQuiet line → IsTold n entries
-      → Made line entries (record { network = n; text = text })
+  -- a quiet line leaves what is told without it
+  quiet-made : (entries : List Entry) (line : List ℕ) (p : Printed C) → IsQuiet line → IsTold p.network entries → Made line entries p
   unfolding entry_of
-  quiet-made n entries line text is told = record {
-    entry = entry_of line text;
+  quiet-made entries line p is told = record {
+    entry = entry_of line p.text;
     line_is = refl;
-    text = rw (is.answers DidTick) refl;
-    told = quiet n entries (entry_of line text) (λ name. record { gives = is.gives name DidTick; takes = is.takes name DidTick }) (λ p reads. absurd (is.no_pair p reads)) told;
+    text = rw (is.answers (Replied DidTick)) refl;
+    told = quiet p.network entries (entry_of line p.text)
+        (λ name. record { gives = is.gives name (Replied DidTick); takes = is.takes name (Replied DidTick) }) (λ p reads. absurd (is.no_pair p reads)) told;
   }
 
-  arrival-made : (n : Network C) (entries : List Entry) (line : List ℕ) (now : ℕ) (datagram : ScriptDatagram) (r : Route C) → route w n.sockets datagram ≡ r → IsQuiet line
-      → IsTold n entries → Made line entries (arrived w n now datagram r)
-  unfolding entry_of
-  arrival-made n entries line now datagram (Nowhere word) is quietly told = quiet-made n entries line _ quietly told
-  arrival-made n entries line now datagram (ToSocket place socket) is quietly told =
-      let event : Event = record { now = now; act = Arrive datagram.from datagram.bytes } in
-      let none = arrive-gives w (state_of w socket.history) now datagram.from datagram.bytes in
-      let entry = entry_of line (event_at w n place socket event).text in
-      record {
-        entry = entry;
-        line_is = refl;
-        text = rw (quietly.answers DidTick) refl;
-        told = event-told n entries told place socket event (route-found w n.sockets datagram place socket is) entry
-            (λ name. record {
-              gives = quietly.gives name DidTick ∙ sym (no_matter (is_word socket.name name) _ none);
-              takes = quietly.takes name DidTick ∙ sym (no_matter (is_word socket.name name) [] refl);
-            })
-            quietly.no_pair;
-      }
+  -- ---- arrivals
+
+  module _ (now : ℕ) (datagram : ScriptDatagram) where
+    abbrev arrival : Event
+    arrival = event now (Arrive datagram.from datagram.bytes)
+
+    arrival-told : (n : Network C) (entries : List Entry) (k : ℕ) (socket : ScriptSocket C) → slice_get n.sockets k ≡ Some socket → IsTold n entries
+        → IsTold (event_at w n k socket arrival).network entries
+    arrival-told n entries k socket at told = silent-told n entries told k socket arrival at
+        (arrive-gives w (state_of w socket.history) now datagram.from datagram.bytes) refl (λ id is. absurd (cc))
+
+    offered-told : (n : Network C) (entries : List Entry) (k : ℕ) (listener socket : ScriptSocket C) (shake : Shake) → slice_get n.sockets k ≡ Some socket
+        → IsTold n entries → IsTold (offered w n now k listener datagram shake).network entries
+    offered-told n entries k listener socket shake at told = ?
+
+    followed-told : (n : Network C) (entries : List Entry) (k : ℕ) (listener socket : ScriptSocket C) (text : List ℕ) (shake : Option Shake) (reply : Reply)
+        → slice_get n.sockets k ≡ Some socket → IsTold n entries
+        → IsTold (followed_by w (record { network = n; text = text }) now k listener datagram shake reply).network entries
+    followed-told n entries k listener socket text (Some shake) (DidHear heard.Request) at told = offered-told n entries k listener socket shake at told
+    followed-told n entries k listener socket text shake reply at told = told
+
+    arrived-told : (n : Network C) (entries : List Entry) (r : Route C) → route w n datagram ≡ r → IsTold n entries
+        → IsTold (arrived w n now datagram r).network entries
+    arrived-told n entries (Nowhere word) is told = told
+    arrived-told n entries (ToSocket place socket) is told =
+        let at = (host-reached w n datagram place socket is).0 in
+        followed-told (event_at w n place socket arrival).network entries place socket (record socket { history = happened w socket.history 0 arrival })
+        (event_at w n place socket arrival).text (handshake_in (read datagram.bytes)) (step w (state_of w socket.history) arrival).reply
+        (event-there n entries told place socket arrival at) (arrival-told n entries place socket at told)
 
   delivery-made : (n : Network C) (entries : List Entry) (line : List ℕ) (now : ℕ) (found : Option ScriptDatagram) (p : Printed C) → delivery w n now found ≡ Some p → IsQuiet line
       → IsTold n entries → Made line entries p
   delivery-made n entries line now None p is quietly told = absurd (cc)
   delivery-made n entries line now (Some datagram) p is quietly told =
-      subst (Made line entries) (same_Some _ p is) (arrival-made n entries line now datagram (route w n.sockets datagram) refl quietly told)
+      subst (Made line entries) (same_Some _ p is)
+      (quiet-made entries line (arrived w n now datagram (route w n datagram)) quietly (arrived-told now datagram n entries (route w n datagram) refl told))
+
+  -- ---- calls
+
+  -- no call of a line is an offer
+  called-no_offer : (line name : List ℕ) (now : ℕ) (act : Act) (id : ℕ) → read_line line ≡ Some (CallLine name (event now act)) → act ≡ Offer id → ⊥
+  called-no_offer line name now act id reads is = ?
 
   -- a call is answered by the socket of its name
-  call-made : (n : Network C) (entries : List Entry) (line name : List ℕ) (event : Event) (k : ℕ) (socket : ScriptSocket C) → read_line line ≡ Some (CallLine name event)
-      → socket.name ≡ name → slice_get n.sockets k ≡ Some socket → IsTold n entries → Made line entries (event_at w n k socket event)
+  call-made : (n : Network C) (entries : List Entry) (line name : List ℕ) (now : ℕ) (act : Act) (k : ℕ) (socket : ScriptSocket C)
+      → read_line line ≡ Some (CallLine name (event now act)) → socket.name ≡ name → slice_get n.sockets k ≡ Some socket → IsTold n entries
+      → Made line entries (event_at w n k socket (event now act))
   unfolding event_at
-  call-made n entries line name event k socket reads named at told =
-      let reply = (step w (state_of w socket.history) event).reply in
+  call-made n entries line name now act k socket reads named at told =
+      let reply = (step w (state_of w socket.history) (event now act)).reply in
       let entry : Entry = record {
         line = line;
-        reply = reply;
-        rest = datagrams_text (length n.datagrams) (map (from_host socket.host) (outs_of (step w (state_of w socket.history) event)));
+        answer = Replied reply;
+        rest = datagrams_text (length n.datagrams) (map (from_host socket.host) (outs_of (step w (state_of w socket.history) (event now act))));
       } in
       record {
         entry = entry;
         line_is = refl;
         text = rw (reads, ← named) refl;
-        told = event-told n entries told k socket event at entry (λ other. record { gives = rw (reads, ← named) refl; takes = rw (reads, ← named) refl }) (λ p pairs. absurd (cc));
+        told = event-told n entries told k socket (event now act) at (entries ++ entry ∷ [])
+            (one-says socket.name _ _ entries entry (λ other. record { gives = rw (reads, ← named) refl; takes = rw (reads, ← named) refl }) (λ p pairs. absurd (cc)))
+            (event-queued w n k socket (event now act) at (λ id. called-no_offer line name now act id reads) told.queued);
       }
+
+  -- or its place is taken, and nothing happens
+  taken-made : (n : Network C) (entries : List Entry) (line name : List ℕ) (now : ℕ) (act : Act) (answer : Answer)
+      → read_line line ≡ Some (CallLine name (event now act)) → given_in answer ≡ [] → taken_in act answer ≡ [] → IsTold n entries
+      → Made line entries (record { network = n; text = told_text name act answer })
+  taken-made n entries line name now act answer reads gives takes told =
+      let entry : Entry = record { line = line; answer = answer; rest = [] } in
+      record {
+        entry = entry;
+        line_is = refl;
+        text = rw reads (append-nil (told_text name act answer));
+        told = quiet n entries entry (λ other. record {
+          gives = rw reads (no_matter (is_word name other) (given_in answer) gives);
+          takes = rw reads (no_matter (is_word name other) (taken_in act answer) takes);
+        }) (λ p pairs. absurd (cc)) told;
+      }
+
+  call_by-made : (n : Network C) (entries : List Entry) (line : List ℕ) (now : ℕ) (act : Act) (k : ℕ) (socket : ScriptSocket C)
+      → read_line line ≡ Some (CallLine socket.name (event now act)) → slice_get n.sockets k ≡ Some socket → IsTold n entries
+      → Made line entries (call_by w n k socket now act)
+  call_by-made n entries line now (Listen most secret) k socket reads at told =
+      elim (is_some (first_id (holds_listener w socket.host) n.sockets)) as (λ held. Made line entries (
+      if held then record { network = n; text = listen_twice_text socket.name } else event_at w n k socket (event now (Listen most secret)))) [
+        | true ↦ taken-made n entries line socket.name now (Listen most secret) ListensTwice reads refl refl told
+        | false ↦ call-made n entries line socket.name now (Listen most secret) k socket reads refl at told
+      ]
+  call_by-made n entries line now (Meet to) k socket reads at told =
+      elim (is_some (first_id (holds_meeting w socket.host to) n.sockets) || holds_any_meeting w socket) as (λ held. Made line entries (
+      if held then record { network = n; text = meet_taken_text socket.name } else event_at w n k socket (event now (Meet to)))) [
+        | true ↦ taken-made n entries line socket.name now (Meet to) MeetsTaken reads refl refl told
+        | false ↦ call-made n entries line socket.name now (Meet to) k socket reads refl at told
+      ]
+  call_by-made n entries line now act k socket reads at told = call-made n entries line socket.name now act k socket reads refl at told
 
   call-found : (n : Network C) (entries : List Entry) (line name : List ℕ) (event : Event) (k : ℕ) (found : Option (ScriptSocket C)) (p : Printed C)
       → read_line line ≡ Some (CallLine name event) → place_of name n.sockets ≡ Some k → slice_get n.sockets k ≡ found
-      → option_map (λ socket. event_at w n k socket event) found ≡ Some p → IsTold n entries → Made line entries p
+      → option_map (λ socket. call_by w n k socket event.now event.act) found ≡ Some p → IsTold n entries → Made line entries p
   call-found n entries line name event k None p reads place at is told = absurd (cc)
   call-found n entries line name event k (Some socket) p reads place at is told =
-      subst (Made line entries) (same_Some _ p is) (call-made n entries line name event k socket reads (name_there name n.sockets k socket place at) at told)
+      let named = name_there name n.sockets k socket place at in
+      subst (Made line entries) (same_Some _ p is) (call_by-made n entries line event.now event.act k socket (rw named reads) at told)
 
   call-there : (n : Network C) (entries : List Entry) (line name : List ℕ) (event : Event) (found : Option ℕ) (p : Printed C)
-      → read_line line ≡ Some (CallLine name event) → place_of name n.sockets ≡ found → event_there w n found event ≡ Some p → IsTold n entries
-      → Made line entries p
+      → read_line line ≡ Some (CallLine name event) → place_of name n.sockets ≡ found
+      → with_place n (λ place socket. call_by w n place socket event.now event.act) found ≡ Some p → IsTold n entries → Made line entries p
   call-there n entries line name event None p reads place is told = absurd (cc)
   call-there n entries line name event (Some k) p reads place is told = call-found n entries line name event k (slice_get n.sockets k) p reads place refl is told
 
