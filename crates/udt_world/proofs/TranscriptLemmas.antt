@@ -16,7 +16,7 @@ use Rattle.udt_model.specs.Emissions.{IsPrefix}
 use Rattle.udt_model.specs.declared.answers.Heard.TheVariants as heard
 use Rattle.udt_model.specs.declared.packets.Shake.{Shake}
 use Rattle.udt_model.specs.Events.{Act, Listen, Meet, Accept, Offer, Withdraw, Arrive, Accepted, DidHear, DidTick, Event, Reply, event, outs_of}
-use Rattle.udt_model.specs.History.{History, state_of, happened, taken_by, given_by, accepted_by, delivered_by, accepted, delivered}
+use Rattle.udt_model.specs.History.{History, after_items, state_of, happened, taken_by, given_by, accepted_by, delivered_by, accepted, delivered}
 use Rattle.udt_model.specs.declared.limits.TheConstants.{MOST_SOCKETS}
 use Rattle.udt_model.specs.Lines.{Pairing, OpeningLine, Line, Silent, PairLine, HostLine, OpenLine, AcceptLine, CallLine, DeliverLine, RawLine, read_line, AreEmitted}
 use Rattle.udt_model.specs.Network.{ScriptHost, ScriptSocket, ScriptDatagram, Network, empty_network, first_host, second_host, address_of_host, place_of, is_taken, holds_listener, holds_meeting, holds_any_meeting, first_id, Route, ToSocket, Nowhere, route}
@@ -25,6 +25,7 @@ use Rattle.udt_model.specs.Rate.{Ways}
 use Rattle.udt_model.specs.Records.{PairedAt, peer_by, own_peer}
 use Rattle.udt_model.specs.Routes.{handshake_in}
 use Rattle.udt_model.specs.Script.{Printed, size_of, from_host, paired_socket, paired, may_pair, may_host, may_open, with_host, with_socket, with_name, named_at, named_by, and_then, with_place, opened_at, event_at, event_there, call_by, accept_at, made_for, offered, followed_by, arrived, delivery, on_line, played_line, network_after, printed_after}
+use Rattle.udt_model.specs.State.{State}
 use Rattle.udt_model.specs.Step.{step}
 use Rattle.udt_model.specs.Texts.{datagrams_text, listen_twice_text, meet_taken_text}
 use Rattle.udt_model.specs.Wire.{read}
@@ -513,6 +514,14 @@ module _ {C : Type 0} (w : Ways C) where
       second = record { socket = second_one; at = append-second n.sockets _ (length n.sockets + 1) 1 second_one refl refl; name = refl; host = refl; opened = refl };
     }
 
+    pair-queued : IsQueued w n → IsQueued w (paired w n p).network
+    unfolding paired after_items opening
+    pair-queued queued =
+        let one = added-queued w n first_one refl queued in
+        let two = added-queued w (with_socket n first_one) second_one refl one in
+        subst (λ (sockets : List (ScriptSocket C)). IsQueued w (record n { sockets = sockets }))
+        (append_assoc n.sockets (first_one ∷ []) (second_one ∷ [])) two
+
     -- nothing was said of the new names, and nothing happened to their sockets
     new-says : (name : List ℕ) (entries : List Entry) (h : History C) → h.items ≡ [] → SaysNothing name entries → Says name entries h
     unfolding delivered_by accepted_by
@@ -543,6 +552,14 @@ module _ {C : Type 0} (w : Ways C) where
                   ap (λ (s : ScriptSocket C). place_of s.name with_both) (sym two.1) ∙ (second-place ∙ ap Some place)
             ]
           ];
+          given = λ k socket at. elim (append-found n.sockets (first_one ∷ second_one ∷ []) k socket at) [
+            | inl old ↦ told.given k socket old
+            | inr past ↦ elim (two-found first_one second_one socket past.0 past.2) [
+              | inl one ↦ subst (λ (s : ScriptSocket C). IsGiven k s.name) one.1 (inr ((line_names e.line).given (PairLine p) reads).0)
+              | inr two ↦ subst (λ (s : ScriptSocket C). IsGiven k s.name) two.1 (inr ((line_names e.line).given (PairLine p) reads).1)
+            ]
+          ];
+          queued = pair-queued told.queued;
           others = λ name none. says-nothing-on name entries e (adds name) (told.others name (no-place name (place_of name n.sockets) refl none));
           pairs = pairs-on (paired w n p).network entries e
               (λ other is. subst (HasPair (paired w n p).network) (same_pairing p other (sym reads ∙ is)) the-pair)
@@ -570,16 +587,80 @@ module _ {C : Type 0} (w : Ways C) where
         | false ↦ λ test e. absurd (cc)
       ] refl is
 
+  -- ---- hosts and sockets
+
+  host-made : (n : Network C) (entries : List Entry) (line name : List ℕ) (addr : Addr) (p : Printed C) → IsQuiet line
+      → (if may_host n name addr then Some (with_host n name addr) else None) ≡ Some p → IsTold n entries → Made line entries p
+  host-made n entries line name addr p quietly is told = ?
+
+  -- a socket of a new name is added
+  added-told : (n : Network C) (entries : List Entry) (fresh : ScriptSocket C) → place_of fresh.name n.sockets ≡ None → fresh.history.items ≡ []
+      → queue_of w fresh ≡ [] → IsGiven (length n.sockets) fresh.name → IsTold n entries → IsTold (with_socket n fresh) entries
+  added-told n entries fresh no_place none waits given told = ?
+
+  open-made : (n : Network C) (entries : List Entry) (line : List ℕ) (opening : OpeningLine) (p : Printed C) → read_line line ≡ Some (OpenLine opening)
+      → (if may_open n opening.name then opened_at w n opening (address_of_host opening.host n.hosts) else None) ≡ Some p → IsTold n entries
+      → Made line entries p
+  open-made n entries line opening p reads is told = ?
+
+  -- ---- accepts
+
+  accept-gives : (s : State C) (now : ℕ) → given_by (step w s (event now Accept)).reply ≡ []
+  unfolding step
+  accept-gives s now = refl
+
+  -- entries say nothing of a name that no line may have
+  unnamed-says : (name : List ℕ) (entries : List Entry) → is_name name ≡ false → SaysNothing name entries
+  unnamed-says name entries unnamed = ?
+
+  -- a socket without a name of a line gets one that is new
+  named-told : (n : Network C) (entries : List Entry) (id : ℕ) (name : List ℕ) → IsUnnamed n id → is_name name ≡ true → place_of name n.sockets ≡ None
+      → IsQueued w (with_name n id name) → IsTold n entries → IsTold (with_name n id name) entries
+  named-told n entries id name unnamed named free queued told = ?
+
+  named_by-told : (n : Network C) (entries : List Entry) (now : ℕ) (name : List ℕ) (k : ℕ) (socket : ScriptSocket C) (reply : Reply)
+      → slice_get n.sockets k ≡ Some socket → is_name name ≡ true → place_of name n.sockets ≡ None
+      → (step w (state_of w socket.history) (event now Accept)).reply ≡ reply → IsTold n entries
+      → IsTold (event_at w n k socket (event now Accept)).network entries
+      → IsTold (named_by (event_at w n k socket (event now Accept)) socket.name name reply).network entries
+  unfolding event_at
+  named_by-told n entries now name k socket (Accepted (Ok id)) at named free gives before told =
+      let accepted = accept-queued w n k socket now id name at gives before.queued in
+      let later : ScriptSocket C = record socket { history = happened w socket.history 0 (event now Accept) } in
+      let still : place_of name (event_at w n k socket (event now Accept)).network.sockets ≡ None =
+      place-set name n.sockets k socket later at refl ∙ free in
+      named-told (event_at w n k socket (event now Accept)).network entries id name accepted.unnamed named still accepted.queued told
+  named_by-told n entries now name k socket reply at named free gives before told = told
+
+  accept_at-told : (n : Network C) (entries : List Entry) (now : ℕ) (name : List ℕ) (k : ℕ) (socket : ScriptSocket C)
+      → slice_get n.sockets k ≡ Some socket → is_name name ≡ true → place_of name n.sockets ≡ None → IsTold n entries
+      → IsTold (accept_at w n now name k socket).network entries
+  accept_at-told n entries now name k socket at named free told =
+      named_by-told n entries now name k socket _ at named free refl told
+      (silent-told n entries told k socket (event now Accept) at (accept-gives (state_of w socket.history) now) refl (λ id is. absurd (cc)))
+
+  accept-made : (n : Network C) (entries : List Entry) (line name : List ℕ) (now : ℕ) (accepted : List ℕ) (p : Printed C)
+      → read_line line ≡ Some (AcceptLine name now accepted)
+      → (if is_taken accepted n then None else with_place n (accept_at w n now accepted) (place_of name n.sockets)) ≡ Some p → IsTold n entries
+      → Made line entries p
+  accept-made n entries line name now accepted p reads is told = ?
+
   -- ---- all lines
 
   form-made : (n : Network C) (entries : List Entry) (line : List ℕ) (form : Line) (p : Printed C) → read_line line ≡ Some form → on_line w n form ≡ Some p
       → IsTold n entries → Made line entries p
-  form-made n entries line Silent p reads is told = subst (Made line entries) (same_Some _ p is) (quiet-made n entries line [] (quiet_silent line reads) told)
+  form-made n entries line Silent p reads is told =
+      subst (Made line entries) (same_Some _ p is) (quiet-made entries line (record { network = n; text = [] }) (quiet-form line Silent tt reads) told)
   form-made n entries line (PairLine pairing) p reads is told = pair-made n entries line pairing p reads is told
+  form-made n entries line (HostLine name addr) p reads is told =
+      host-made n entries line name addr p (quiet-form line (HostLine name addr) tt reads) is told
+  form-made n entries line (OpenLine opening) p reads is told = open-made n entries line opening p reads is told
+  form-made n entries line (AcceptLine name now accepted) p reads is told = accept-made n entries line name now accepted p reads is told
   form-made n entries line (CallLine name event) p reads is told = call-there n entries line name event (place_of name n.sockets) p reads refl is told
   form-made n entries line (DeliverLine number now) p reads is told =
-      delivery-made n entries line now (slice_get n.datagrams number) p is (quiet_deliver line number now reads) told
-  form-made n entries line (RawLine now datagram) p reads is told = delivery-made n entries line now (Some datagram) p is (quiet_raw line now datagram reads) told
+      delivery-made n entries line now (slice_get n.datagrams number) p is (quiet-form line (DeliverLine number now) tt reads) told
+  form-made n entries line (RawLine now datagram) p reads is told =
+      delivery-made n entries line now (Some datagram) p is (quiet-form line (RawLine now datagram) tt reads) told
 
   read-made : (n : Network C) (entries : List Entry) (line : List ℕ) (found : Option Line) (p : Printed C) → read_line line ≡ found → (found >>= on_line w n) ≡ Some p
       → IsTold n entries → Made line entries p
@@ -595,13 +676,15 @@ module _ {C : Type 0} (w : Ways C) where
   nothing_told = record {
     sockets = λ k socket at. absurd (no_socket k socket at);
     places = λ k socket at. absurd (no_socket k socket at);
+    given = λ k socket at. absurd (no_socket k socket at);
+    queued = none-queued w;
     others = λ name none. record { received = refl; sent = refl };
     pairs = λ entry p among reads. absurd (omega (arith, among.1));
   }
 
   -- ---- in step
 
-  module _ (lines : List (List ℕ)) (entries : List Entry) (few : length lines < 2 ^ 30) (emitted : AreEmitted lines) (told : IsTold (network_after w lines) entries) where
+  module _ (lines : List (List ℕ)) (entries : List Entry) (few : size_of lines < 2 ^ 30) (emitted : AreEmitted lines) (told : IsTold (network_after w lines) entries) where
     prefix-told : (k m : ℕ) (one other : ScriptSocket C) (own : BeganAs (network_after w lines) k one) (peer : BeganAs (network_after w lines) m other)
         → own_peer w own.socket.history ≡ Some (record { addr = peer.socket.host; id = m + 1 })
         → IsPrefix (received one.name entries) (sent other.name entries)
@@ -617,9 +700,11 @@ module _ {C : Type 0} (w : Ways C) where
 
     peer-named : (h : History C) (own : ℕ) (config : Config) (peer : Peer) (start : ℕ) (host : Addr) (id : ℕ) → h.opening ≡ opening w own config peer 0 start
         → peer.addr ≡ host → peer.id ≡ id → own_peer w h ≡ Some (record { addr = host; id = id })
+    unfolding after_items opening
     peer-named h own config peer start host id opened addr_is id_is =
-        let last = last_peer w own config peer 0 start h opened in
-        rw (last, addr_is, id_is) refl
+        let named = own_peer-stays w own (PairedAt config peer 0 start) h.opening [] h.items (record { addr = peer.addr; id = peer.id }) opened
+        (ap (λ (s : State C). peer_by s.origin s.peer) opened) in
+        named ∙ rw (addr_is, id_is) refl
 
     pub in-step : AreInStep entries
     in-step = record {
@@ -698,7 +783,7 @@ module _ {C : Type 0} (w : Ways C) where
       (are.0, accepted-more (before ++ first ∷ []) lines line text are.1 (rw (append_assoc before (first ∷ []) lines) printed))
 
   -- what it printed tells it
-  pub tells : (lines : List (List ℕ)) (line : List ℕ) (new : Option (List (List ℕ))) (before after : List ℕ) → AreAccepted w [] lines → length (lines ++ line ∷ []) < 2 ^ 30
+  pub tells : (lines : List (List ℕ)) (line : List ℕ) (new : Option (List (List ℕ))) (before after : List ℕ) → AreAccepted w [] lines → size_of (lines ++ line ∷ []) < 2 ^ 30
       → Accepts (printed_after w lines line) lines line new before after → TellsLine w lines line before after
   tells lines line new before after are few accepts =
       let t = transcript-from [] lines [] no_transcript are in

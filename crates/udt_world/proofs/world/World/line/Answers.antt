@@ -6,6 +6,7 @@ use Rattle.udt_world.specs.ScriptLines.{Refuses}
 use Rattle.udt_world.specs.Transcripts.{TellsLine}
 use Rattle.udt_world.specs.Views.{view_of}
 use Rattle.udt_world.specs.Worlds.{lines_in}
+use Rattle.udt_world.proofs.TranscriptLemmas.{accepted-more, tells}
 use Rattle.udt_world.proofs.WorldLemmas.{printed-none, accepted, refused, Accepted, Refused, adopts, adopts_small, steps, steps_small, shows, shows_small, small_world}
 use Rattle.udt_world.proofs.world.World.line.Goals as goal
 
@@ -47,7 +48,7 @@ invariant_of-self g c =
       wired = λ _. c.in-Ok-true.ensures.wired;
       size_is = λ _. omega (arith, size, more.size);
       bound = omega (arith, c.fits.ensures.bound c.if-not-fits.false);
-      accepted = λ _. ?;
+      accepted = λ _. rw kept (accepted-more g.C.Control.ways [] (lines_in c.self.inside) c.args.line.now more.answer.text (c.self.invariant.accepted c.if-self.false) more.answer.printed);
     }
 
 pub returns-in-Ok-true-clause-answer : goal.returns-in-Ok-true-clause-answer
@@ -65,7 +66,16 @@ pub returns-in-Ok-true-clause-shown : goal.returns-in-Ok-true-clause-shown
 returns-in-Ok-true-clause-shown g c = shows g.C.Control.ways _ (invariant_of-self g c)
 
 pub returns-in-Ok-true-clause-prefix : goal.returns-in-Ok-true-clause-prefix
-returns-in-Ok-true-clause-prefix g c = ?
+returns-in-Ok-true-clause-prefix g c =
+    let here : Some (lines_in c.self.inside) ≡ c.args.self.now = rw c.if-self.false at c.self.view_is in
+    let size = c.self.invariant.size_is c.if-self.false in
+    let more = was_accepted g c in
+    let kept = same_Some _ _ more.answer.kept in
+    let small : size_of (map items_of c.keep_line.new.lines.items) < 1073741824 = omega (arith, size, more.size, c.fits.ensures.bound c.if-not-fits.false) in
+    let few : size_of (lines_in c.self.inside ++ c.args.line.now ∷ []) < 1073741824 = rw kept at small in
+    let told : TellsLine g.C.Control.ways (lines_in c.self.inside) c.args.line.now c.args.out.now.items c.keep_line.new.out.items =
+    tells g.C.Control.ways (lines_in c.self.inside) c.args.line.now _ _ _ (c.self.invariant.accepted c.if-self.false) few more.answer in
+    rw (sym here) told
 
 was_refused : (g : _) (c : goal.In-Ok-false g)
     → Refused g.C.Control.ways (lines_in c.self.inside) (map items_of c.keep_line.new.lines.items) c.args.line.now (view_of c.keep_line.new.network) c.args.out.now.items c.keep_line.new.out.items
