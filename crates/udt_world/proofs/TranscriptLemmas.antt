@@ -20,7 +20,7 @@ use Rattle.udt_model.specs.History.{History, after_items, state_of, happened, ta
 use Rattle.udt_model.specs.declared.limits.TheConstants.{MOST_SOCKETS}
 use Rattle.udt_model.specs.Lines.{Pairing, OpeningLine, Line, Silent, PairLine, HostLine, OpenLine, AcceptLine, CallLine, DeliverLine, RawLine, read_line, AreEmitted}
 use Rattle.udt_model.specs.Network.{ScriptHost, ScriptSocket, ScriptDatagram, Network, empty_network, first_host, second_host, address_of_host, place_of, is_taken, holds_listener, holds_meeting, holds_any_meeting, first_id, Route, ToSocket, Nowhere, route}
-use Rattle.udt_model.specs.Opening.{opening}
+use Rattle.udt_model.specs.Opening.{opening, opened}
 use Rattle.udt_model.specs.Rate.{Ways}
 use Rattle.udt_model.specs.Records.{PairedAt, peer_by, own_peer}
 use Rattle.udt_model.specs.Routes.{handshake_in}
@@ -41,7 +41,7 @@ use Rattle.udt_world.specs.Transcripts.{Answer, Replied, ListensTwice, MeetsTake
 use Rattle.udt_world.proofs.ArriveLemmas.{arrive-gives}
 use Rattle.udt_world.proofs.MessageLemmas.{happened-gives}
 use Rattle.udt_world.specs.Wiring.{IsGiven}
-use Rattle.udt_world.proofs.GivenLemmas.{line_names}
+use Rattle.udt_world.proofs.GivenLemmas.{Names, line_names}
 use Rattle.udt_world.proofs.QueueLemmas.{queue_of, IsUnnamed, IsQueued, none-queued, added-queued, event-queued, offered-queued, accept-queued}
 use Rattle.udt_world.proofs.LineLemmas.{no_lines, accepted-by, left-after}
 use Rattle.udt_world.proofs.PlaceLemmas.{same_word, is_same_word, name_there, place-set, position-first, position-others, position-cons}
@@ -116,9 +116,17 @@ two-found a b x (suc (suc j)) found = absurd (cc)
 same_pairing : (p other : Pairing) → Some (PairLine p) ≡ Some (PairLine other) → p ≡ other
 same_pairing p other is = cc
 
-not_taken : (o : Option ℕ) → not (is_some o) ≡ true → o ≡ None
-not_taken None is = refl
-not_taken (Some k) is = absurd (cc)
+not_taken : (o : Option ℕ) (host : Bool) → not (is_some o || host) ≡ true → o ≡ None
+not_taken None host is = refl
+not_taken (Some k) host is = absurd (cc)
+
+not_free : (o : Option ℕ) (host : Bool) → is_some o || host ≡ false → o ≡ None
+not_free None host is = refl
+not_free (Some k) host is = absurd (cc)
+
+one-found : {X : Type 0} (a x : X) (j : ℕ) → slice_get (a ∷ []) j ≡ Some x → (j ≡ 0) × (a ≡ x)
+one-found a x zero found = (refl, cc)
+one-found a x (suc j) found = absurd (cc)
 
 is_false : (b : Bool) → not b ≡ true → b ≡ false
 is_false true is = absurd (cc)
@@ -461,6 +469,11 @@ module _ {C : Type 0} (w : Ways C) where
   call-there n entries line name event None p reads place is told = absurd (cc)
   call-there n entries line name event (Some k) p reads place is told = call-found n entries line name event k (slice_get n.sockets k) p reads place refl is told
 
+  -- nothing was said of a new name, and nothing happened to its socket
+  new-says : (name : List ℕ) (entries : List Entry) (h : History C) → h.items ≡ [] → SaysNothing name entries → Says name entries h
+  unfolding delivered_by accepted_by
+  new-says name entries h none says = record { received = rw none says.received; sent = rw none says.sent; none = λ carries. rw none refl }
+
   -- ---- pairs
 
   module _ (n : Network C) (p : Pairing) (no_a : place_of p.a n.sockets ≡ None) (no_b : place_of p.b n.sockets ≡ None) (differ : is_word p.a p.b ≡ false) where
@@ -522,11 +535,6 @@ module _ {C : Type 0} (w : Ways C) where
         subst (λ (sockets : List (ScriptSocket C)). IsQueued w (record n { sockets = sockets }))
         (append_assoc n.sockets (first_one ∷ []) (second_one ∷ [])) two
 
-    -- nothing was said of the new names, and nothing happened to their sockets
-    new-says : (name : List ℕ) (entries : List Entry) (h : History C) → h.items ≡ [] → SaysNothing name entries → Says name entries h
-    unfolding delivered_by accepted_by
-    new-says name entries h none says = record { received = rw none says.received; sent = rw none says.sent; none = λ carries. rw none refl }
-
     pair-told : (entries : List Entry) (e : Entry) → read_line e.line ≡ Some (PairLine p) → IsTold n entries → IsTold (paired w n p).network (entries ++ e ∷ [])
     unfolding paired
     pair-told entries e reads told =
@@ -582,26 +590,126 @@ module _ {C : Type 0} (w : Ways C) where
               entry = entry;
               line_is = refl;
               text = rw reads refl;
-              told = pair-told n pairing (not_taken _ two.1) (not_taken _ parts.1) (is_false _ three.1) entries entry reads told;
+              told = pair-told n pairing (not_taken _ _ two.1) (not_taken _ _ parts.1) (is_false _ three.1) entries entry reads told;
             })
         | false ↦ λ test e. absurd (cc)
       ] refl is
 
   -- ---- hosts and sockets
 
+  began-hosted : (n : Network C) (hosts : List ScriptHost) (place : ℕ) (fresh : ScriptSocket C) → BeganAs n place fresh
+      → BeganAs (record n { hosts = hosts }) place fresh
+  began-hosted n hosts place fresh began =
+      record { socket = began.socket; at = began.at; name = began.name; host = began.host; opened = began.opened }
+
+  hosted-told : (n : Network C) (entries : List Entry) (hosts : List ScriptHost) → IsTold n entries → IsTold (record n { hosts = hosts }) entries
+  hosted-told n entries hosts told = record {
+    sockets = told.sockets;
+    places = told.places;
+    given = told.given;
+    queued = record {
+      unnamed = λ k id s at waits.
+          let is = told.queued.unnamed k id s at waits in
+          record { positive = is.positive; socket = is.socket; at = is.at; unnamed = is.unnamed };
+      once = told.queued.once;
+    };
+    others = told.others;
+    pairs = λ entry p among reads.
+        let pair = told.pairs entry p among reads in
+        record {
+          place = pair.place;
+          first = began-hosted n hosts pair.place _ pair.first;
+          second = began-hosted n hosts (pair.place + 1) _ pair.second;
+        };
+  }
+
   host-made : (n : Network C) (entries : List Entry) (line name : List ℕ) (addr : Addr) (p : Printed C) → IsQuiet line
       → (if may_host n name addr then Some (with_host n name addr) else None) ≡ Some p → IsTold n entries → Made line entries p
-  host-made n entries line name addr p quietly is told = ?
+  host-made n entries line name addr p quietly is told =
+      elim (may_host n name addr) as (λ may. (if may then Some (with_host n name addr) else None) ≡ Some p → Made line entries p) [
+        | true ↦ λ e. subst (Made line entries) (same_Some _ p e) (quiet-made entries line (with_host n name addr) quietly (hosted-told n entries _ told))
+        | false ↦ λ e. absurd (cc)
+      ] is
+
+  added-place : (n : Network C) (fresh : ScriptSocket C) (name : List ℕ) (k : ℕ) → place_of name n.sockets ≡ Some k
+      → place_of name (n.sockets ++ fresh ∷ []) ≡ Some k
+  unfolding place_of
+  added-place n fresh name k is = position-first (λ (s : ScriptSocket C). is_word s.name name) n.sockets (fresh ∷ []) k is
+
+  last-place : (n : Network C) (fresh : ScriptSocket C) → place_of fresh.name n.sockets ≡ None
+      → place_of fresh.name (n.sockets ++ fresh ∷ []) ≡ Some (length n.sockets)
+  unfolding place_of
+  last-place n fresh none =
+      let test : ScriptSocket C → Bool = λ s. is_word s.name fresh.name in
+      let same : length n.sockets + 0 ≡ length n.sockets = omega arith in
+      position-others test n.sockets (fresh ∷ []) none ∙ rw (position-cons test fresh [], is_same_word fresh.name, same) refl
+
+  none-before : (n : Network C) (fresh : ScriptSocket C) (name : List ℕ) (found : Option ℕ) → place_of name n.sockets ≡ found
+      → place_of name (n.sockets ++ fresh ∷ []) ≡ None → found ≡ None
+  none-before n fresh name None is none = refl
+  none-before n fresh name (Some k) is none = absurd (let there = added-place n fresh name k is in cc)
+
+  began-added : (n : Network C) (added : ScriptSocket C) (place : ℕ) (fresh : ScriptSocket C) → BeganAs n place fresh
+      → BeganAs (with_socket n added) place fresh
+  began-added n added place fresh began = record {
+    socket = began.socket;
+    at = append-first n.sockets (added ∷ []) place began.socket began.at;
+    name = began.name;
+    host = began.host;
+    opened = began.opened;
+  }
 
   -- a socket of a new name is added
   added-told : (n : Network C) (entries : List Entry) (fresh : ScriptSocket C) → place_of fresh.name n.sockets ≡ None → fresh.history.items ≡ []
       → queue_of w fresh ≡ [] → IsGiven (length n.sockets) fresh.name → IsTold n entries → IsTold (with_socket n fresh) entries
-  added-told n entries fresh no_place none waits given told = ?
+  added-told n entries fresh no_place none waits given told =
+      let old_place : (name : List ℕ) (k : ℕ) → place_of name n.sockets ≡ Some k → place_of name (n.sockets ++ fresh ∷ []) ≡ Some k = added-place n fresh in
+      record {
+        sockets = λ k socket at. elim (append-found n.sockets (fresh ∷ []) k socket at) [
+          | inl old ↦ told.sockets k socket old
+          | inr past ↦ subst (λ (s : ScriptSocket C). Says s.name entries s.history) (one-found fresh socket past.0 past.2).1
+              (new-says fresh.name entries fresh.history none (told.others fresh.name no_place))
+        ];
+        places = λ k socket at. elim (append-found n.sockets (fresh ∷ []) k socket at) [
+          | inl old ↦ old_place socket.name k (told.places k socket old)
+          | inr past ↦
+              let one = one-found fresh socket past.0 past.2 in
+              let place : length n.sockets ≡ k = omega (arith, past.1, one.0) in
+              ap (λ (s : ScriptSocket C). place_of s.name (n.sockets ++ fresh ∷ [])) (sym one.1) ∙ (last-place n fresh no_place ∙ ap Some place)
+        ];
+        given = λ k socket at. elim (append-found n.sockets (fresh ∷ []) k socket at) [
+          | inl old ↦ told.given k socket old
+          | inr past ↦
+              let one = one-found fresh socket past.0 past.2 in
+              let place : length n.sockets ≡ k = omega (arith, past.1, one.0) in
+              subst (λ (s : ScriptSocket C). IsGiven k s.name) one.1 (subst (λ (i : ℕ). IsGiven i fresh.name) place given)
+        ];
+        queued = added-queued w n fresh waits told.queued;
+        others = λ name nothing. told.others name (none-before n fresh name (place_of name n.sockets) refl nothing);
+        pairs = λ entry p among reads.
+            let pair = told.pairs entry p among reads in
+            record { place = pair.place; first = began-added n fresh pair.place _ pair.first; second = began-added n fresh (pair.place + 1) _ pair.second };
+      }
+
+  opened-made : (n : Network C) (entries : List Entry) (line : List ℕ) (opening : OpeningLine) (host : Option Addr) (p : Printed C)
+      → read_line line ≡ Some (OpenLine opening) → place_of opening.name n.sockets ≡ None → opened_at w n opening host ≡ Some p → IsTold n entries
+      → Made line entries p
+  unfolding after_items opened
+  opened-made n entries line opening None p reads free is told = absurd (cc)
+  opened-made n entries line opening (Some host) p reads free is told =
+      subst (Made line entries) (same_Some _ p is)
+      (quiet-made entries line _ (quiet-form line (OpenLine opening) tt reads)
+      (added-told n entries _ free refl refl (inr ((line_names line).given (OpenLine opening) reads)) told))
 
   open-made : (n : Network C) (entries : List Entry) (line : List ℕ) (opening : OpeningLine) (p : Printed C) → read_line line ≡ Some (OpenLine opening)
       → (if may_open n opening.name then opened_at w n opening (address_of_host opening.host n.hosts) else None) ≡ Some p → IsTold n entries
       → Made line entries p
-  open-made n entries line opening p reads is told = ?
+  open-made n entries line opening p reads is told =
+      elim (may_open n opening.name) as (λ may. may_open n opening.name ≡ may
+      → (if may then opened_at w n opening (address_of_host opening.host n.hosts) else None) ≡ Some p → Made line entries p) [
+        | true ↦ λ test e. opened-made n entries line opening (address_of_host opening.host n.hosts) p reads (not_taken _ _ (and_parts _ _ test).1) e told
+        | false ↦ λ test e. absurd (cc)
+      ] refl is
 
   -- ---- accepts
 
@@ -609,9 +717,26 @@ module _ {C : Type 0} (w : Ways C) where
   unfolding step
   accept-gives s now = refl
 
+  unnamed-adds : (name : List ℕ) (found : Option Line) (answer : Answer) → ((line : Line) → found ≡ Some line → Names line) → is_name name ≡ false
+      → (given_to name found answer ≡ []) × (taken_from name found answer ≡ [])
+  unnamed-adds name (Some (CallLine other event)) answer names unnamed =
+      elim (is_word other name) as (λ same. is_word other name ≡ same
+      → ((if same then given_in answer else []) ≡ []) × ((if same then taken_in event.act answer else []) ≡ [])) [
+        | true ↦ λ e.
+            let called = names (CallLine other event) refl in
+            let is : is_name name ≡ true = ap is_name (sym (same_word other name e)) ∙ called in
+            absurd (cc)
+        | false ↦ λ e. (refl, refl)
+      ] refl
+  unnamed-adds name found answer names unnamed = (refl, refl)
+
   -- entries say nothing of a name that no line may have
   unnamed-says : (name : List ℕ) (entries : List Entry) → is_name name ≡ false → SaysNothing name entries
-  unnamed-says name entries unnamed = ?
+  unnamed-says name [] unnamed = record { received = refl; sent = refl }
+  unnamed-says name (e ∷ entries) unnamed =
+      let rest = unnamed-says name entries unnamed in
+      let none = unnamed-adds name (read_line e.line) e.answer (λ line is. (line_names e.line).given line is) unnamed in
+      record { received = rw (none.0, rest.received) refl; sent = rw (none.1, rest.sent) refl }
 
   -- a socket without a name of a line gets one that is new
   named-told : (n : Network C) (entries : List Entry) (id : ℕ) (name : List ℕ) → IsUnnamed n id → is_name name ≡ true → place_of name n.sockets ≡ None
@@ -639,11 +764,32 @@ module _ {C : Type 0} (w : Ways C) where
       named_by-told n entries now name k socket _ at named free refl told
       (silent-told n entries told k socket (event now Accept) at (accept-gives (state_of w socket.history) now) refl (λ id is. absurd (cc)))
 
+  accept-found : (n : Network C) (entries : List Entry) (line name : List ℕ) (now : ℕ) (accepted : List ℕ) (k : ℕ) (found : Option (ScriptSocket C)) (p : Printed C)
+      → read_line line ≡ Some (AcceptLine name now accepted) → place_of accepted n.sockets ≡ None → slice_get n.sockets k ≡ found
+      → option_map (accept_at w n now accepted k) found ≡ Some p → IsTold n entries → Made line entries p
+  accept-found n entries line name now accepted k None p reads free at is told = absurd (cc)
+  accept-found n entries line name now accepted k (Some socket) p reads free at is told =
+      subst (Made line entries) (same_Some _ p is)
+      (quiet-made entries line (accept_at w n now accepted k socket) (quiet-form line (AcceptLine name now accepted) tt reads)
+      (accept_at-told n entries now accepted k socket at ((line_names line).given (AcceptLine name now accepted) reads) free told))
+
+  accept-there : (n : Network C) (entries : List Entry) (line name : List ℕ) (now : ℕ) (accepted : List ℕ) (found : Option ℕ) (p : Printed C)
+      → read_line line ≡ Some (AcceptLine name now accepted) → place_of accepted n.sockets ≡ None
+      → with_place n (accept_at w n now accepted) found ≡ Some p → IsTold n entries → Made line entries p
+  accept-there n entries line name now accepted None p reads free is told = absurd (cc)
+  accept-there n entries line name now accepted (Some k) p reads free is told =
+      accept-found n entries line name now accepted k (slice_get n.sockets k) p reads free refl is told
+
   accept-made : (n : Network C) (entries : List Entry) (line name : List ℕ) (now : ℕ) (accepted : List ℕ) (p : Printed C)
       → read_line line ≡ Some (AcceptLine name now accepted)
       → (if is_taken accepted n then None else with_place n (accept_at w n now accepted) (place_of name n.sockets)) ≡ Some p → IsTold n entries
       → Made line entries p
-  accept-made n entries line name now accepted p reads is told = ?
+  accept-made n entries line name now accepted p reads is told =
+      elim (is_taken accepted n) as (λ taken. is_taken accepted n ≡ taken
+      → (if taken then None else with_place n (accept_at w n now accepted) (place_of name n.sockets)) ≡ Some p → Made line entries p) [
+        | true ↦ λ test e. absurd (cc)
+        | false ↦ λ test e. accept-there n entries line name now accepted (place_of name n.sockets) p reads (not_free _ _ test) e told
+      ] refl is
 
   -- ---- all lines
 
