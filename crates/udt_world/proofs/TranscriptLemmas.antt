@@ -1,12 +1,12 @@
 -- Entries tell the histories of a network, so that what they say was received and sent is in step.
 use Rattle.std.proofs.Common.{◌≡◌, ℕ, zero, suc, ◌+◌, ◌<◌, ◌^◌, Bool, true, false, not, ◌||◌, List, [], ◌∷◌, ◌++◌, length, map, Some, None, Option, refl, ap, ◌∙◌, sym, subst, inl, inr, ◌⊎◌, arith, option_map, append_assoc}
-use Rattle.std.specs.Prelude.{slice_get, slice_set, if◌then◌else◌, is_some}
+use Rattle.std.specs.Prelude.{slice_get, slice_set, if◌then◌else◌, is_some, nat_lt, decimal}
 use Rattle.std.specs.List.{Contains}
 use Rattle.std.proofs.lemmas.Bool.{cases_eq, and_parts}
 use Rattle.std.proofs.lemmas.List.{append-nil, map-append}
 use Rattle.std.proofs.lemmas.List.Concat.{flat_map-append}
 use Rattle.std.proofs.lemmas.List.Elements.{Contains-push_cases}
-use Rattle.std.proofs.lemmas.Option.{same_Some}
+use Rattle.std.proofs.lemmas.Option.{same_Some, slice_get_within}
 use Rattle.udt_model.specs.declared.addresses.Addr.{Addr}
 use Rattle.udt_model.specs.declared.packets.Config.{Config}
 use Rattle.udt_model.specs.declared.packets.Kind.{Kind}
@@ -358,43 +358,6 @@ module _ {C : Type 0} (w : Ways C) where
         (λ name. record { gives = is.gives name (Replied DidTick); takes = is.takes name (Replied DidTick) }) (λ p reads. absurd (is.no_pair p reads)) told;
   }
 
-  -- ---- arrivals
-
-  module _ (now : ℕ) (datagram : ScriptDatagram) where
-    abbrev arrival : Event
-    arrival = event now (Arrive datagram.from datagram.bytes)
-
-    arrival-told : (n : Network C) (entries : List Entry) (k : ℕ) (socket : ScriptSocket C) → slice_get n.sockets k ≡ Some socket → IsTold n entries
-        → IsTold (event_at w n k socket arrival).network entries
-    arrival-told n entries k socket at told = silent-told n entries told k socket arrival at
-        (arrive-gives w (state_of w socket.history) now datagram.from datagram.bytes) refl (λ id is. absurd (cc))
-
-    offered-told : (n : Network C) (entries : List Entry) (k : ℕ) (listener socket : ScriptSocket C) (shake : Shake) → slice_get n.sockets k ≡ Some socket
-        → IsTold n entries → IsTold (offered w n now k listener datagram shake).network entries
-    offered-told n entries k listener socket shake at told = ?
-
-    followed-told : (n : Network C) (entries : List Entry) (k : ℕ) (listener socket : ScriptSocket C) (text : List ℕ) (shake : Option Shake) (reply : Reply)
-        → slice_get n.sockets k ≡ Some socket → IsTold n entries
-        → IsTold (followed_by w (record { network = n; text = text }) now k listener datagram shake reply).network entries
-    followed-told n entries k listener socket text (Some shake) (DidHear heard.Request) at told = offered-told n entries k listener socket shake at told
-    followed-told n entries k listener socket text shake reply at told = told
-
-    arrived-told : (n : Network C) (entries : List Entry) (r : Route C) → route w n datagram ≡ r → IsTold n entries
-        → IsTold (arrived w n now datagram r).network entries
-    arrived-told n entries (Nowhere word) is told = told
-    arrived-told n entries (ToSocket place socket) is told =
-        let at = (host-reached w n datagram place socket is).0 in
-        followed-told (event_at w n place socket arrival).network entries place socket (record socket { history = happened w socket.history 0 arrival })
-        (event_at w n place socket arrival).text (handshake_in (read datagram.bytes)) (step w (state_of w socket.history) arrival).reply
-        (event-there n entries told place socket arrival at) (arrival-told n entries place socket at told)
-
-  delivery-made : (n : Network C) (entries : List Entry) (line : List ℕ) (now : ℕ) (found : Option ScriptDatagram) (p : Printed C) → delivery w n now found ≡ Some p → IsQuiet line
-      → IsTold n entries → Made line entries p
-  delivery-made n entries line now None p is quietly told = absurd (cc)
-  delivery-made n entries line now (Some datagram) p is quietly told =
-      subst (Made line entries) (same_Some _ p is)
-      (quiet-made entries line (arrived w n now datagram (route w n datagram)) quietly (arrived-told now datagram n entries (route w n datagram) refl told))
-
   -- ---- calls
 
   -- no call of a line is an offer
@@ -710,6 +673,96 @@ module _ {C : Type 0} (w : Ways C) where
         | true ↦ λ test e. opened-made n entries line opening (address_of_host opening.host n.hosts) p reads (not_taken _ _ (and_parts _ _ test).1) e told
         | false ↦ λ test e. absurd (cc)
       ] refl is
+
+  -- ---- arrivals
+
+  -- no name of a line is a number, and no socket has that of the next ID
+  number-unnamed : (n : ℕ) → is_name (decimal n) ≡ false
+  number-unnamed n = ?
+
+  number-free : (n : Network C) (entries : List Entry) → IsTold n entries → place_of (decimal (length n.sockets + 1)) n.sockets ≡ None
+  unfolding place_of
+  number-free n entries told = ?
+
+  module _ (now : ℕ) (datagram : ScriptDatagram) where
+    abbrev arrival : Event
+    arrival = event now (Arrive datagram.from datagram.bytes)
+
+    arrival-told : (n : Network C) (entries : List Entry) (k : ℕ) (socket : ScriptSocket C) → slice_get n.sockets k ≡ Some socket → IsTold n entries
+        → IsTold (event_at w n k socket arrival).network entries
+    arrival-told n entries k socket at told = silent-told n entries told k socket arrival at
+        (arrive-gives w (state_of w socket.history) now datagram.from datagram.bytes) refl (λ id is. absurd (cc))
+
+    there : (n : Network C) (k : ℕ) (socket : ScriptSocket C) (event : Event) → slice_get n.sockets k ≡ Some socket
+        → event_there w n k event ≡ event_at w n k socket event
+    there n k socket event at = rw at refl
+
+    offer-gives : (s : State C) (id : ℕ) → given_by (step w s (event now (Offer id))).reply ≡ []
+    unfolding step
+    offer-gives s id = refl
+
+    withdraw-gives : (s : State C) (at : ℕ) → given_by (step w s (event at Withdraw)).reply ≡ []
+    unfolding step
+    withdraw-gives s at = refl
+
+    -- a socket is made, offered, and given the request
+    connected-told : (n : Network C) (entries : List Entry) (k : ℕ) (listener socket : ScriptSocket C) (shake : Shake) → slice_get n.sockets k ≡ Some socket
+        → IsTold n entries
+        → IsTold (and_then
+        (event_there w (with_socket n (made_for w n listener datagram.from shake)) k (event now (Offer (length n.sockets + 1))))
+        (λ (m : Network C). event_there w m (length n.sockets) arrival)).network entries
+    unfolding event_at after_items opening
+    connected-told n entries k listener socket shake at told =
+        let new = made_for w n listener datagram.from shake in
+        let more = with_socket n new in
+        let offer = event now (Offer (length n.sockets + 1)) in
+        let one = added-told n entries new (number-free n entries told) refl refl (inl refl) told in
+        let still = append-first n.sockets (new ∷ []) k socket at in
+        let queued = offered-queued w n new k socket now refl (number-unnamed (length n.sockets + 1)) at told.queued in
+        let says = none-says socket.name _ _ entries (offer-gives (state_of w socket.history) (length n.sockets + 1)) refl in
+        let two = event-told more entries one k socket offer still entries says queued in
+        let below = slice_get_within n.sockets k socket at in
+        let last : slice_get (event_at w more k socket offer).network.sockets (length n.sockets) ≡ Some new =
+        set-other more.sockets k (length n.sockets) _ (λ same. omega (arith, same, below))
+        ∙ append-second n.sockets (new ∷ []) (length n.sockets) 0 new (omega arith) refl in
+        rw (there more k socket offer still, there (event_at w more k socket offer).network (length n.sockets) new arrival last)
+        (arrival-told (event_at w more k socket offer).network entries (length n.sockets) new last two)
+
+    offered-told : (n : Network C) (entries : List Entry) (k : ℕ) (listener socket : ScriptSocket C) (shake : Shake) → slice_get n.sockets k ≡ Some socket
+        → IsTold n entries → IsTold (offered w n now k listener datagram shake).network entries
+    offered-told n entries k listener socket shake at told =
+        elim (nat_lt (length n.sockets) MOST_SOCKETS) as (λ room. IsTold (
+        if room
+        then and_then
+        (event_there w (with_socket n (made_for w n listener datagram.from shake)) k (event now (Offer (length n.sockets + 1))))
+        (λ (m : Network C). event_there w m (length n.sockets) arrival)
+        else event_there w n k (event now Withdraw)).network entries) [
+          | true ↦ connected-told n entries k listener socket shake at told
+          | false ↦ rw (there n k socket (event now Withdraw) at) (silent-told n entries told k socket (event now Withdraw) at
+              (withdraw-gives (state_of w socket.history) now) refl (λ id is. absurd (cc)))
+        ]
+
+    followed-told : (n : Network C) (entries : List Entry) (k : ℕ) (listener socket : ScriptSocket C) (text : List ℕ) (shake : Option Shake) (reply : Reply)
+        → slice_get n.sockets k ≡ Some socket → IsTold n entries
+        → IsTold (followed_by w (record { network = n; text = text }) now k listener datagram shake reply).network entries
+    followed-told n entries k listener socket text (Some shake) (DidHear heard.Request) at told = offered-told n entries k listener socket shake at told
+    followed-told n entries k listener socket text shake reply at told = told
+
+    arrived-told : (n : Network C) (entries : List Entry) (r : Route C) → route w n datagram ≡ r → IsTold n entries
+        → IsTold (arrived w n now datagram r).network entries
+    arrived-told n entries (Nowhere word) is told = told
+    arrived-told n entries (ToSocket place socket) is told =
+        let at = (host-reached w n datagram place socket is).0 in
+        followed-told (event_at w n place socket arrival).network entries place socket (record socket { history = happened w socket.history 0 arrival })
+        (event_at w n place socket arrival).text (handshake_in (read datagram.bytes)) (step w (state_of w socket.history) arrival).reply
+        (event-there n entries told place socket arrival at) (arrival-told n entries place socket at told)
+
+  delivery-made : (n : Network C) (entries : List Entry) (line : List ℕ) (now : ℕ) (found : Option ScriptDatagram) (p : Printed C) → delivery w n now found ≡ Some p → IsQuiet line
+      → IsTold n entries → Made line entries p
+  delivery-made n entries line now None p is quietly told = absurd (cc)
+  delivery-made n entries line now (Some datagram) p is quietly told =
+      subst (Made line entries) (same_Some _ p is)
+      (quiet-made entries line (arrived w n now datagram (route w n datagram)) quietly (arrived-told now datagram n entries (route w n datagram) refl told))
 
   -- ---- accepts
 
