@@ -1,5 +1,5 @@
 -- Entries tell the histories of a network, so that what they say was received and sent is in step.
-use Rattle.std.proofs.Common.{◌≡◌, ℕ, zero, suc, ◌+◌, ◌<◌, ◌^◌, Bool, true, false, not, ◌||◌, List, [], ◌∷◌, ◌++◌, length, map, Some, None, Option, refl, ap, ◌∙◌, sym, subst, inl, inr, ◌⊎◌, arith, option_map, append_assoc}
+use Rattle.std.proofs.Common.{◌≡◌, ℕ, zero, suc, ◌+◌, ◌<◌, ◌^◌, Bool, true, false, not, ◌||◌, List, [], ◌∷◌, ◌++◌, length, map, Some, None, Option, Ok, refl, ap, ◌∙◌, sym, subst, inl, inr, ◌⊎◌, arith, option_map, append_assoc}
 use Rattle.std.specs.Prelude.{slice_get, slice_set, if◌then◌else◌, is_some, nat_lt, decimal}
 use Rattle.std.specs.List.{Contains}
 use Rattle.std.proofs.lemmas.Bool.{cases_eq, and_parts}
@@ -428,7 +428,7 @@ module _ {C : Type 0} (w : Ways C) where
 
   call-there : (n : Network C) (entries : List Entry) (line name : List ℕ) (event : Event) (found : Option ℕ) (p : Printed C)
       → read_line line ≡ Some (CallLine name event) → place_of name n.sockets ≡ found
-      → with_place n (λ place socket. call_by w n place socket event.now event.act) found ≡ Some p → IsTold n entries → Made line entries p
+      → with_place w n (λ place socket. call_by w n place socket event.now event.act) found ≡ Some p → IsTold n entries → Made line entries p
   call-there n entries line name event None p reads place is told = absurd (cc)
   call-there n entries line name event (Some k) p reads place is told = call-found n entries line name event k (slice_get n.sockets k) p reads place refl is told
 
@@ -792,7 +792,7 @@ module _ {C : Type 0} (w : Ways C) where
       record { received = rw (none.0, rest.received) refl; sent = rw (none.1, rest.sent) refl }
 
   -- a socket without a name of a line gets one that is new
-  named-told : (n : Network C) (entries : List Entry) (id : ℕ) (name : List ℕ) → IsUnnamed n id → is_name name ≡ true → place_of name n.sockets ≡ None
+  named-told : (n : Network C) (entries : List Entry) (id : ℕ) (name : List ℕ) → IsUnnamed w n id → is_name name ≡ true → place_of name n.sockets ≡ None
       → IsQueued w (with_name n id name) → IsTold n entries → IsTold (with_name n id name) entries
   named-told n entries id name unnamed named free queued told = ?
 
@@ -828,18 +828,18 @@ module _ {C : Type 0} (w : Ways C) where
 
   accept-there : (n : Network C) (entries : List Entry) (line name : List ℕ) (now : ℕ) (accepted : List ℕ) (found : Option ℕ) (p : Printed C)
       → read_line line ≡ Some (AcceptLine name now accepted) → place_of accepted n.sockets ≡ None
-      → with_place n (accept_at w n now accepted) found ≡ Some p → IsTold n entries → Made line entries p
+      → with_place w n (accept_at w n now accepted) found ≡ Some p → IsTold n entries → Made line entries p
   accept-there n entries line name now accepted None p reads free is told = absurd (cc)
   accept-there n entries line name now accepted (Some k) p reads free is told =
       accept-found n entries line name now accepted k (slice_get n.sockets k) p reads free refl is told
 
   accept-made : (n : Network C) (entries : List Entry) (line name : List ℕ) (now : ℕ) (accepted : List ℕ) (p : Printed C)
       → read_line line ≡ Some (AcceptLine name now accepted)
-      → (if is_taken accepted n then None else with_place n (accept_at w n now accepted) (place_of name n.sockets)) ≡ Some p → IsTold n entries
+      → (if is_taken accepted n then None else with_place w n (accept_at w n now accepted) (place_of name n.sockets)) ≡ Some p → IsTold n entries
       → Made line entries p
   accept-made n entries line name now accepted p reads is told =
       elim (is_taken accepted n) as (λ taken. is_taken accepted n ≡ taken
-      → (if taken then None else with_place n (accept_at w n now accepted) (place_of name n.sockets)) ≡ Some p → Made line entries p) [
+      → (if taken then None else with_place w n (accept_at w n now accepted) (place_of name n.sockets)) ≡ Some p → Made line entries p) [
         | true ↦ λ test e. absurd (cc)
         | false ↦ λ test e. accept-there n entries line name now accepted (place_of name n.sockets) p reads (not_free _ _ test) e told
       ] refl is
