@@ -82,12 +82,12 @@ position-others p (x ∷ xs) ys none =
 -- what isn't so before and after is found nowhere else
 pub position-apart : {A : Type 0} (p : A → Bool) (xs : List A) (k : ℕ) (old new : A) → slice_get xs k ≡ Some old → p old ≡ false → p new ≡ false
     → position p (slice_set xs k new) ≡ position p xs
-position-apart p [] k old new at no none = absurd (cc)
-position-apart p (x ∷ xs) zero old new at no none =
-    let same : p x ≡ false = ap p (same_Some x old at) ∙ no in
-    position-cons p new xs ∙ (rw (none, same) refl ∙ sym (position-cons p x xs))
-position-apart p (x ∷ xs) (suc k) old new at no none =
-    position-cons p x (slice_set xs k new) ∙ (rw (position-apart p xs k old new at no none) refl ∙ sym (position-cons p x xs))
+position-apart p [] k old new at not_old not_new = absurd (cc)
+position-apart p (x ∷ xs) zero old new at not_old not_new =
+    let same : p x ≡ false = ap p (same_Some x old at) ∙ not_old in
+    position-cons p new xs ∙ (rw (not_new, same) refl ∙ sym (position-cons p x xs))
+position-apart p (x ∷ xs) (suc k) old new at not_old not_new =
+    position-cons p x (slice_set xs k new) ∙ (rw (position-apart p xs k old new at not_old not_new) refl ∙ sym (position-cons p x xs))
 
 -- and what becomes so where nothing was stands there
 pub position-here : {A : Type 0} (p : A → Bool) (xs : List A) (k : ℕ) (old new : A) → slice_get xs k ≡ Some old → position p xs ≡ None → p new ≡ true
