@@ -9,9 +9,8 @@ use Rattle.udt_model.specs.declared.limits.TheConstants.{MOST_SOCKETS}
 use Rattle.udt_model.specs.declared.packets.Kind.{Kind}
 use Rattle.udt_model.specs.declared.packets.Kind.TheVariants as kind
 use Rattle.udt_model.specs.Calls.{send_in, send_as, recv_in, recv_as}
-use Rattle.udt_model.specs.declared.answers.Heard.{Heard}
-use Rattle.udt_model.specs.Events.{Arrive, DidHear, Recv, Reply, Send, at_moment, event}
-use Rattle.udt_model.specs.Network.{first_met, is_listening}
+use Rattle.udt_model.specs.Events.{Event, Recv, Reply, Send, at_moment, event}
+use Rattle.udt_model.specs.Network.{first_met, is_listening, meets_by}
 use Rattle.udt_model.specs.Phases.{Link, Stands, Lost, Absent, link_of}
 use Rattle.udt_model.specs.Rate.{Ways}
 use Rattle.udt_model.specs.Records.{PeerPair}
@@ -194,14 +193,16 @@ first-none : (o : Option Addr) → first_met o None ≡ o
 first-none None = refl
 first-none (Some to) = refl
 
--- who hears a datagram begins neither to listen nor to meet anybody
-pub heard-same : {C : Type 0} (w : Ways C) (s : Sight C) (now : ℕ) (from : Addr) (bytes : List ℕ) (after : State C) (heard : Heard)
-    → after ≡ (step w s.state (event now (Arrive from bytes))).after → DidHear heard ≡ (step w s.state (event now (Arrive from bytes))).reply
-    → record s { state = after } ≡ after_event w s (event now (Arrive from bytes))
-heard-same w s now from bytes after heard is reply =
-    let listened : (s.listened || is_listening (step w s.state (event now (Arrive from bytes))).reply) ≡ s.listened =
-    ap (λ (r : Reply). s.listened || is_listening r) (sym reply) ∙ or-false s.listened in
-    rw (listened, first-none s.met, is) refl
+-- a socket that answers so, of which the answer says that it begins neither to listen nor to meet anybody
+pub quiet-same : {C : Type 0} (w : Ways C) (s : Sight C) (e : Event) (after : State C) (reply : Reply)
+    → after ≡ (step w s.state e).after → reply ≡ (step w s.state e).reply → is_listening reply ≡ Bool.false → meets_by e.act reply ≡ None
+    → record s { state = after } ≡ after_event w s e
+quiet-same w s e after reply is answers listens meets =
+    let listened : (s.listened || is_listening (step w s.state e).reply) ≡ s.listened =
+    ap (λ (r : Reply). s.listened || is_listening r) (sym answers) ∙ (ap (λ (b : Bool). s.listened || b) listens ∙ or-false s.listened) in
+    let met : first_met s.met (meets_by e.act (step w s.state e).reply) ≡ s.met =
+    ap (λ (r : Reply). first_met s.met (meets_by e.act r)) (sym answers) ∙ (ap (first_met s.met) meets ∙ first-none s.met) in
+    rw (listened, met, is) refl
 
 -- a place in a list has an element
 pub there-is : {X : Type 0} (xs : List X) (i : ℕ) → i < length xs → (x : X) × (slice_get xs i ≡ Some x)
