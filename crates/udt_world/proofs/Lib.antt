@@ -7,6 +7,7 @@ pub mod ToldLemmas
 pub mod MovedLemmas
 pub mod WiredLemmas
 pub mod AlikeLemmas
+pub mod RenamedLemmas
 pub mod PlaceLemmas
 pub mod ClosedLemmas
 pub mod HostLemmas
