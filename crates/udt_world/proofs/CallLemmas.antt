@@ -1,25 +1,23 @@
 -- A call of a socket does what the definitions say: the places at its host are those that are seen.
-use Rattle.std.proofs.Common.{◌≡◌, ℕ, zero, suc, ◌+◌, ◌<◌, Bool, true, false, List, [], ◌∷◌, ◌++◌, length, map, Some, None, Option, refl, ap, ◌∙◌, sym, subst, arith, option_map}
+use Rattle.std.proofs.Common.{◌≡◌, ℕ, zero, suc, ◌+◌, ◌<◌, Bool, true, false, List, [], ◌∷◌, ◌++◌, length, map, Some, None, Option, refl, ap, ◌∙◌, sym, arith, option_map}
 use Rattle.std.specs.Prelude.{slice_get, is_some, vec_len, ◌||◌, ◌&&◌, if◌then◌else◌}
 use Rattle.std.proofs.lemmas.List.{length-map}
 use Rattle.std.proofs.lemmas.Option.{same_Some, slice_get_within}
 use Rattle.udt_model.specs.declared.addresses.Addr.{Addr}
-use Rattle.udt_model.specs.Events.{Act, Listen, Meet, Offer, Arrive, Event, event}
+use Rattle.udt_model.specs.Events.{Act, Listen, Meet, Event, event}
 use Rattle.udt_model.specs.Network as model
 use Rattle.udt_model.specs.Rate.{Ways}
-use Rattle.udt_model.specs.Script.{call_at}
+use Rattle.udt_model.specs.Lines.{CallLine}
+use Rattle.udt_model.specs.Script.{call_at, on_line}
 use Rattle.udt_model.specs.Texts.{listen_twice_text, meet_taken_text}
 use Rattle.udt_routes.specs.Meets.{meeter_of}
 use Rattle.udt_routes.specs.Tables.{what_of}
-use Rattle.udt_script.specs.CodeLines.{act_of}
-use Rattle.udt_script.specs.declared.lines.Call.{Call}
-use Rattle.udt_script.specs.declared.lines.Call.TheVariants as code_call
 use Rattle.udt_world.specs.declared.hosts.Endpoint.{Endpoint}
 use Rattle.udt_world.specs.declared.network.Network.{Network}
 use Rattle.udt_world.specs.declared.network.ScriptSocket.{ScriptSocket}
 use Rattle.udt_world.specs.Views.{Sight, View, sight_of, sight_of_history, view_of, Shows, HasEvent}
 use Rattle.udt_world.specs.Done.{DoesLine}
-use Rattle.udt_world.specs.Wiring.{IsWired, Knows, MayHappen, first_with, is_any, is_here, listens, meets, seen_at, sights_of}
+use Rattle.udt_world.specs.Wiring.{IsWired, Knows, first_with, is_any, is_here, listens, meets, seen_at, sights_of}
 use Rattle.udt_world.proofs.EventLemmas.{event_shown, shown_at}
 use Rattle.udt_world.proofs.FirstLemmas.{with-place}
 use Rattle.udt_world.proofs.KnownLemmas.{known_seen}
@@ -130,52 +128,6 @@ module _ {C : Type 0} (sights : List (Sight C)) (sight : Sight C) where
       (is_some (first_with (meets sight.host to) sights) || (is_here sight.host sight && is_some sight.met)) ≡ false
   IsFree other = Unit {0}
 
-abbrev IsCall : Act → Type 0
-IsCall (Offer id) = ⊥
-IsCall (Arrive from bytes) = ⊥
-IsCall other = Unit {0}
-
-is-call : (call : Call) → IsCall (act_of call)
-is-call (code_call.Listen most) = tt
-is-call (code_call.Connect to) = tt
-is-call (code_call.Meet to) = tt
-is-call code_call.Shake = tt
-is-call (code_call.Send bytes) = tt
-is-call (code_call.Recv room) = tt
-is-call (code_call.SendMessage ttl order bytes) = tt
-is-call (code_call.RecvMessage room) = tt
-is-call code_call.Pack = tt
-is-call code_call.Tick = tt
-is-call code_call.Close = tt
-is-call code_call.Perf = tt
-
-is-none : {A : Type 0} (o : Option A) → is_some o ≡ false → o ≡ None
-is-none None e = refl
-is-none (Some x) e = absurd (cc)
-
-neither : (a b : Bool) → (a || b) ≡ false → (a ≡ false) × (b ≡ false)
-neither true b e = absurd (cc)
-neither false b e = (refl, e)
-
--- and then it may happen
-pub may-call : {C : Type 0} (sights : List (Sight C)) (place : ℕ) (sight : Sight C) (call : Call)
-    → slice_get sights place ≡ Some sight → IsFree sights sight (act_of call) → MayHappen sights place (act_of call)
-may-call sights place sight call found free = record {
-  listens = λ s most secret at is.
-      let same : sight ≡ s = same_Some sight s (sym found ∙ at) in
-      let none : is_some (first_with (listens sight.host) sights) ≡ false = subst (λ a. IsFree sights sight a) is free in
-      subst (λ (x : Sight _). first_with (listens x.host) sights ≡ None) same (is-none _ none);
-  meets = λ s to at is.
-      let same : sight ≡ s = same_Some sight s (sym found ∙ at) in
-      let both : (is_some (first_with (meets sight.host to) sights) || (is_here sight.host sight && is_some sight.met)) ≡ false =
-      subst (λ a. IsFree sights sight a) is free in
-      let none = neither _ _ both in
-      subst (λ (x : Sight _). (first_with (meets x.host to) sights ≡ None) × (is_here x.host x && is_some x.met ≡ false)) same
-      (is-none _ none.0, none.1);
-  offers = λ id is. absurd (subst (λ a. IsCall a) is (is-call call));
-  hears = λ s from bytes shake at is. absurd (subst (λ a. IsCall a) is (is-call call));
-}
-
 module _ {C : Type 0} (w : Ways C) where
   -- there are as many sockets
   pub count_same : (n : model.Network C) (network : Network C) → Shows w n (view_of network)
@@ -236,3 +188,15 @@ module _ {C : Type 0} (w : Ways C) where
         rw (meeting to, any-meeting) free in
         rw none (event_shown w n place socket (event now (Meet to)) view new before after shows there happens)
     called now act new before after free happens = event_shown w n place socket (event now act) view new before after shows there happens
+
+  -- ---- calls by their names
+
+  pub no_name : (n : model.Network C) (view : View C) (name text : List ℕ) (happens : Event) → Shows w n view
+      → None ≡ model.place_of name n.sockets → DoesLine w n (on_line w n (CallLine name happens)) false view text text
+  no_name n view name text happens shows none = rw (sym none) (shows, refl)
+
+  pub named_call : (n : model.Network C) (new : View C) (name before after : List ℕ) (happens : Event) (place : ℕ)
+      (socket : model.ScriptSocket C) → Some place ≡ model.place_of name n.sockets → slice_get n.sockets place ≡ Some socket
+      → DoesLine w n (Some (call_at w n place socket happens)) true new before after
+      → DoesLine w n (on_line w n (CallLine name happens)) true new before after
+  named_call n new name before after happens place socket at there does = rw (sym at, there) does
