@@ -9,9 +9,13 @@ use Rattle.udt_model.specs.declared.limits.TheConstants.{MOST_SOCKETS}
 use Rattle.udt_model.specs.declared.packets.Kind.{Kind}
 use Rattle.udt_model.specs.declared.packets.Kind.TheVariants as kind
 use Rattle.udt_model.specs.Calls.{send_in, send_as, recv_in, recv_as}
-use Rattle.udt_model.specs.Events.{Event, Recv, Reply, Send, at_moment, event}
+use Rattle.udt_model.specs.declared.answers.Origin.{Origin}
+use Rattle.udt_model.specs.declared.answers.Peer.{Peer}
+use Rattle.udt_model.specs.Connections.{phase_after_accept}
+use Rattle.udt_model.specs.Events.{Accept, Event, Recv, Reply, Send, at_moment, event}
 use Rattle.udt_model.specs.Network.{first_met, is_listening, meets_by}
-use Rattle.udt_model.specs.Phases.{Link, Stands, Lost, Absent, link_of}
+use Rattle.udt_model.specs.Phases.{Phase, Link, Stands, Lost, Absent, is_closed, link_of}
+use Rattle.udt_model.specs.Phases as phase
 use Rattle.udt_model.specs.Rate.{Ways}
 use Rattle.udt_model.specs.Records.{PeerPair}
 use Rattle.udt_model.specs.State.{State}
@@ -23,6 +27,7 @@ use Rattle.udt_world.specs.declared.network.Network.{Network}
 use Rattle.udt_world.specs.declared.network.ScriptSocket.{ScriptSocket}
 use Rattle.udt_world.specs.Views.{Sight, after_event, sight_of}
 use Rattle.udt_world.specs.Wiring.{FitsPhase, HasAddress, IsGiven, IsWired, Knows, adopts, is_any, is_here, listens, meets, one_if, peer_in, place_seen, place_under, sight_with, sights_of, waiting_at}
+use Rattle.udt_world.proofs.ActLemmas.{still-waits}
 use Rattle.udt_world.proofs.FirstLemmas.{Only, first-set, only-set, position-set, replaced-cases, sum-set, with-place, with-set}
 use Rattle.udt_world.proofs.WiredLemmas.{mapped, sight-at}
 
@@ -52,14 +57,53 @@ module _ {C : Type 0} where
   recv_as-look s room kind.Stream = recv-look s room (link_of s.phase)
   recv_as-look s room kind.Message = record { own = refl; phase = refl; origin = refl; peer = refl }
 
-  look-on : (s : State C) (now : ℕ) (t : State C) → KeepsLook (at_moment s now) t → KeepsLook s t
-  look-on s now t keeps = record { own = keeps.own; phase = keeps.phase; origin = keeps.origin; peer = keeps.peer }
+  -- a state of which an endpoint may know no more and no less: it has the same peer, and no others wait at it
+  pub record StaysKnown (s t : State C) : Type 0 where
+    pub own : t.own ≡ s.own
+    pub closed : is_closed t.phase ≡ is_closed s.phase
+    pub origin : t.origin ≡ s.origin
+    pub peer : t.peer ≡ s.peer
+    pub waits : (id : ℕ) → Contains (waiting_at t.phase) id → Contains (waiting_at s.phase) id
+    pub fits : FitsPhase s.phase s.origin s.peer → FitsPhase t.phase t.origin t.peer
 
-  pub send-keeps : (w : Ways C) (s : State C) (now : ℕ) (bytes : List ℕ) → KeepsLook s (step w s (event now (Send bytes))).after
+  look-on : (s : State C) (now : ℕ) (t : State C) → KeepsLook (at_moment s now) t → StaysKnown s t
+  look-on s now t keeps = record {
+    own = keeps.own;
+    closed = ap (λ (p : Phase). is_closed p) keeps.phase;
+    origin = keeps.origin;
+    peer = keeps.peer;
+    waits = λ id has. subst (λ (p : Phase). Contains (waiting_at p) id) keeps.phase has;
+    fits = λ fits. rw (keeps.phase, keeps.origin, keeps.peer) fits;
+  }
+
+  accept-closed : (p : Phase) → is_closed (phase_after_accept p) ≡ is_closed p
+  accept-closed (phase.Listening b) = refl
+  accept-closed _ = refl
+
+  accept-waits : (p : Phase) (id : ℕ) → Contains (waiting_at (phase_after_accept p)) id → Contains (waiting_at p) id
+  accept-waits (phase.Listening b) id has = still-waits b.offered id has
+  accept-waits _ id has = has
+
+  accept-fits : (p : Phase) (from : Origin) (peer : Peer) → FitsPhase p from peer → FitsPhase (phase_after_accept p) from peer
+  accept-fits (phase.Listening b) from peer fits = fits
+  accept-fits _ from peer fits = fits
+
+  pub accept-keeps : (w : Ways C) (s : State C) (now : ℕ) → StaysKnown s (step w s (event now Accept)).after
+  unfolding step
+  accept-keeps w s now = record {
+    own = refl;
+    closed = accept-closed s.phase;
+    origin = refl;
+    peer = refl;
+    waits = accept-waits s.phase;
+    fits = accept-fits s.phase s.origin s.peer;
+  }
+
+  pub send-keeps : (w : Ways C) (s : State C) (now : ℕ) (bytes : List ℕ) → StaysKnown s (step w s (event now (Send bytes))).after
   unfolding step
   send-keeps w s now bytes = look-on s now _ (send_as-look (at_moment s now) bytes s.kind)
 
-  pub recv-keeps : (w : Ways C) (s : State C) (now room : ℕ) → KeepsLook s (step w s (event now (Recv room))).after
+  pub recv-keeps : (w : Ways C) (s : State C) (now room : ℕ) → StaysKnown s (step w s (event now (Recv room))).after
   unfolding step
   recv-keeps w s now room = look-on s now _ (recv_as-look (at_moment s now) room s.kind)
 
@@ -68,12 +112,12 @@ pub record IsAlike {C : Type 0} (s t : Sight C) : Type 0 where
   pub host : t.host ≡ s.host
   pub listened : t.listened ≡ s.listened
   pub met : t.met ≡ s.met
-  pub look : KeepsLook s.state t.state
+  pub look : StaysKnown s.state t.state
 
 module _ {C : Type 0} (sights : List (Sight C)) (place : ℕ) (s next : Sight C) (found : slice_get sights place ≡ Some s)
     (alike : IsAlike s next) where
   here-same : (host : Addr) → is_here host next ≡ is_here host s
-  here-same host = rw (alike.host, alike.look.phase) refl
+  here-same host = rw (alike.host, alike.look.closed) refl
 
   peer-same : peer_in next ≡ peer_in s
   peer-same = rw (alike.look.origin, alike.look.peer) refl
@@ -82,10 +126,10 @@ module _ {C : Type 0} (sights : List (Sight C)) (place : ℕ) (s next : Sight C)
   adopts-same host addr id = rw (alike.host, alike.look.origin, alike.look.peer) refl
 
   listens-same : (host : Addr) → listens host next ≡ listens host s
-  listens-same host = rw (alike.host, alike.look.phase, alike.listened) refl
+  listens-same host = rw (alike.host, alike.look.closed, alike.listened) refl
 
   meets-same : (host addr : Addr) → meets host addr next ≡ meets host addr s
-  meets-same host addr = rw (alike.host, alike.look.phase, alike.met) refl
+  meets-same host addr = rw (alike.host, alike.look.closed, alike.met) refl
 
   only-alike : (p : Sight C → Bool) → p next ≡ p s → Only p sights → Only p (slice_set sights place next)
   only-alike p same only = only-set p sights place s next found only (λ passes. inl (sym same ∙ passes))
@@ -168,11 +212,11 @@ module _ {C : Type 0} (old new : Network C) (place : ℕ) (socket later : Script
         (λ apart before. wired.owns p x before);
     waits = λ p id x at waits. subst (λ (n : ℕ). (0 < id) × (id ≤ n)) (sym count_same) (each-after p x at
         (λ is x_is. wired.waits place id (sight_of socket) seen
-        (rw alike.look.phase at (subst (λ (y : Sight C). Contains (waiting_at y.state.phase) id) x_is waits)))
+        (alike.look.waits id (subst (λ (y : Sight C). Contains (waiting_at y.state.phase) id) x_is waits)))
         (λ apart before. wired.waits p id x before waits));
     peers = λ p x at. each-after p x at
         (λ is x_is. subst (λ (y : Sight C). FitsPhase y.state.phase y.state.origin y.state.peer) (sym x_is)
-        (rw (alike.look.phase, alike.look.origin, alike.look.peer) (wired.peers place (sight_of socket) seen)))
+        (alike.look.fits (wired.peers place (sight_of socket) seen)))
         (λ apart before. wired.peers p x before);
     listens_once = λ host. rw sights_are
         (only-alike (sights_of old) place (sight_of socket) (sight_of later) seen alike (listens host)
@@ -188,7 +232,7 @@ module _ {C : Type 0} (old new : Network C) (place : ℕ) (socket later : Script
 
 -- a socket that goes on to a state that looks alike
 module _ {C : Type 0} (old new : Network C) (place : ℕ) (socket : ScriptSocket C) (after : State C) (wired : IsWired old)
-    (found : slice_get old.sockets.items place ≡ Some socket) (keeps : KeepsLook socket.socket after)
+    (found : slice_get old.sockets.items place ≡ Some socket) (keeps : StaysKnown socket.socket after)
     (sockets_are : new.sockets.items ≡ slice_set old.sockets.items place (record socket { socket = after }))
     (sights_are : sights_of new ≡ slice_set (sights_of old) place (record (sight_of socket) { state = after }))
     (endpoints_are : new.endpoints.items ≡ old.endpoints.items) (names_are : new.names ≡ old.names)

@@ -12,6 +12,9 @@ use Rattle.udt_model.specs.Script.{call_at, on_line}
 use Rattle.udt_model.specs.Texts.{listen_twice_text, meet_taken_text}
 use Rattle.udt_routes.specs.Meets.{meeter_of}
 use Rattle.udt_routes.specs.Tables.{what_of}
+use Rattle.udt_script.specs.CodeLines.{act_of}
+use Rattle.udt_script.specs.declared.lines.Call.{Call}
+use Rattle.udt_script.specs.declared.lines.Call.TheVariants as code_call
 use Rattle.udt_world.specs.declared.hosts.Endpoint.{Endpoint}
 use Rattle.udt_world.specs.declared.network.Network.{Network}
 use Rattle.udt_world.specs.declared.network.ScriptSocket.{ScriptSocket}
@@ -127,6 +130,22 @@ module _ {C : Type 0} (sights : List (Sight C)) (sight : Sight C) where
   IsFree (Meet to) =
       (is_some (first_with (meets sight.host to) sights) || (is_here sight.host sight && is_some sight.met)) ≡ false
   IsFree other = Unit {0}
+
+  -- other calls ask for none
+  pub other_free : (call : Call) → ((most : ℕ) → call ≡ code_call.Listen most → ⊥) → ((to : Addr) → call ≡ code_call.Meet to → ⊥)
+      → IsFree (act_of call)
+  other_free (code_call.Listen most) not_listens not_meets = absurd (not_listens most refl)
+  other_free (code_call.Meet to) not_listens not_meets = absurd (not_meets to refl)
+  other_free (code_call.Connect to) not_listens not_meets = tt
+  other_free code_call.Shake not_listens not_meets = tt
+  other_free (code_call.Send bytes) not_listens not_meets = tt
+  other_free (code_call.Recv room) not_listens not_meets = tt
+  other_free (code_call.SendMessage ttl order bytes) not_listens not_meets = tt
+  other_free (code_call.RecvMessage room) not_listens not_meets = tt
+  other_free code_call.Pack not_listens not_meets = tt
+  other_free code_call.Tick not_listens not_meets = tt
+  other_free code_call.Close not_listens not_meets = tt
+  other_free code_call.Perf not_listens not_meets = tt
 
 module _ {C : Type 0} (w : Ways C) where
   -- there are as many sockets

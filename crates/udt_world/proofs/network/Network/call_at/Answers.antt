@@ -5,7 +5,7 @@ use Rattle.udt_model.specs.Lines.{no_secret}
 use Rattle.udt_script.specs.CodeLines.{act_of}
 use Rattle.udt_world.specs.Views.{sight_of, view_of}
 use Rattle.udt_world.specs.Wiring.{sights_of}
-use Rattle.udt_world.proofs.CallLemmas.{IsFree, called, listened_twice, met_taken}
+use Rattle.udt_world.proofs.CallLemmas.{IsFree, called, other_free, listened_twice, met_taken}
 use Rattle.udt_world.proofs.WiredLemmas.{sight-at}
 use Rattle.udt_world.proofs.network.Network.call_at.Goals as goal
 use Rattle.udt_world.proofs.network.Network.call_at.Goals.{in_default-via-in-Listen+else-has_listener, in_default-via-in-Meet+else-has_meeting, in_default-via-in_default}
@@ -52,7 +52,8 @@ returns-in_ok-event-in_default-clause-done g c = λ n known shows there.
         rw w.in-Listen.is (sym (w.has_listener.ensures happens.sight happens.found) ∙ w.if-has_listener.false)
       | in_default-via-in-Meet+else-has_meeting w ↦
         rw w.in-Meet.is (sym (w.has_meeting.ensures happens.sight happens.found) ∙ w.if-has_meeting.false)
-      | in_default-via-in_default w ↦ ?
+      | in_default-via-in_default w ↦
+        other_free (sights_of network) happens.sight c.args.call.now w.in_default.not-Listen w.in_default.not-Meet
     ] in
     called g.C.Control.ways n (view_of network) shows c.args.place known there happens.sight happens.found
     c.args.now (act_of c.args.call.now) (view_of c.event.new.self) c.args.out.now.items c.event.new.out.items free happens
