@@ -1,0 +1,4 @@
+-- Records are honest where what arrives was said, and no socket takes too many bytes.
+pub mod SaidByLines
+pub mod NearRecords
+pub mod ScriptPeers
