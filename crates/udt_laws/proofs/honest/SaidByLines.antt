@@ -1,11 +1,12 @@
 -- What arrives at a socket of a script was emitted by one of them for its host, and none takes more bytes than the lines have.
 use Rattle.std.proofs.Common.{◌≡◌, ◌⊎◌, ℕ, zero, suc, ◌+◌, ◌-◌, ◌≤◌, true, false, List, [], ◌∷◌, ◌++◌, length, Some, None, Ok, Option, refl, ap, ◌∙◌, sym, subst, inl, inr, arith}
-use Rattle.std.specs.Prelude.{slice_get, slice_set, map, if◌then◌else◌}
+use Rattle.std.specs.Prelude.{◌==◌, slice_get, slice_set, map, if◌then◌else◌}
 use Rattle.std.specs.List.{Contains}
 use Rattle.std.proofs.lemmas.Bool.{cases_eq}
 use Rattle.std.proofs.lemmas.List.{length-append}
 use Rattle.std.proofs.lemmas.List.Elements.{Contains-append_left, Contains-append_right, Contains-append_cases}
 use Rattle.udt_model.specs.declared.addresses.Addr.{Addr}
+use Rattle.udt_model.specs.declared.packets.Shake.{Shake}
 use Rattle.udt_model.specs.declared.routes.Routed.TheVariants.{ToSocket as RoutedTo, Id}
 use Rattle.udt_model.specs.Emissions.{emitted, emitted_by, arrived_by_act, arrived_by, arrivals}
 use Rattle.udt_model.specs.Events.{Act, Arrive, Event, outs_of}
@@ -13,7 +14,7 @@ use Rattle.udt_model.specs.History.{Item, History, taken_by, accepted_by, accept
 use Rattle.udt_model.specs.Lines.{is_arrival, AreEmitted}
 use Rattle.udt_model.specs.Network.{ScriptSocket, ScriptDatagram, Network, known_at, ToSocket, route}
 use Rattle.udt_model.specs.Rate.{Ways}
-use Rattle.udt_model.specs.Routes.{Known, handshake_in, to_target}
+use Rattle.udt_model.specs.Routes.{Known, handshake_in, to_unnamed, to_named, to_target}
 use Rattle.udt_model.specs.Script.{from_host, size_of, with_socket, event_at, paired, paired_socket, network_after}
 use Rattle.udt_model.specs.State.{State, Datagram, Emission}
 use Rattle.udt_model.specs.Step.{step}
@@ -41,14 +42,21 @@ not-shake : (packet : Packet) → is_handshake packet ≡ false → handshake_in
 not-shake (Handshake stamp dest shake) is = absurd (cc)
 not-shake packet is = refl
 
-named-id : (k : Known) (from : Addr) (dest id : ℕ) → to_target k from (Some dest) None ≡ RoutedTo id → id - 1 + 1 ≡ dest
-named-id k from zero id is = absurd (cc)
-named-id k from (suc dest) id is =
+enrolled-id : (k : Known) (from : Addr) (dest id : ℕ) → to_named k from (suc dest) None ≡ RoutedTo id → id - 1 + 1 ≡ suc dest
+enrolled-id k from dest id is =
     elim (k.is_enrolled (suc dest)) as (λ enrolled. (if enrolled then RoutedTo (suc dest) else Id) ≡ RoutedTo id → id - 1 + 1 ≡ suc dest) [
       | true ↦ λ e.
           let same : suc dest ≡ id = cc in
           omega (arith, same)
       | false ↦ λ e. absurd (cc)
+    ] is
+
+named-id : (k : Known) (from : Addr) (dest id : ℕ) → to_target k from (Some dest) None ≡ RoutedTo id → id - 1 + 1 ≡ dest
+named-id k from zero id is = absurd (cc)
+named-id k from (suc dest) id is =
+    elim (suc dest == 0) as (λ none. (if none then to_unnamed k from None else to_named k from (suc dest) None) ≡ RoutedTo id → id - 1 + 1 ≡ suc dest) [
+      | true ↦ λ e. absurd (cc)
+      | false ↦ λ e. enrolled-id k from dest id e
     ] is
 
 no-arrival : (act : Act) (arrived : Datagram) → is_arrival act ≡ false → Contains (arrived_by_act act) arrived → ⊥
@@ -268,7 +276,8 @@ module _ {C : Type 0} (w : Ways C) where
               let known = known_at w n.sockets datagram.to in
               let to = ap (λ (t : Option ℕ). to_target known datagram.from t (handshake_in (read datagram.bytes)))
               (sym (target-of-read datagram.bytes packet reads)) ∙ routed.goes in
-              let named = named-id known datagram.from (destination packet) routed.id (rw (sym none) to) in
+              let named = named-id known datagram.from (destination packet) routed.id
+              (subst (λ (shake : Option Shake). to_target known datagram.from (Some (destination packet)) shake ≡ RoutedTo routed.id) none to) in
               omega (arith, named, routed.place_is)
           | inr made ↦
               let reads_too = made.reads in

@@ -61,9 +61,8 @@ module _ {C : Type 0} (w : Ways C) where
       said = was-said;
       bound = λ addr socket stands datagram among packet reads plain.
           (came-there addr socket stands datagram among).bound packet reads plain ∙ sym (has.among addr socket stands).own_is;
-      taken = λ addr socket stands.
-          let is = has.among addr socket stands in
-          rw is.history_is (served.each is.place is.socket is.at).taken;
+      taken = λ addr socket stands. rw (has.among addr socket stands).history_is
+          (served.each (has.among addr socket stands).place (has.among addr socket stands).socket (has.among addr socket stands).at).taken;
     }
 
   module _ (lawful : ScriptLawful w) (lines : List (List ℕ)) (few : size_of lines < 2 ^ 30) (emitted : AreEmitted lines) where
@@ -80,18 +79,18 @@ module _ {C : Type 0} (w : Ways C) where
         → own_peer w socket.history ≡ Some peer → HasHeard w socket.history → HasPeerThere w n place socket peer
     peer-there place socket peer at names heard =
         let there = has.stands place socket at in
-        let mutual = mutual_adoption w has.net socket.host (enrolled_at place there.way socket) peer has.lawful records-honest there.stands names heard in
-        let is = has.among peer.addr mutual.other mutual.stands in
+        let met = mutual_adoption w has.net socket.host (enrolled_at place there.way socket) peer has.lawful records-honest there.stands names heard in
+        let is = has.among peer.addr met.other met.stands in
         record {
           peer_place = is.place;
           other = is.socket;
           at = is.at;
-          peer_is = peer-is peer is.socket.host (is.place + 1) (sym is.host_is) (sym mutual.own_is ∙ is.own_is);
-          back = ap (own_peer w) (sym is.history_is) ∙ mutual.back;
-          kind = ap (λ (h : History C). h.opening.kind) (sym is.history_is) ∙ mutual.kind;
-          start = ap start_of (sym is.history_is) ∙ mutual.start;
-          isn = mutual.isn ∙ ap (λ (h : History C). h.opening.isn) is.history_is;
-          back_isn = ap (peer_isn w) (sym is.history_is) ∙ mutual.back_isn;
+          peer_is = peer-is peer is.socket.host (is.place + 1) (sym is.host_is) (sym met.own_is ∙ is.own_is);
+          back = ap (own_peer w) (sym is.history_is) ∙ met.back;
+          kind = ap (λ (h : History C). h.opening.kind) (sym is.history_is) ∙ met.kind;
+          start = ap start_of (sym is.history_is) ∙ met.start;
+          isn = met.isn ∙ ap (λ (h : History C). h.opening.isn) is.history_is;
+          back_isn = ap (peer_isn w) (sym is.history_is) ∙ met.back_isn;
         }
 
     module _ (place peer_place : ℕ) (socket peer : ScriptSocket C) (at : slice_get n.sockets place ≡ Some socket)
