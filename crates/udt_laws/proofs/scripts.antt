@@ -13,3 +13,6 @@ pub mod KeptPeers
 pub mod LineRanges
 pub mod KeptByLines
 pub mod ScriptNetworks
+pub mod MadeSockets
+pub mod KeepsNetwork
+pub mod ScriptLawful

@@ -1,5 +1,5 @@
 -- What the lines of a script do to its network, one kind of change after another: what each of them keeps holds after all lines.
-use Rattle.std.proofs.Common.{◌≡◌, ℕ, suc, ◌+◌, ◌-◌, ◌<◌, ◌≤◌, Bool, true, false, List, [], ◌∷◌, ◌++◌, length, Some, None, Ok, Option, refl, ap, ◌∙◌, sym, subst, inl, inr, ◌⊎◌, arith}
+use Rattle.std.proofs.Common.{◌≡◌, ℕ, suc, ◌+◌, ◌-◌, ◌<◌, ◌≤◌, true, false, List, [], ◌∷◌, length, Some, None, Ok, Option, refl, ◌∙◌, subst, inl, inr, ◌⊎◌, arith}
 use Rattle.std.specs.Prelude.{slice_get, slice_set, is_some, option_map, nat_lt, ◌||◌, if◌then◌else◌}
 use Rattle.std.specs.List.{Contains}
 use Rattle.std.proofs.lemmas.Bool.{and_parts, leb-true, ltb-true, not-true}
@@ -48,7 +48,8 @@ module _ {C : Type 0} (w : Ways C) where
     pub config : Config
     pub shake : Shake
     pub reads : handshake_in (read datagram.bytes) ≡ Some shake
-    pub begins : socket.history ≡ record { opening = opening w (place + 1) config (peer_in config datagram.from shake) 0 0; items = [] }
+    pub begins : socket.history
+        ≡ record { opening = opening w (place + 1) config (peer_in config datagram.from shake) 0 0; items = [] }
 
   -- this datagram arrives at the socket at this place: it was emitted, unless lines may give bytes of their own, and it is routed
   -- there, or the socket was made for it
@@ -59,15 +60,16 @@ module _ {C : Type 0} (w : Ways C) where
     pub why : (route w n datagram ≡ ToSocket place socket) ⊎ IsMadeFor place socket datagram
 
   -- a listener promises a place to the request that this datagram is, and there is room for a socket
-  pub record GetsPlace (Raw : Type 0) (n : Network C) (now place : ℕ) (listener : ScriptSocket C) (datagram : ScriptDatagram) (shake : Shake) : Type 0 where
+  pub record GetsPlace (Raw : Type 0) (n : Network C) (now place : ℕ) (listener : ScriptSocket C) (datagram : ScriptDatagram)
+      (shake : Shake) : Type 0 where
     pub comes : Comes Raw n place listener datagram
     pub goes : route w n datagram ≡ ToSocket place listener
     pub reads : handshake_in (read datagram.bytes) ≡ Some shake
     pub promised : (step w (state_of w listener.history) (arrival_of now datagram)).reply ≡ DidHear heard.Request
     pub room : length n.sockets < MOST_SOCKETS
 
-  -- P, of the bytes of the lines and of the network that they make, holds at the start, at more bytes, and after each change. A socket
-  -- has had no more events than there are bytes, and no line gives it more bytes to take than it has beside
+  -- P, of the bytes of the lines and of the network that they make, holds at the start, at more bytes, and after each change.
+  -- Each event counts as a byte, and so does each byte that a call gives
   pub record KeptByLines (Raw : Type 0) (P : ℕ → Network C → Type 0) : Type 0 where
     pub empty : P 0 empty_network
     pub more : (size bytes : ℕ) (n : Network C) → P size n → P (size + bytes) n
@@ -78,13 +80,16 @@ module _ {C : Type 0} (w : Ways C) where
     pub socket : (size : ℕ) (n : Network C) (o : OpeningLine) (addr : Addr) → IsOpeningLine o → length n.sockets < MOST_SOCKETS
         → address_of_host o.host n.hosts ≡ Some addr → P size n → P size (with_socket n (opened_socket n o addr))
     -- a call, or a listener's socket that is offered, or that isn't
-    pub call : (size : ℕ) (n : Network C) (place : ℕ) (socket : ScriptSocket C) (event : Event) → slice_get n.sockets place ≡ Some socket
+    pub call : (size : ℕ) (n : Network C) (place : ℕ) (socket : ScriptSocket C) (event : Event)
+        → slice_get n.sockets place ≡ Some socket
         → is_arrival event.act ≡ false → P size n → P (size + size_of_act event.act + 1) (event_at w n place socket event).network
     -- a connection that was accepted gets a name
-    pub name : (size : ℕ) (n : Network C) (place : ℕ) (socket : ScriptSocket C) (name : List ℕ) → slice_get n.sockets place ≡ Some socket
+    pub name : (size : ℕ) (n : Network C) (place : ℕ) (socket : ScriptSocket C) (name : List ℕ)
+        → slice_get n.sockets place ≡ Some socket
         → P size n → P size (record n { sockets = slice_set n.sockets place (record socket { name = name }) })
     pub arrival : (size : ℕ) (n : Network C) (now place : ℕ) (socket : ScriptSocket C) (datagram : ScriptDatagram)
-        → Comes Raw n place socket datagram → P size n → P (size + 1) (event_at w n place socket (arrival_of now datagram)).network
+        → Comes Raw n place socket datagram → P size n
+        → P (size + 1) (event_at w n place socket (arrival_of now datagram)).network
     -- the socket for a request, after its arrival at the listener
     pub made : (size : ℕ) (n : Network C) (now place : ℕ) (listener : ScriptSocket C) (datagram : ScriptDatagram) (shake : Shake)
         → GetsPlace Raw n now place listener datagram shake → P size n
@@ -94,27 +99,29 @@ module _ {C : Type 0} (w : Ways C) where
 
   -- ---- what an event leaves
 
-  module _ (n : Network C) (place : ℕ) (socket : ScriptSocket C) (event : Event) (at : slice_get n.sockets place ≡ Some socket) where
-    pub event-here : slice_get (event_at w n place socket event).network.sockets place
-        ≡ Some (record socket { history = happened w socket.history 0 event })
-    unfolding event_at
-    event-here = set-same n.sockets place socket _ at
+  module _ (n : Network C) (place : ℕ) (socket : ScriptSocket C) (event : Event) (at : slice_get n.sockets place ≡ Some socket)
+    where
+      pub event-here : slice_get (event_at w n place socket event).network.sockets place
+          ≡ Some (record socket { history = happened w socket.history 0 event })
+      unfolding event_at
+      event-here = set-same n.sockets place socket _ at
 
-    pub event-elsewhere : (k : ℕ) → (place ≡ k → ⊥) → slice_get (event_at w n place socket event).network.sockets k ≡ slice_get n.sockets k
-    unfolding event_at
-    event-elsewhere k apart = set-other n.sockets place k _ apart
+      pub event-elsewhere : (k : ℕ) → (place ≡ k → ⊥)
+          → slice_get (event_at w n place socket event).network.sockets k ≡ slice_get n.sockets k
+      unfolding event_at
+      event-elsewhere k apart = set-other n.sockets place k _ apart
 
-    pub event-count : length (event_at w n place socket event).network.sockets ≡ length n.sockets
-    unfolding event_at
-    event-count = length-set n.sockets place _
+      pub event-count : length (event_at w n place socket event).network.sockets ≡ length n.sockets
+      unfolding event_at
+      event-count = length-set n.sockets place _
 
-    pub event-datagrams : (datagram : ScriptDatagram) → Contains n.datagrams datagram
-        → Contains (event_at w n place socket event).network.datagrams datagram
-    unfolding event_at
-    event-datagrams datagram among = Contains-append_left n.datagrams _ datagram among
+      pub event-datagrams : (datagram : ScriptDatagram) → Contains n.datagrams datagram
+          → Contains (event_at w n place socket event).network.datagrams datagram
+      unfolding event_at
+      event-datagrams datagram among = Contains-append_left n.datagrams _ datagram among
 
-    there : event_there w n place event ≡ event_at w n place socket event
-    there = rw at refl
+      there : event_there w n place event ≡ event_at w n place socket event
+      there = rw at refl
 
   -- ---- lines
 
@@ -124,7 +131,8 @@ module _ {C : Type 0} (w : Ways C) where
         let sum : small + (big - small) ≡ big = omega (arith, fits) in
         subst (λ (k : ℕ). P k n) sum (keeps.more small (big - small) n is)
 
-    still-came : (n : Network C) (place : ℕ) (socket : ScriptSocket C) (event : Event) (at : slice_get n.sockets place ≡ Some socket)
+    still-came : (n : Network C) (place : ℕ) (socket : ScriptSocket C) (event : Event)
+        (at : slice_get n.sockets place ≡ Some socket)
         (datagram : ScriptDatagram) → Raw ⊎ Contains n.datagrams datagram
         → Raw ⊎ Contains (event_at w n place socket event).network.datagrams datagram
     still-came n place socket event at datagram (inl raw) = inl raw
@@ -132,7 +140,8 @@ module _ {C : Type 0} (w : Ways C) where
 
     -- a socket that was made is offered, and gets the request
     module _ (m : Network C) (size now place : ℕ) (listener told : ScriptSocket C) (datagram : ScriptDatagram) (shake : Shake)
-        (at : slice_get m.sockets place ≡ Some told) (host : listener.host ≡ datagram.to) (came : Raw ⊎ Contains m.datagrams datagram)
+        (at : slice_get m.sockets place ≡ Some told) (host : listener.host ≡ datagram.to)
+        (came : Raw ⊎ Contains m.datagrams datagram)
         (reads : handshake_in (read datagram.bytes) ≡ Some shake) where
       abbrev new : ScriptSocket C
       new = made_for w m listener datagram.from shake
@@ -170,88 +179,100 @@ module _ {C : Type 0} (w : Ways C) where
       connected-kept big fits is =
           let one = keeps.call size more place told offer still-told refl is in
           let two = keeps.arrival (size + 0 + 1) offered_there now (length m.sockets) new datagram new-comes one in
-          rw (there more place told offer still-told, there offered_there (length m.sockets) new (arrival_of now datagram) new-there)
-          (raised (size + 0 + 1 + 1) big (event_at w offered_there (length m.sockets) new (arrival_of now datagram)).network (omega (arith, fits)) two)
+          rw (
+            there more place told offer still-told,
+            there offered_there (length m.sockets) new (arrival_of now datagram)
+                new-there,
+          )
+          (raised (size + 0 + 1 + 1) big (event_at w offered_there (length m.sockets) new (arrival_of now datagram)).network
+          (omega (arith, fits)) two)
 
     -- a place was promised
     module _ (size : ℕ) (n : Network C) (now place : ℕ) (listener : ScriptSocket C) (datagram : ScriptDatagram)
-        (comes : Comes Raw n place listener datagram) (goes : route w n datagram ≡ ToSocket place listener) (before : P size n) where
-      abbrev arrival : Event
-      arrival = arrival_of now datagram
+        (comes : Comes Raw n place listener datagram) (goes : route w n datagram ≡ ToSocket place listener) (before : P size n)
+      where
+        abbrev arrival : Event
+        arrival = arrival_of now datagram
 
-      abbrev told : ScriptSocket C
-      told = record listener { history = happened w listener.history 0 arrival }
+        abbrev told : ScriptSocket C
+        told = record listener { history = happened w listener.history 0 arrival }
 
-      abbrev after : Network C
-      after = (event_at w n place listener arrival).network
+        abbrev after : Network C
+        after = (event_at w n place listener arrival).network
 
-      after-kept : P (size + 1) after
-      after-kept = keeps.arrival size n now place listener datagram comes before
+        after-kept : P (size + 1) after
+        after-kept = keeps.arrival size n now place listener datagram comes before
 
-      told-there : slice_get after.sockets place ≡ Some told
-      told-there = event-here n place listener arrival comes.at
+        told-there : slice_get after.sockets place ≡ Some told
+        told-there = event-here n place listener arrival comes.at
 
-      still-comes : Raw ⊎ Contains after.datagrams datagram
-      still-comes = still-came n place listener arrival comes.at datagram comes.came
+        still-comes : Raw ⊎ Contains after.datagrams datagram
+        still-comes = still-came n place listener arrival comes.at datagram comes.came
 
-      withdraw-kept : P (size + 3) (event_there w after place (event now Withdraw)).network
-      withdraw-kept =
-          let one = keeps.call (size + 1) after place told (event now Withdraw) told-there refl after-kept in
-          rw (there after place told (event now Withdraw) told-there)
-          (raised (size + 1 + 0 + 1) (size + 3) (event_at w after place told (event now Withdraw)).network (omega arith) one)
+        withdraw-kept : P (size + 3) (event_there w after place (event now Withdraw)).network
+        withdraw-kept =
+            let one = keeps.call (size + 1) after place told (event now Withdraw) told-there refl after-kept in
+            rw (there after place told (event now Withdraw) told-there)
+            (raised (size + 1 + 0 + 1) (size + 3) (event_at w after place told (event now Withdraw)).network (omega arith) one)
 
-      offered-kept : (shake : Shake) → handshake_in (read datagram.bytes) ≡ Some shake
-          → (step w (state_of w listener.history) (arrival_of now datagram)).reply ≡ DidHear heard.Request
-          → P (size + 3) (offered w after now place listener datagram shake).network
-      offered-kept shake reads promised =
-          elim (nat_lt (length after.sockets) MOST_SOCKETS) as (λ room. nat_lt (length after.sockets) MOST_SOCKETS ≡ room
-          → P (size + 3) (if room
-          then and_then
-          (event_there w (with_socket after (made_for w after listener datagram.from shake)) place (event now (Offer (length after.sockets + 1))))
-          (λ (m : Network C). event_there w m (length after.sockets) (event now (Arrive datagram.from datagram.bytes)))
-          else event_there w after place (event now Withdraw)).network) [
-            | true ↦ λ test.
-                let count : length after.sockets ≡ length n.sockets = event-count n place listener arrival comes.at in
-                let gets : GetsPlace Raw n now place listener datagram shake = record {
-                  comes = comes;
-                  goes = goes;
-                  reads = reads;
-                  promised = promised;
-                  room = omega (arith, count, ltb-true (length after.sockets) MOST_SOCKETS test);
-                } in
-                let made = keeps.made size n now place listener datagram shake gets before after-kept in
-                connected-kept after (size + 1) now place listener told datagram shake told-there comes.host still-comes reads
-                    (size + 3) (omega arith) made
-            | false ↦ λ test. withdraw-kept
-          ] refl
+        offered-kept : (shake : Shake) → handshake_in (read datagram.bytes) ≡ Some shake
+            → (step w (state_of w listener.history) (arrival_of now datagram)).reply ≡ DidHear heard.Request
+            → P (size + 3) (offered w after now place listener datagram shake).network
+        offered-kept shake reads promised =
+            elim (nat_lt (length after.sockets) MOST_SOCKETS) as (λ room. nat_lt (length after.sockets) MOST_SOCKETS ≡ room
+            → P (size + 3) (if room
+            then and_then
+            (event_there w (with_socket after (made_for w after listener datagram.from shake)) place
+            (event now (Offer (length after.sockets + 1))))
+            (λ (m : Network C). event_there w m (length after.sockets) (event now (Arrive datagram.from datagram.bytes)))
+            else event_there w after place (event now Withdraw)).network) [
+              | true ↦ λ test.
+                  let count : length after.sockets ≡ length n.sockets = event-count n place listener arrival comes.at in
+                  let gets : GetsPlace Raw n now place listener datagram shake = record {
+                    comes = comes;
+                    goes = goes;
+                    reads = reads;
+                    promised = promised;
+                    room = omega (arith, count, ltb-true (length after.sockets) MOST_SOCKETS test);
+                  } in
+                  let made = keeps.made size n now place listener datagram shake gets before after-kept in
+                  connected-kept after (size + 1) now place listener told datagram shake told-there comes.host still-comes reads
+                  (size + 3) (omega arith) made
+              | false ↦ λ test. withdraw-kept
+            ] refl
 
-      followed-kept : (shake : Option Shake) (reply : Reply) → handshake_in (read datagram.bytes) ≡ shake
-          → (step w (state_of w listener.history) (arrival_of now datagram)).reply ≡ reply
-          → P (size + 3) (followed_by w (event_at w n place listener arrival) now place listener datagram shake reply).network
-      followed-kept (Some shake) (DidHear heard.Request) reads promised = offered-kept shake reads promised
-      followed-kept shake reply reads promised = raised (size + 1) (size + 3) after (omega arith) after-kept
+        followed-kept : (shake : Option Shake) (reply : Reply) → handshake_in (read datagram.bytes) ≡ shake
+            → (step w (state_of w listener.history) (arrival_of now datagram)).reply ≡ reply
+            → P (size + 3) (followed_by w (event_at w n place listener arrival) now place listener datagram shake reply).network
+        followed-kept (Some shake) (DidHear heard.Request) reads promised = offered-kept shake reads promised
+        followed-kept shake reply reads promised = raised (size + 1) (size + 3) after (omega arith) after-kept
 
     arrived-kept : (size : ℕ) (n : Network C) (now : ℕ) (datagram : ScriptDatagram) (r : Route C) → route w n datagram ≡ r
         → Raw ⊎ Contains n.datagrams datagram → P size n → P (size + 3) (arrived w n now datagram r).network
     arrived-kept size n now datagram (ToSocket place socket) goes came before =
         let reached = host-reached w n datagram place socket goes in
-        let comes : Comes Raw n place socket datagram = record { at = reached.0; host = reached.1; came = came; why = inl goes } in
+        let comes : Comes Raw n place socket datagram =
+        record { at = reached.0; host = reached.1; came = came; why = inl goes } in
         followed-kept size n now place socket datagram comes goes before (handshake_in (read datagram.bytes)) _ refl refl
     arrived-kept size n now datagram (Nowhere word) goes came before = keeps.more size 3 n before
 
     -- ---- calls
 
-    pub call-kept : (size : ℕ) (n : Network C) (place : ℕ) (socket : ScriptSocket C) (now : ℕ) (act : Act) → slice_get n.sockets place ≡ Some socket
+    pub call-kept : (size : ℕ) (n : Network C) (place : ℕ) (socket : ScriptSocket C) (now : ℕ) (act : Act)
+        → slice_get n.sockets place ≡ Some socket
         → is_arrival act ≡ false → P size n → P (size + size_of_act act + 1) (call_by w n place socket now act).network
     call-kept size n place socket now (Listen most secret) at calls is =
         elim (is_some (first_id (holds_listener w socket.host) n.sockets)) as (λ held. P (size + 0 + 1) (
-        if held then record { network = n; text = listen_twice_text socket.name } else event_at w n place socket (event now (Listen most secret))).network) [
+        if held then record { network = n; text = listen_twice_text socket.name } else event_at w n place socket
+        (event now (Listen most secret))).network) [
           | true ↦ raised size (size + 0 + 1) n (omega arith) is
           | false ↦ keeps.call size n place socket (event now (Listen most secret)) at calls is
         ]
     call-kept size n place socket now (Meet to) at calls is =
-        elim (is_some (first_id (holds_meeting w socket.host to) n.sockets) || holds_any_meeting w socket) as (λ held. P (size + 0 + 1) (
-        if held then record { network = n; text = meet_taken_text socket.name } else event_at w n place socket (event now (Meet to))).network) [
+        elim (is_some (first_id (holds_meeting w socket.host to) n.sockets) || holds_any_meeting w socket) as
+        (λ held. P (size + 0 + 1) (
+        if held then record { network = n; text = meet_taken_text socket.name } else event_at w n place socket
+        (event now (Meet to))).network) [
           | true ↦ raised size (size + 0 + 1) n (omega arith) is
           | false ↦ keeps.call size n place socket (event now (Meet to)) at calls is
         ]
@@ -260,7 +281,8 @@ module _ {C : Type 0} (w : Ways C) where
     with_name-kept : (size : ℕ) (n : Network C) (id : ℕ) (name : List ℕ) → P size n → P size (with_name n id name)
     with_name-kept size n id name is = named-kept (slice_get n.sockets (id - 1)) refl
       where
-        named-kept : (found : Option (ScriptSocket C)) → slice_get n.sockets (id - 1) ≡ found → P size (named_at n (id - 1) name found)
+        named-kept : (found : Option (ScriptSocket C)) → slice_get n.sockets (id - 1) ≡ found
+            → P size (named_at n (id - 1) name found)
         named-kept None at = is
         named-kept (Some socket) at = keeps.name size n (id - 1) socket name at is
 
@@ -282,7 +304,8 @@ module _ {C : Type 0} (w : Ways C) where
     with_place-kept size big n does each is None = is
     with_place-kept size big n does each is (Some place) = placed-kept (slice_get n.sockets place) refl
       where
-        placed-kept : (found : Option (ScriptSocket C)) → slice_get n.sockets place ≡ found → P big (left_by n (option_map (does place) found))
+        placed-kept : (found : Option (ScriptSocket C)) → slice_get n.sockets place ≡ found
+            → P big (left_by n (option_map (does place) found))
         placed-kept None at = is
         placed-kept (Some socket) at = each place socket at
 
@@ -293,7 +316,8 @@ module _ {C : Type 0} (w : Ways C) where
     pair-kept size n p in_range is =
         elim (may_pair n p) as (λ may. may_pair n p ≡ may → P size (left_by n (if may then Some (paired w n p) else None))) [
           | true ↦ λ test.
-              let room = leb-true (length n.sockets + 2) MOST_SOCKETS (and_parts _ _ (and_parts _ _ (and_parts _ _ test).0).0).0 in
+              let room = leb-true (length n.sockets + 2) MOST_SOCKETS
+              (and_parts _ _ (and_parts _ _ (and_parts _ _ test).0).0).0 in
               keeps.pair size n p in_range room is
           | false ↦ λ test. is
         ] refl
@@ -317,11 +341,13 @@ module _ {C : Type 0} (w : Ways C) where
     open-kept size n o in_range is =
         elim (may_open n o.name) as (λ may. may_open n o.name ≡ may
         → P size (left_by n (if may then opened_at w n o (address_of_host o.host n.hosts) else None))) [
-          | true ↦ λ test. opened-kept size n o (address_of_host o.host n.hosts) refl in_range (ltb-true (length n.sockets) MOST_SOCKETS (and_parts _ _ test).0) is
+          | true ↦ λ test. opened-kept size n o (address_of_host o.host n.hosts) refl in_range
+              (ltb-true (length n.sockets) MOST_SOCKETS (and_parts _ _ test).0) is
           | false ↦ λ test. is
         ] refl
 
-    delivered-kept : (size : ℕ) (n : Network C) (number now : ℕ) (found : Option ScriptDatagram) → slice_get n.datagrams number ≡ found
+    delivered-kept : (size : ℕ) (n : Network C) (number now : ℕ) (found : Option ScriptDatagram)
+        → slice_get n.datagrams number ≡ found
         → P size n → P (size + 3) (left_by n (delivery w n now found))
     delivered-kept size n number now None at is = keeps.more size 3 n is
     delivered-kept size n number now (Some datagram) at is =
@@ -331,11 +357,13 @@ module _ {C : Type 0} (w : Ways C) where
     may-raw now datagram (inl raw) = raw
     may-raw now datagram (inr none) = absurd (cc)
 
-    form-kept : (size bytes : ℕ) (n : Network C) (form : Line) → IsInRange bytes form → Raw ⊎ (is_raw (Some form) ≡ false) → P size n
+    form-kept : (size bytes : ℕ) (n : Network C) (form : Line) → IsInRange bytes form → Raw ⊎ (is_raw (Some form) ≡ false)
+        → P size n
         → P (size + (bytes + 1)) (left_by n (on_line w n form))
     form-kept size bytes n Silent in_range emitted is = keeps.more size (bytes + 1) n is
     form-kept size bytes n (PairLine p) in_range emitted is = keeps.more size (bytes + 1) _ (pair-kept size n p in_range is)
-    form-kept size bytes n (HostLine name addr) in_range emitted is = keeps.more size (bytes + 1) _ (host-kept size n name addr is)
+    form-kept size bytes n (HostLine name addr) in_range emitted is = keeps.more size (bytes + 1) _
+        (host-kept size n name addr is)
     form-kept size bytes n (OpenLine o) in_range emitted is = keeps.more size (bytes + 1) _ (open-kept size n o in_range is)
     form-kept size bytes n (CallLine name e) in_range emitted is =
         with_place-kept size (size + (bytes + 1)) n (λ place socket. call_at w n place socket e)
@@ -347,32 +375,38 @@ module _ {C : Type 0} (w : Ways C) where
         P (size + (bytes + 1)) (left_by n (if taken then None else with_socket_of w n name (accept_at w n now accepted)))) [
           | true ↦ keeps.more size (bytes + 1) n is
           | false ↦ with_place-kept size (size + (bytes + 1)) n (accept_at w n now accepted)
-              (λ place socket at. raised (size + 0 + 1) (size + (bytes + 1)) _ (omega arith) (accept-kept size n now accepted place socket at is))
+              (λ place socket at. raised (size + 0 + 1) (size + (bytes + 1)) _ (omega arith)
+              (accept-kept size n now accepted place socket at is))
               (keeps.more size (bytes + 1) n is) (place_of name n.sockets)
         ]
     form-kept size bytes n (DeliverLine number now) in_range emitted is =
-        raised (size + 3) (size + (bytes + 1)) _ (omega (arith, in_range)) (delivered-kept size n number now (slice_get n.datagrams number) refl is)
+        raised (size + 3) (size + (bytes + 1)) _ (omega (arith, in_range))
+        (delivered-kept size n number now (slice_get n.datagrams number) refl is)
     form-kept size bytes n (RawLine now datagram) in_range emitted is =
         raised (size + 3) (size + (bytes + 1)) _ (omega (arith, in_range))
         (arrived-kept size n now datagram (route w n datagram) refl (inl (may-raw now datagram emitted)) is)
 
-    read-kept : (size : ℕ) (n : Network C) (line : List ℕ) (form : Option Line) → read_line line ≡ form → Raw ⊎ (is_raw form ≡ false) → P size n
+    read-kept : (size : ℕ) (n : Network C) (line : List ℕ) (form : Option Line) → read_line line ≡ form
+        → Raw ⊎ (is_raw form ≡ false) → P size n
         → P (size + (length line + 1)) (left_by n (form >>= on_line w n))
     read-kept size n line None reads emitted is = keeps.more size (length line + 1) n is
-    read-kept size n line (Some form) reads emitted is = form-kept size (length line) n form (line-in_range line form reads) emitted is
+    read-kept size n line (Some form) reads emitted is = form-kept size (length line) n form (line-in_range line form reads)
+        emitted is
 
     line-kept : (size : ℕ) (n : Network C) (line : List ℕ) → Raw ⊎ (is_raw (read_line line) ≡ false) → P size n
         → P (size + (length line + 1)) (left_by n (played_line w n line))
     unfolding played_line
     line-kept size n line emitted is = read-kept size n line (read_line line) refl emitted is
 
-    first-emitted : (line : List ℕ) (lines : List (List ℕ)) → Raw ⊎ AreEmitted (line ∷ lines) → Raw ⊎ (is_raw (read_line line) ≡ false)
+    first-emitted : (line : List ℕ) (lines : List (List ℕ)) → Raw ⊎ AreEmitted (line ∷ lines)
+        → Raw ⊎ (is_raw (read_line line) ≡ false)
     first-emitted line lines (inl raw) = inl raw
     first-emitted line lines (inr emitted) = inr (emitted 0 line (omega arith))
 
     others-emitted : (line : List ℕ) (lines : List (List ℕ)) → Raw ⊎ AreEmitted (line ∷ lines) → Raw ⊎ AreEmitted lines
     others-emitted line lines (inl raw) = inl raw
-    others-emitted line lines (inr emitted) = inr (λ (k : ℕ) (d : List ℕ) (lt : k < length lines). emitted (suc k) d (omega arith))
+    others-emitted line lines (inr emitted) = inr
+        (λ (k : ℕ) (d : List ℕ) (lt : k < length lines). emitted (suc k) d (omega arith))
 
     lines-kept : (size : ℕ) (n : Network C) (lines : List (List ℕ)) → Raw ⊎ AreEmitted lines → P size n
         → P (size + size_of lines) (network_from w n lines)

@@ -1,6 +1,6 @@
--- The values of a line that is read are in their ranges, no call of it is an arrival, and it has a socket take no more bytes than it has.
-use Rattle.std.proofs.Common.{◌≡◌, ℕ, suc, ◌+◌, ◌-◌, ◌^◌, ◌<◌, ◌≤◌, Bool, true, false, List, [], ◌∷◌, length, Some, None, Ok, Option, refl, ap, ◌∙◌, sym, subst, inl, inr, ◌⊎◌, arith}
-use Rattle.std.specs.Prelude.{◌==◌, codes, option_map, if◌then◌else◌}
+-- The values of a line are in their ranges, its calls are no arrivals, and it has a socket take no more bytes than it has.
+use Rattle.std.proofs.Common.{◌≡◌, ℕ, suc, ◌+◌, ◌-◌, ◌^◌, ◌<◌, ◌≤◌, Bool, true, false, List, [], ◌∷◌, length, Some, None, Ok, Option, refl, ap, subst, inl, inr, ◌⊎◌, arith}
+use Rattle.std.specs.Prelude.{◌==◌, codes, if◌then◌else◌}
 use Rattle.std.proofs.lemmas.Bool.Decides.{nat_tests}
 use Rattle.std.proofs.lemmas.List.{length-take}
 use Rattle.std.proofs.lemmas.Option.{same_Some}
@@ -83,7 +83,7 @@ in_front-size : (byte : ℕ) (words : List (List ℕ)) → size_of_words (in_fro
 in_front-size byte [] = omega arith
 in_front-size byte (word ∷ words) = omega arith
 
--- no word more than spaces and one
+-- in as many words
 in_front-count : (byte : ℕ) (words : List (List ℕ)) → 1 ≤ length words → length (in_front byte words) ≡ length words
 in_front-count byte [] some = absurd (omega (arith, some))
 in_front-count byte (word ∷ words) some = refl
@@ -91,10 +91,11 @@ in_front-count byte (word ∷ words) some = refl
 words_of-some : (line : List ℕ) → 1 ≤ length (words_of line)
 unfolding words_of
 words_of-some [] = omega arith
-words_of-some (byte ∷ line) = elim (byte == 32) as (λ space. 1 ≤ length (if space then [] ∷ words_of line else in_front byte (words_of line))) [
-  | true ↦ omega arith
-  | false ↦ omega (arith, words_of-some line, in_front-count byte (words_of line) (words_of-some line))
-]
+words_of-some (byte ∷ line) = elim (byte == 32) as
+    (λ space. 1 ≤ length (if space then [] ∷ words_of line else in_front byte (words_of line))) [
+      | true ↦ omega arith
+      | false ↦ omega (arith, words_of-some line, in_front-count byte (words_of line) (words_of-some line))
+    ]
 
 -- with a byte after each, words are as long as their line with its line feed
 words_of-size : (line : List ℕ) → size_of_words (words_of line) + length (words_of line) ≡ length line + 1
@@ -252,7 +253,8 @@ later-call call words act is = elim (if-some (is_word call (codes "send")) _ _ _
   ]
 ]
 
-call_of-call : (call : List ℕ) (words : List (List ℕ)) (act : Act) → call_of call words ≡ Some act → IsCall (size_of_words words) act
+call_of-call : (call : List ℕ) (words : List (List ℕ)) (act : Act) → call_of call words ≡ Some act
+    → IsCall (size_of_words words) act
 unfolding call_of
 call_of-call call words act is = elim (if-some (is_word call (codes "listen")) _ _ _ is) [
   | inl listens ↦ listen_of-call _ words act listens
@@ -281,7 +283,8 @@ call-in_range size name call (now ∷ others) line fits is =
     let calls = call_of-call call others three.0 three.1 in
     subst (IsInRange size) (same_Some _ _ three.2) (calls.0, omega (arith, fits, calls.1))
 
-accept-in_range : (size : ℕ) (name : List ℕ) (words : List (List ℕ)) (line : Line) → accept_line name words ≡ Some line → IsInRange size line
+accept-in_range : (size : ℕ) (name : List ℕ) (words : List (List ℕ)) (line : Line) → accept_line name words ≡ Some line
+    → IsInRange size line
 unfolding accept_line
 accept-in_range size name [] line is = absurd (cc)
 accept-in_range size name (now ∷ []) line is = absurd (cc)
@@ -337,7 +340,8 @@ pairing-in_range size kind a b payload isn blocks start line fits is =
       start = fits;
     })
 
-pair-in_range : (size : ℕ) (kind : List ℕ) (words : List (List ℕ)) (line : Line) → pair_line kind words ≡ Some line → IsInRange size line
+pair-in_range : (size : ℕ) (kind : List ℕ) (words : List (List ℕ)) (line : Line) → pair_line kind words ≡ Some line
+    → IsInRange size line
 unfolding pair_line
 pair-in_range size kind [] line is = absurd (cc)
 pair-in_range size kind (a ∷ []) line is = absurd (cc)
@@ -350,7 +354,8 @@ pair-in_range size kind (a ∷ b ∷ c ∷ d ∷ e ∷ f ∷ []) line is =
     pairing-in_range size kind a b c d e found.0 line (number-within 0 LAST_START f found.0 found.1).1 found.2
 pair-in_range size kind (a ∷ b ∷ c ∷ d ∷ e ∷ f ∷ g ∷ others) line is = absurd (cc)
 
-host-in_range : (size : ℕ) (name : List ℕ) (words : List (List ℕ)) (line : Line) → host_line name words ≡ Some line → IsInRange size line
+host-in_range : (size : ℕ) (name : List ℕ) (words : List (List ℕ)) (line : Line) → host_line name words ≡ Some line
+    → IsInRange size line
 unfolding host_line
 host-in_range size name [] line is = absurd (cc)
 host-in_range size name (addr ∷ []) line is =
@@ -359,7 +364,8 @@ host-in_range size name (addr ∷ []) line is =
     subst (IsInRange size) (same_Some _ _ two.2) tt
 host-in_range size name (addr ∷ other ∷ others) line is = absurd (cc)
 
-open-in_range : (size : ℕ) (kind : List ℕ) (words : List (List ℕ)) (line : Line) → open_line kind words ≡ Some line → IsInRange size line
+open-in_range : (size : ℕ) (kind : List ℕ) (words : List (List ℕ)) (line : Line) → open_line kind words ≡ Some line
+    → IsInRange size line
 unfolding open_line
 open-in_range size kind [] line is = absurd (cc)
 open-in_range size kind (a ∷ []) line is = absurd (cc)

@@ -1,11 +1,10 @@
--- The network of a script: how each of its sockets was opened, where it stands and who asked for it. Such a network stays one where
--- a socket is replaced by what it becomes, and where sockets or hosts are added.
+-- The network of a script: how its sockets were opened and who asked for them. It stays one where sockets change or are added.
 use Rattle.std.proofs.Common.{◌≡◌, ℕ, ◌+◌, ◌≤◌, List, [], ◌∷◌, ◌++◌, length, Some, Ok, refl, ap, ◌∙◌, sym, subst, inl, inr, ◌⊎◌, arith}
 use Rattle.std.specs.Prelude.{slice_get, slice_set, map}
 use Rattle.std.specs.List.{Contains}
 use Rattle.std.proofs.lemmas.Bool.{cases_eq}
 use Rattle.std.proofs.lemmas.List.{length-append, length-set, map-append}
-use Rattle.std.proofs.lemmas.List.Elements.{Contains-append_left, Contains-append_cases, Contains-push_cases}
+use Rattle.std.proofs.lemmas.List.Elements.{Contains-append_left, Contains-push_cases}
 use Rattle.std.proofs.lemmas.Option.{slice_get_within}
 use Rattle.udt_model.specs.declared.addresses.Addr.{Addr}
 use Rattle.udt_model.specs.declared.answers.Heard.TheVariants as heard
@@ -40,6 +39,14 @@ named_addresses hosts = map (λ (host : ScriptHost). host.addr) hosts
 
 abbrev pub addresses : List ScriptHost → List Addr
 addresses hosts = (first_host ∷ second_host ∷ []) ++ named_addresses hosts
+
+-- what names one pair names one ID
+pub same-id : (a b : PeerPair) → Some a ≡ Some b → a.id ≡ b.id
+same-id a b is = cc
+
+-- ways stay as they are, and others may follow
+abbrev pub WaysGrow : List Way → List Way → Type 0
+WaysGrow ways more = (k : ℕ) (way : Way) → slice_get ways k ≡ Some way → slice_get more k ≡ Some way
 
 module _ {C : Type 0} where
   -- a listener at this host, of this kind, has promised a place to a request of this peer
@@ -88,9 +95,6 @@ module _ {C : Type 0} where
   abbrev pub Grow : List (ScriptSocket C) → List (ScriptSocket C) → Type 0
   Grow sockets more = Each sockets (StillThere more)
 
-  abbrev pub WaysGrow : List Way → List Way → Type 0
-  WaysGrow ways more = (k : ℕ) (way : Way) → slice_get ways k ≡ Some way → slice_get more k ≡ Some way
-
   requested-still : (sockets more : List (ScriptSocket C)) (host : Addr) (config : Config) (peer : Peer) → Grow sockets more
       → WasRequested sockets host config peer → WasRequested more host config peer
   requested-still sockets more host config peer grow was =
@@ -113,7 +117,8 @@ module _ {C : Type 0} where
         isn_is = was.isn_is;
       }
 
-  mate-still : (ways more_ways : List Way) (sockets more : List (ScriptSocket C)) (k : ℕ) (host : Addr) (way : Way) → WaysGrow ways more_ways
+  mate-still : (ways more_ways : List Way) (sockets more : List (ScriptSocket C)) (k : ℕ) (host : Addr) (way : Way)
+      → WaysGrow ways more_ways
       → Grow sockets more → HasMate ways sockets k host way → HasMate more_ways more k host way
   mate-still ways more_ways sockets more k host way ways_grow grow mate =
       let still = grow mate.place mate.other mate.at in
@@ -126,7 +131,8 @@ module _ {C : Type 0} where
         are = subst (λ (addr : Addr). ArePaired host (k + 1) way addr (mate.place + 1) mate.other_way) (sym still.host) mate.are;
       }
 
-  asked-still : (ways more_ways : List Way) (sockets more : List (ScriptSocket C)) (k : ℕ) (host : Addr) (way : Way) → WaysGrow ways more_ways
+  asked-still : (ways more_ways : List Way) (sockets more : List (ScriptSocket C)) (k : ℕ) (host : Addr) (way : Way)
+      → WaysGrow ways more_ways
       → Grow sockets more → WasAsked ways sockets k host way → WasAsked more_ways more k host way
   asked-still ways more_ways sockets more k host (Opened isn config now) ways_grow grow was = tt
   asked-still ways more_ways sockets more k host (Paired config peer now) ways_grow grow was =
@@ -137,7 +143,8 @@ module _ {C : Type 0} where
 module _ {C : Type 0} (w : Ways C) where
   -- ---- networks
 
-  pub record HasWay (hosts : List ScriptHost) (ways : List Way) (sockets : List (ScriptSocket C)) (k : ℕ) (socket : ScriptSocket C) : Type 0 where
+  pub record HasWay (hosts : List ScriptHost) (ways : List Way) (sockets : List (ScriptSocket C)) (k : ℕ)
+      (socket : ScriptSocket C) : Type 0 where
     pub way : Way
     pub at : slice_get ways k ≡ Some way
     pub is : IsSocket w (enrolled_at k way socket)
@@ -152,7 +159,8 @@ module _ {C : Type 0} (w : Ways C) where
     pub peers : HaveOwnPeers w n.sockets
     pub apart : (addr : Addr) → Contains (named_addresses n.hosts) addr → IsFixed addr → ⊥
 
-  way-still : (hosts more_hosts : List ScriptHost) (ways more_ways : List Way) (sockets more : List (ScriptSocket C)) (k : ℕ) (socket : ScriptSocket C)
+  way-still : (hosts more_hosts : List ScriptHost) (ways more_ways : List Way) (sockets more : List (ScriptSocket C)) (k : ℕ)
+      (socket : ScriptSocket C)
       → ((addr : Addr) → Contains (addresses hosts) addr → Contains (addresses more_hosts) addr) → WaysGrow ways more_ways
       → Grow sockets more → HasWay hosts ways sockets k socket → HasWay more_hosts more_ways more k socket
   way-still hosts more_hosts ways more_ways sockets more k socket hosts_grow ways_grow grow has = record {
@@ -166,7 +174,8 @@ module _ {C : Type 0} (w : Ways C) where
 
   -- ---- a socket becomes another
 
-  module _ (n : Network C) (place : ℕ) (old new : ScriptSocket C) (at : slice_get n.sockets place ≡ Some old) (host : new.host ≡ old.host)
+  module _ (n : Network C) (place : ℕ) (old new : ScriptSocket C) (at : slice_get n.sockets place ≡ Some old)
+      (host : new.host ≡ old.host)
       (opening : new.history.opening ≡ old.history.opening) (legal : IsLegal w new.history)
       (longer : (item : Item) → Contains old.history.items item → Contains new.history.items item) where
     abbrev replaced : List (ScriptSocket C)
@@ -195,7 +204,8 @@ module _ {C : Type 0} (w : Ways C) where
     new-way : (is : IsNetwork n) → HasWay n.hosts is.ways replaced place new
     new-way is =
         let has = is.sockets place old at in
-        let asked = asked-still is.ways is.ways n.sockets replaced place old.host has.way (λ k way found. found) grown has.asked in
+        let asked = asked-still is.ways is.ways n.sockets replaced place old.host has.way (λ k way found. found)
+        grown has.asked in
         record {
           way = has.way;
           at = has.at;
@@ -211,7 +221,8 @@ module _ {C : Type 0} (w : Ways C) where
       ways = is.ways;
       count = is.count ∙ sym (length-set n.sockets place new);
       sockets = each-set n.sockets place old new (HasWay n.hosts is.ways replaced) at
-          (λ k socket found. way-still n.hosts n.hosts is.ways is.ways n.sockets replaced k socket (λ addr among. among) (λ j way there. there) grown
+          (λ k socket found. way-still n.hosts n.hosts is.ways is.ways n.sockets replaced k socket (λ addr among. among)
+          (λ j way there. there) grown
           (is.sockets k socket found))
           (new-way is);
       peers = set-keeps_peers w n.sockets place old new at may is.peers;
@@ -229,14 +240,16 @@ module _ {C : Type 0} (w : Ways C) where
     longer = λ item among. among;
   }
 
-  pub add-keeps : (n : Network C) (is : IsNetwork n) (added_ways : List Way) (added : List (ScriptSocket C)) → length added_ways ≡ length added
+  pub add-keeps : (n : Network C) (is : IsNetwork n) (added_ways : List Way) (added : List (ScriptSocket C))
+      → length added_ways ≡ length added
       → Each added (λ j socket. HasWay n.hosts (is.ways ++ added_ways) (n.sockets ++ added) (length n.sockets + j) socket)
       → HaveOwnPeers w (n.sockets ++ added) → IsNetwork (record n { sockets = n.sockets ++ added })
   add-keeps n is added_ways added same each peers = record {
     ways = is.ways ++ added_ways;
     count = omega (arith, is.count, same, length-append is.ways added_ways, length-append n.sockets added);
     sockets = each-more n.sockets added (HasWay n.hosts (is.ways ++ added_ways) (n.sockets ++ added))
-        (λ k socket found. way-still n.hosts n.hosts is.ways (is.ways ++ added_ways) n.sockets (n.sockets ++ added) k socket (λ addr among. among)
+        (λ k socket found. way-still n.hosts n.hosts is.ways (is.ways ++ added_ways) n.sockets (n.sockets ++ added) k socket
+        (λ addr among. among)
         (λ j way there. append-first is.ways added_ways j way there) (more-grown n.sockets added) (is.sockets k socket found))
         each;
     peers = peers;
@@ -244,7 +257,8 @@ module _ {C : Type 0} (w : Ways C) where
   }
 
   same-grown : (sockets : List (ScriptSocket C)) → Grow sockets sockets
-  same-grown sockets k socket found = record { found = socket; at = found; host = refl; opening = refl; longer = λ item among. among }
+  same-grown sockets k socket found =
+      record { found = socket; at = found; host = refl; opening = refl; longer = λ item among. among }
 
   more-addresses : (hosts : List ScriptHost) (host : ScriptHost) (addr : Addr) → Contains (addresses hosts) addr
       → Contains (addresses (hosts ++ host ∷ [])) addr
@@ -258,7 +272,8 @@ module _ {C : Type 0} (w : Ways C) where
   host-keeps n host other is = record {
     ways = is.ways;
     count = is.count;
-    sockets = λ k socket found. way-still n.hosts (n.hosts ++ host ∷ []) is.ways is.ways n.sockets n.sockets k socket (more-addresses n.hosts host)
+    sockets = λ k socket found. way-still n.hosts (n.hosts ++ host ∷ []) is.ways is.ways n.sockets n.sockets k socket
+        (more-addresses n.hosts host)
         (λ j way there. there) (same-grown n.sockets) (is.sockets k socket found);
     peers = is.peers;
     apart = λ addr among. elim (Contains-push_cases (named_addresses n.hosts) host.addr addr
@@ -270,25 +285,24 @@ module _ {C : Type 0} (w : Ways C) where
 
   -- ---- whom a socket of a pair has as its peer
 
-  pub paired-peer : (own : ℕ) (config : Config) (peer : Peer) (now start : ℕ) (h : History C) → h.opening ≡ opening w own config peer now start
+  pub paired-peer : (own : ℕ) (config : Config) (peer : Peer) (now start : ℕ) (h : History C)
+      → h.opening ≡ opening w own config peer now start
       → own_peer w h ≡ Some (record { addr = peer.addr; id = peer.id })
   unfolding after_items opening
   paired-peer own config peer now start h is =
       own_peer-stays w own (PairedAt config peer now start) h.opening [] h.items (record { addr = peer.addr; id = peer.id }) is
       (ap (λ (s : State C). peer_by s.origin s.peer) is)
 
-  same-id : (a b : PeerPair) → Some a ≡ Some b → a.id ≡ b.id
-  same-id a b is = cc
-
   mate-below : (n : Network C) (is : IsNetwork n) (k : ℕ) (socket : ScriptSocket C) (peer : PeerPair) (way : Way) → IsPairedAt way
-      → socket.history.opening ≡ (enrolled_at k way socket).history.opening → IsSocket w (enrolled_at k way socket)
+      → IsSocket w (enrolled_at k way socket)
       → WasAsked is.ways n.sockets k socket.host way → own_peer w socket.history ≡ Some peer → peer.id ≤ length n.sockets
-  mate-below n is k socket peer (Opened isn config now) paired opened socket_is asked names = absurd paired
-  mate-below n is k socket peer (Paired config its now) paired opened socket_is asked names = absurd paired
-  mate-below n is k socket peer (PairedAt config its now start) paired opened socket_is asked names =
+  mate-below n is k socket peer (Opened isn config now) paired socket_is asked names = absurd paired
+  mate-below n is k socket peer (Paired config its now) paired socket_is asked names = absurd paired
+  mate-below n is k socket peer (PairedAt config its now start) paired socket_is asked names =
       below asked.other_way asked.are
     where
-      below : (other_way : Way) → ArePaired socket.host (k + 1) (PairedAt config its now start) asked.other.host (asked.place + 1) other_way
+      below : (other_way : Way)
+          → ArePaired socket.host (k + 1) (PairedAt config its now start) asked.other.host (asked.place + 1) other_way
           → peer.id ≤ length n.sockets
       below (PairedAt other_config other_peer other_now other_start) are =
           let mine = paired-peer (k + 1) config its now start socket.history socket_is.opened in
@@ -297,8 +311,9 @@ module _ {C : Type 0} (w : Ways C) where
       below (Paired config peer now) are = absurd are
 
   -- at a host of pairs each socket has one of the sockets as its peer
-  pub fixed-below : (n : Network C) → IsNetwork n → (k : ℕ) (socket : ScriptSocket C) (peer : PeerPair) → slice_get n.sockets k ≡ Some socket
+  pub fixed-below : (n : Network C) → IsNetwork n → (k : ℕ) (socket : ScriptSocket C) (peer : PeerPair)
+      → slice_get n.sockets k ≡ Some socket
       → IsFixed socket.host → own_peer w socket.history ≡ Some peer → peer.id ≤ length n.sockets
   fixed-below n is k socket peer at fixed names =
       let has = is.sockets k socket at in
-      mate-below n is k socket peer has.way (has.fixed fixed) refl has.is has.asked names
+      mate-below n is k socket peer has.way (has.fixed fixed) has.is has.asked names
