@@ -2,5 +2,6 @@
 pub mod SaidByLines
 pub mod NamedOffsets
 pub mod TopBelow
+pub mod EmissionsNearPeer
 pub mod NearRecords
 pub mod ScriptPeers

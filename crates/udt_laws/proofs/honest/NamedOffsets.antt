@@ -17,7 +17,7 @@ use Rattle.udt_laws.proofs.sockets.Begins.{Begins, begins_settled}
 use Rattle.udt_laws.proofs.sent_blocks.AcceptedIsCut.{blocks_by, blocks_by-parts}
 use Rattle.udt_laws.proofs.sent_blocks.EmissionsRead.{packet_of}
 use Rattle.udt_laws.proofs.sent_blocks.NamedWasSent.{only-named, IsEndless, items-endless, moment-endless, begins-endless}
-use Rattle.udt_laws.proofs.sent_blocks.SentBlocks.{same-packet, begins-well, emission-at, emission-reads, has_blocks}
+use Rattle.udt_laws.proofs.sent_blocks.SentBlocks.{same-packet, begins-well, emission-at, emission-reads, carries-block}
 use Rattle.udt_laws.proofs.laid_messages.LayoutLemmas.{lies-from, first-covered}
 use Rattle.udt_laws.proofs.laid_messages.PairMessages.{either-named, laid-within}
 use Rattle.udt_laws.proofs.laid_messages.SentMessages.{payload_of, sends_messages}
@@ -35,7 +35,7 @@ module _ {C : Type 0} (w : Ways C) where
         → Contains (emitted w h) emission → read emission.datagram.bytes ≡ Ok (Block number flags stamp dest payload)
         → Contains emission.offsets offset → (start_of h ≤ offset) × (offset < start_of h + length (accepted h))
     block-between emission number flags stamp dest payload offset among reads named =
-        let carries = (has_blocks w h begins).emits emission number flags stamp dest payload among reads in
+        let carries = carries-block w h begins emission number flags stamp dest payload among reads in
         let same = only-named emission carries.offset offset carries.names named in
         let blocks = blocks_by w h.opening h.items in
         let room : carries.offset - start_of h < length blocks = slice_get_within blocks (carries.offset - start_of h) payload carries.carries in

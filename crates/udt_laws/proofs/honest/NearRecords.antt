@@ -9,8 +9,7 @@ use Rattle.udt_model.specs.Rate.{Ways}
 use Rattle.udt_model.specs.Records.{Enrolled, EndpointRecord, StandsAt, AreLawful}
 use Rattle.udt_model.specs.State.{Datagram}
 use Rattle.udt_model.specs.Wire.{Packet, is_handshake, destination, read}
-use Rattle.udt_laws.proofs.honest.NamedOffsets.{block-between}
-use Rattle.udt_laws.proofs.honest.TopBelow.{step-stands_below}
+use Rattle.udt_laws.proofs.honest.EmissionsNearPeer.{names-between}
 use Rattle.udt_laws.proofs.sockets.WasSaid.{AllSaid}
 
 module _ {C : Type 0} (w : Ways C) where
