@@ -3,5 +3,6 @@ pub mod SaidByLines
 pub mod NamedOffsets
 pub mod TopBelow
 pub mod EmissionsNearPeer
+pub mod StandsNearPeer
 pub mod NearRecords
 pub mod ScriptPeers

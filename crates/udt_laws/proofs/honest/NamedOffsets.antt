@@ -1,5 +1,5 @@
 -- The data packets and message drop requests of a history name offsets from its start on, below as many more as bytes that it accepted.
-use Rattle.std.proofs.Common.{◌≡◌, ℕ, ◌+◌, ◌-◌, ◌<◌, ◌≤◌, List, length, Ok, refl, arith}
+use Rattle.std.proofs.Common.{◌≡◌, ℕ, ◌+◌, ◌-◌, ◌<◌, ◌≤◌, List, [], ◌∷◌, length, Ok, refl, sym, subst, arith}
 use Rattle.std.specs.List.{Contains}
 use Rattle.std.proofs.lemmas.Option.{slice_get_within}
 use Rattle.udt_model.specs.declared.packets.Flags.{Flags}
@@ -7,7 +7,8 @@ use Rattle.udt_model.specs.declared.packets.Kind.{Kind}
 use Rattle.udt_model.specs.declared.packets.Kind.TheVariants.{Stream, Message}
 use Rattle.udt_model.specs.Emissions.{emitted}
 use Rattle.udt_model.specs.Events.{Act, Reply, at_moment}
-use Rattle.udt_model.specs.History.{History, after_items, start_of, accepted}
+use Rattle.udt_model.specs.History.{History, after_items, state_of, start_of, accepted}
+use Rattle.udt_model.specs.Numbers.{sequence_number}
 use Rattle.udt_model.specs.Rate.{Ways}
 use Rattle.udt_model.specs.State.{State, Emission}
 use Rattle.udt_model.specs.Wire.{Block, DropAsk, read}
@@ -19,6 +20,7 @@ use Rattle.udt_laws.proofs.sent_blocks.EmissionsRead.{packet_of}
 use Rattle.udt_laws.proofs.sent_blocks.NamedWasSent.{only-named, IsEndless, items-endless, moment-endless, begins-endless}
 use Rattle.udt_laws.proofs.sent_blocks.SentBlocks.{same-packet, begins-well, emission-at, emission-reads, carries-block}
 use Rattle.udt_laws.proofs.laid_messages.LayoutLemmas.{lies-from, first-covered}
+use Rattle.udt_laws.proofs.laid_messages.Members.{first-contained, other-contained}
 use Rattle.udt_laws.proofs.laid_messages.PairMessages.{either-named, laid-within}
 use Rattle.udt_laws.proofs.laid_messages.SentMessages.{payload_of, sends_messages}
 
@@ -64,3 +66,33 @@ module _ {C : Type 0} (w : Ways C) where
         → read emission.datagram.bytes ≡ Ok (DropAsk message stamp dest first last)
         → Contains emission.offsets offset → (start_of h ≤ offset) × (offset < start_of h + length (accepted h))
     drop-between = kind-drop h.opening.kind refl
+
+    -- the last sequence number of a drop request is that of an offset that it names
+    pub record NamesLast (emission : Emission) (last : ℕ) : Type 0 where
+      pub offset : ℕ
+      pub named : Contains emission.offsets offset
+      pub numbered : last ≡ sequence_number (state_of w h).sending.isn offset
+
+    kind-last : (k : Kind) → h.opening.kind ≡ k → (emission : Emission) (message stamp dest first last : ℕ)
+        → Contains (emitted w h) emission → read emission.datagram.bytes ≡ Ok (DropAsk message stamp dest first last)
+        → NamesLast emission last
+    kind-last Stream stream emission message stamp dest first last among reads =
+        let at = emission-at w h begins emission among in
+        let spelled = emission-reads w h begins emission at in
+        let same = same-packet emission.datagram.bytes _ _ spelled.reads reads in
+        let endless = moment-endless w (after_items w h.opening at.front) at.item.event.now
+        (items-endless w h.opening at.front (begins-endless w h begins stream)) in
+        absurd (asks-no_drop _ _ _ emission at.emitting message stamp dest first last endless same)
+    kind-last Message carries emission message stamp dest first last among reads =
+        let asks = (sends_messages w h begins carries).drops emission message stamp dest first last among reads in
+        let m = asks.laid.message in
+        record {
+          offset = m.last;
+          named = subst (λ (offsets : List ℕ). Contains offsets m.last) (sym asks.names)
+              (other-contained m.first (m.last ∷ []) m.last (first-contained m.last []));
+          numbered = asks.ends;
+        }
+
+    pub names-last : (emission : Emission) (message stamp dest first last : ℕ) → Contains (emitted w h) emission
+        → read emission.datagram.bytes ≡ Ok (DropAsk message stamp dest first last) → NamesLast emission last
+    names-last = kind-last h.opening.kind refl

@@ -10,6 +10,7 @@ use Rattle.udt_model.specs.Records.{Enrolled, EndpointRecord, StandsAt, AreLawfu
 use Rattle.udt_model.specs.State.{Datagram}
 use Rattle.udt_model.specs.Wire.{Packet, is_handshake, destination, read}
 use Rattle.udt_laws.proofs.honest.EmissionsNearPeer.{names-between}
+use Rattle.udt_laws.proofs.honest.StandsNearPeer.{stands-after}
 use Rattle.udt_laws.proofs.sockets.WasSaid.{AllSaid}
 
 module _ {C : Type 0} (w : Ways C) where
