@@ -1,24 +1,32 @@
 -- The top of a history whose peer's datagrams alone arrive stays between its start and as many more as bytes that the peer accepted.
 use Rattle.std.proofs.Common.{◌≡◌, ℕ, ◌+◌, ◌^◌, ◌<◌, ◌≤◌, true, false, List, [], ◌∷◌, ◌++◌, length, Some, Ok, refl, ap, ◌∙◌, sym, subst, arith}
 use Rattle.std.specs.List.{Contains}
+use Rattle.std.proofs.lemmas.List.{length-append}
 use Rattle.std.proofs.lemmas.List.Elements.{Contains-append_left, Contains-append_right, Contains-push}
 use Rattle.udt_model.specs.declared.addresses.Addr.{Addr}
 use Rattle.udt_model.specs.declared.answers.Peer.{Peer}
-use Rattle.udt_model.specs.Emissions.{arrived_by_act, arrived_by, arrivals}
-use Rattle.udt_model.specs.Events.{Act, Arrive}
-use Rattle.udt_model.specs.History.{Item, History, after_items, state_of, start_of, accepted}
+use Rattle.udt_model.specs.Emissions.{emitted, arrived_by_act, arrived_by, arrivals}
+use Rattle.udt_model.specs.Events.{Act, Arrive, at_moment}
+use Rattle.udt_model.specs.History.{Item, History, AreLegal, after_items, state_of, start_of, accepted}
 use Rattle.udt_model.specs.Rate.{Ways}
-use Rattle.udt_model.specs.State.{State, Datagram}
+use Rattle.udt_model.specs.State.{State, Datagram, Emission}
 use Rattle.udt_model.specs.Step.{step}
 use Rattle.udt_model.specs.Wire.{Packet, Block, DropAsk, is_handshake, destination, read}
 use Rattle.udt_model.proofs.DropLemmas.{drop_range-is}
 use Rattle.udt_model.proofs.PhaseLemmas.{is_settled}
-use Rattle.udt_model.proofs.StepLemmas.{step-keeps}
+use Rattle.udt_model.proofs.StepLemmas.{step-keeps, after_items-keeps}
+use Rattle.udt_model.proofs.EmissionLemmas.{IsEmittedAt}
+use Rattle.udt_model.proofs.RecordLemmas.{arrived_by-append}
+use Rattle.udt_laws.proofs.acked_has_arrived.AcksNamePlaced.{HasTaken, all-taken, begins-covers}
+use Rattle.udt_laws.proofs.acked_has_arrived.EventsPlace.{ItemsMeet, items-covers}
+use Rattle.udt_laws.proofs.honest.EmissionsNearPeer.{StandsAtAct, names-between}
 use Rattle.udt_laws.proofs.honest.NamedOffsets.{block-between, drop-between, names-last}
-use Rattle.udt_laws.proofs.honest.TopBelow.{MeetsBelow, step-stands_below}
+use Rattle.udt_laws.proofs.honest.TopBelow.{MeetsBelow, block-base, step-stands_below}
 use Rattle.udt_laws.proofs.laid_messages.PeerMessagesAlone.{reads-offset}
 use Rattle.udt_laws.proofs.laid_messages.TopStands.{StandsBetween}
-use Rattle.udt_laws.proofs.sent_blocks.SentBlocks.{carries-block}
+use Rattle.udt_laws.proofs.sent_blocks.AcceptedIsCut.{blocks_by, blocks_by-append, blocks_by-parts, items-cut}
+use Rattle.udt_laws.proofs.sent_blocks.SentBlocks.{carries-block, begins-well, moment-at}
+use Rattle.udt_laws.proofs.sockets.Begins.{begins_settled, begins_receiving, begins_top, last_isn}
 use Rattle.udt_laws.proofs.sockets.OneSocket.{IsEmittedAs}
 use Rattle.udt_laws.proofs.sockets.Opened.{AreConnected}
 
@@ -69,3 +77,68 @@ module _ {C : Type 0} (w : Ways C) (addr : Addr) (own : ℕ) (h : History C) (at
       stands-after (step w s item.event).after items (same.settled settled) (same.own ∙ own_is) (ap (λ (p : Peer). p.addr) same.peer ∙ addr_is)
       (isn_is ∙ sym same.receiving.isn) (step-stands_below w (start_of h) high s item.event settled meets stands)
       (λ datagram there. among datagram (Contains-append_right _ _ datagram there))
+
+  -- ---- what it names
+
+  module _ (own_few : start_of h + length (accepted h) ≤ high) where
+    came-split : (front rest : List Item) → h.items ≡ front ++ rest → arrivals h ≡ arrived_by front ++ arrived_by rest
+    came-split front rest joined = ap arrived_by joined ∙ arrived_by-append front rest
+
+    isn-is : (state_of w g).sending.isn ≡ h.opening.receiving.isn
+    isn-is = last_isn w g connected.other_begins ∙ sym connected.isn ∙ sym (begins_receiving w h connected.begins)
+
+    -- the top after the first of its items
+    pub top-after : (front rest : List Item) → h.items ≡ front ++ rest
+        → StandsBetween (start_of h) high (after_items w h.opening front).receiving.top
+    top-after front rest joined =
+        let begins = connected.begins in
+        stands-after h.opening front (begins_settled w h begins) connected.own_is connected.peer_addr isn-is
+        (record { not_below = omega (arith, begins_top w h begins); not_above = omega (arith, begins_top w h begins, own_few) })
+        (λ datagram there. subst (λ (l : List Datagram). Contains l datagram) (sym (came-split front rest joined))
+        (Contains-append_left _ _ datagram there))
+
+    -- where it stands when it emits something
+    stands-at : (emission : Emission) (is : IsEmittedAt w h.opening h.items emission)
+        → StandsAtAct w (start_of h) high (at_moment (after_items w h.opening is.front) is.item.event.now) is.item.event.act
+    unfolding arrived_by
+    stands-at emission is =
+        let begins = connected.begins in
+        let there = after_items w h.opening is.front in
+        let same = after_items-keeps w h.opening is.front (begins_settled w h begins) in
+        let legal = subst (AreLegal w h.opening) is.joined begins.legal in
+        let meet = subst (ItemsMeet w (HasTaken w h) h.opening) is.joined (all-taken w h) in
+        let covers = items-covers w (HasTaken w h) (start_of h) h.opening is.front (is.item ∷ is.rest) legal meet
+        (begins-well w h begins).reports (begins-covers w (HasTaken w h) h begins) in
+        let top = top-after is.front (is.item ∷ is.rest) is.joined in
+        record {
+          base = covers.begun;
+          top = top.not_above;
+          fits = (moment-at w h begins emission is).can.reports;
+          meets = act-below (at_moment there is.item.event.now) is.item.event.act (same.own ∙ connected.own_is)
+              (ap (λ (p : Peer). p.addr) same.peer ∙ connected.peer_addr) (isn-is ∙ sym same.receiving.isn) top
+              (λ datagram here. subst (λ (l : List Datagram). Contains l datagram)
+              (sym (came-split is.front (is.item ∷ is.rest) is.joined))
+              (Contains-append_right (arrived_by is.front) _ datagram
+              (Contains-append_left (arrived_by_act is.item.event.act) (arrived_by is.rest) datagram here)));
+          light = λ now number flags payload. omega (arith, covers.begun, block-base there.receiving now number flags payload);
+        }
+
+    -- so it names offsets between these
+    pub all-between : (emission : Emission) (offset : ℕ) → Contains (emitted w h) emission → Contains emission.offsets offset
+        → (start_of h ≤ offset) × (offset ≤ high)
+    all-between emission offset among named =
+        names-between w h connected.begins high own_few emission offset among named (stands-at emission)
+
+    -- and what is acknowledged of it lies there
+    pub acked-between : (front : List Item) → (rest : List Item) → h.items ≡ front ++ rest
+        → (start_of h ≤ (after_items w h.opening front).sending.blocks.first)
+        × ((after_items w h.opening front).sending.blocks.first ≤ high)
+    acked-between front rest joined =
+        let begins = connected.begins in
+        let well = begins-well w h begins in
+        let cut = items-cut w h.opening (start_of h) [] front well.settled well.cut in
+        let all = ap length (ap (blocks_by w h.opening) joined ∙ blocks_by-append w h.opening front rest)
+        in
+        let many = length-append (blocks_by w h.opening front) (blocks_by w (after_items w h.opening front) rest) in
+        let parts = blocks_by-parts w h.opening h.items well.settled begins.legal well.cut.payload in
+        (cut.not_before, omega (arith, cut.count, all, many, parts.few, own_few))

@@ -1,20 +1,44 @@
 -- Where all that arrives at a half names offsets below this, its top stays at most there.
-use Rattle.std.proofs.Common.{◌≡◌, ℕ, ◌<◌, true, List, Some, Ok, sym, subst}
+use Rattle.std.proofs.Common.{◌≡◌, ℕ, ◌<◌, true, List, Option, Some, None, Ok, refl, sym, subst}
 use Rattle.udt_model.specs.declared.addresses.Addr.{Addr}
+use Rattle.udt_model.specs.declared.answers.Placed.{Placed}
+use Rattle.udt_model.specs.declared.answers.Placed.TheVariants as placing
 use Rattle.udt_model.specs.declared.packets.Flags.{Flags}
 use Rattle.udt_model.specs.Events.{Act, Arrive, Event}
 use Rattle.udt_model.specs.History.{Item, after_items}
 use Rattle.udt_model.specs.Losses.{LostRange}
 use Rattle.udt_model.specs.Numbers.{near}
 use Rattle.udt_model.specs.Rate.{Ways}
-use Rattle.udt_model.specs.ReceiveHalf.{drop_range}
+use Rattle.udt_model.specs.ReceiveBlocks.{placing_of, arrived_at, after_place}
+use Rattle.udt_model.specs.ReceiveHalf.{Receiving, measured, offset_of, placing_at, after_placing, after_block, drop_range}
 use Rattle.udt_model.specs.State.{State}
 use Rattle.udt_model.specs.Step.{step}
 use Rattle.udt_model.specs.Wire.{Block, DropAsk, read}
 use Rattle.udt_model.proofs.PhaseLemmas.{is_settled}
 use Rattle.udt_model.proofs.ReceivingSteps.{receiving-shows}
 use Rattle.udt_laws.proofs.delivered_is_carried.ReportsLeave.{reports-leave, ack2-leaves}
+use Rattle.udt_laws.proofs.delivered_prefix.WindowRises.{put-base}
 use Rattle.udt_laws.proofs.laid_messages.TopStands.{StandsBetween, show-leaves, block-stands, taken-stands}
+
+-- a block that arrives leaves the base as it is
+placing-base : (r : Receiving) (now : ℕ) (flags : Flags) (bytes : List ℕ) (offset : Option ℕ) (p : Placed)
+    → (after_placing r now flags bytes offset p).blocks.base ≡ r.blocks.base
+unfolding after_place
+placing-base r now flags bytes (Some offset) placing.New =
+    put-base 0 0 r.blocks (arrived_at offset flags bytes) (placing_of r.blocks offset)
+placing-base r now flags bytes (Some offset) placing.Below = refl
+placing-base r now flags bytes (Some offset) placing.Above = refl
+placing-base r now flags bytes (Some offset) placing.Double = refl
+placing-base r now flags bytes None placing.New = refl
+placing-base r now flags bytes None placing.Below = refl
+placing-base r now flags bytes None placing.Above = refl
+placing-base r now flags bytes None placing.Double = refl
+
+pub block-base : (r : Receiving) (now number : ℕ) (flags : Flags) (bytes : List ℕ)
+    → (after_block r now number flags bytes).blocks.base ≡ r.blocks.base
+unfolding after_block
+block-base r now number flags bytes =
+    placing-base (measured r now number) now flags bytes (offset_of r number) (placing_at r (offset_of r number))
 
 module _ {C : Type 0} where
   -- the data packets and the message drop requests that come from the peer are read as offsets below this
