@@ -1,17 +1,22 @@
 -- Lawful records are honest where each arrival was emitted at its address for the socket, and no socket took 2^30 bytes.
-use Rattle.std.proofs.Common.{◌≡◌, ℕ, ◌+◌, ◌^◌, ◌<◌, ◌≤◌, false, List, Ok, length}
+use Rattle.std.proofs.Common.{◌≡◌, ℕ, ◌+◌, ◌^◌, ◌<◌, ◌≤◌, false, List, [], ◌∷◌, ◌++◌, Some, Ok, length, refl, ap, ◌∙◌, sym, subst, arith}
 use Rattle.std.specs.List.{Contains}
 use Rattle.udt_model.specs.declared.addresses.Addr.{Addr}
-use Rattle.udt_model.specs.Emissions.{arrivals}
-use Rattle.udt_model.specs.History.{accepted}
-use Rattle.udt_model.specs.Honest.{IsHonest}
+use Rattle.udt_model.specs.Emissions.{emitted, arrivals}
+use Rattle.udt_model.specs.Events.{Act, Arrive}
+use Rattle.udt_model.specs.History.{Item, after_items, start_of, accepted}
+use Rattle.udt_model.specs.Honest.{IsClose, read_by, WasEmitted, IsHonestAct, AreHonest, IsHonest}
 use Rattle.udt_model.specs.Rate.{Ways}
-use Rattle.udt_model.specs.Records.{Enrolled, EndpointRecord, StandsAt, AreLawful}
-use Rattle.udt_model.specs.State.{Datagram}
+use Rattle.udt_model.specs.Records.{Enrolled, EndpointRecord, StandsAt, own_peer, AreLawful}
+use Rattle.udt_model.specs.State.{State, Datagram, Emission}
+use Rattle.udt_model.specs.Step.{step}
 use Rattle.udt_model.specs.Wire.{Packet, is_handshake, destination, read}
-use Rattle.udt_laws.proofs.honest.EmissionsNearPeer.{names-between}
-use Rattle.udt_laws.proofs.honest.StandsNearPeer.{stands-after}
-use Rattle.udt_laws.proofs.sockets.WasSaid.{AllSaid}
+use Rattle.udt_laws.proofs.honest.StandsNearPeer.{all-between}
+use Rattle.udt_laws.proofs.pairs.PairIsHonest.{datagram-is}
+use Rattle.udt_laws.proofs.sockets.ConnectedParts.{ConnectedPart, part-emitted}
+use Rattle.udt_laws.proofs.sockets.OneSocket.{IsEmittedAs, packet-bound, same-peer}
+use Rattle.udt_laws.proofs.sockets.Opened.{AreConnected}
+use Rattle.udt_laws.proofs.sockets.WasSaid.{datagram_from, arrives-at, WasSaid, AllSaid, said-bound}
 
 module _ {C : Type 0} (w : Ways C) where
   -- what arrives was emitted, and bound for the socket if it isn't a handshake, and no socket took more bytes than this
@@ -22,5 +27,81 @@ module _ {C : Type 0} (w : Ways C) where
         → is_handshake packet ≡ false → destination packet ≡ socket.own
     pub taken : (addr : Addr) (socket : Enrolled C) → StandsAt net addr socket → length (accepted socket.history) ≤ most
 
+  module _ (net : List (EndpointRecord C)) (addr : Addr) where
+    act-honest : (s : State C) (act : Act) → ((from : Addr) (raw : List ℕ) → act ≡ Arrive from raw → WasEmitted w net s from addr raw)
+        → IsHonestAct w net addr s act
+    act-honest s (Arrive from raw) was = was from raw refl
+    act-honest s act was = tt
+
+    -- items are honest where each of their arrivals was emitted near the state in which it comes
+    items-honest : (s : State C) (items : List Item)
+        → ((front : List Item) (item : Item) (rest : List Item) (from : Addr) (raw : List ℕ) → items ≡ front ++ item ∷ rest
+        → item.event.act ≡ Arrive from raw → WasEmitted w net (after_items w s front) from addr raw)
+        → AreHonest w net addr s items
+    unfolding AreHonest after_items
+    items-honest s [] was = tt
+    items-honest s (item ∷ items) was = (
+      act-honest s item.event.act (λ from raw arrives. was [] item items from raw refl arrives),
+      items-honest (step w s item.event).after items (λ front next rest from raw joined arrives.
+          was (item ∷ front) next rest from raw (ap (λ (l : List Item). item ∷ l) joined) arrives),
+    )
+
+  module _ (net : List (EndpointRecord C)) (most : ℕ) (lawful : AreLawful w net) (few : most < 2 ^ 30) (near : AreNear net most) where
+    -- what is no handshake and arrives from the address of a socket that has this one as its peer was emitted since that was connected
+    comes-since : (addr : Addr) (socket : Enrolled C) (here : StandsAt net addr socket) (from : Addr) (other : Enrolled C)
+        (there : StandsAt net from other) → own_peer w other.history ≡ Some (record { addr = addr; id = socket.own })
+        → (since : ConnectedPart w socket.history) (other_since : ConnectedPart w other.history) (raw : List ℕ) (packet : Packet)
+        → Contains (arrivals since.part) (record { addr = from; bytes = raw }) → read raw ≡ Ok packet → is_handshake packet ≡ false
+        → destination packet ≡ socket.own → IsEmittedAs w other_since.part raw
+    comes-since addr socket here from other there back since other_since raw packet among reads plain own_is =
+        let was = near.said addr socket here _ (since.goes_on.arrived _ among) in
+        let bound = said-bound w net lawful from addr raw was packet reads (packet-bound packet plain) in
+        let names = subst (λ (id : ℕ). own_peer w was.socket.history ≡ Some (record { addr = addr; id = id })) own_is bound in
+        let same = same-peer w net lawful from was.socket other _ was.stands there names back in
+        record {
+          emission = was.emission;
+          among = part-emitted w other.history other_since was.emission packet
+              (subst (λ (x : Enrolled C). Contains (emitted w x.history) was.emission) same was.emits) (ap read was.same ∙ reads) plain;
+          same = was.same;
+        }
+
+    -- what a socket since it was connected names lies between these, where it and its own peer have each other
+    names-near : (addr : Addr) (socket : Enrolled C) (here : StandsAt net addr socket) (from : Addr) (other : Enrolled C)
+        (there : StandsAt net from other) → own_peer w other.history ≡ Some (record { addr = addr; id = socket.own })
+        → own_peer w socket.history ≡ Some (record { addr = from; id = other.own })
+        → (since : ConnectedPart w socket.history) (other_since : ConnectedPart w other.history)
+        → AreConnected w addr socket.own since.part from other.own other_since.part
+        → (emission : Emission) (offset : ℕ) → Contains (emitted w since.part) emission → Contains emission.offsets offset
+        → (start_of socket.history ≤ offset) × (offset ≤ start_of socket.history + most)
+    names-near addr socket here from other there back names since other_since connected emission offset among named =
+        let start = since.same_start in
+        let taken = near.taken addr socket here in
+        let other_taken = near.taken from other there in
+        let between = all-between w addr socket.own since.part from other.own other_since.part connected
+        (start_of socket.history + most) (omega (arith, start, few))
+        (omega (arith, start, other_taken, ap length other_since.goes_on.accepted))
+        (comes-since addr socket here from other there back since other_since)
+        (omega (arith, start, taken, ap length since.goes_on.accepted)) emission offset among named in
+        (omega (arith, between.0, start), between.1)
+
+    -- each arrival lies near the state in which it comes
+    was-near : (addr : Addr) (socket : Enrolled C) → StandsAt net addr socket → (front : List Item) (item : Item) (rest : List Item)
+        (from : Addr) (raw : List ℕ) → socket.history.items ≡ front ++ item ∷ rest → item.event.act ≡ Arrive from raw
+        → (was : WasSaid w net from addr raw) (packet : Packet) (offset : ℕ) → read raw ≡ Ok packet → Contains was.emission.offsets offset
+        → IsClose offset (read_by (after_items w socket.history.opening front) packet)
+    was-near addr socket here front item rest from raw joined arrives was packet offset reads named = ?
+
   pub near-honest : (net : List (EndpointRecord C)) (most : ℕ) → AreLawful w net → most < 2 ^ 30 → AreNear net most → IsHonest w net
-  near-honest net most lawful few near = ?
+  near-honest net most lawful few near addr socket here =
+      items-honest net addr socket.history.opening socket.history.items (λ front item rest from raw joined arrives.
+      let was = near.said addr socket here (datagram_from from raw)
+      (arrives-at front item rest socket.history.items from raw joined arrives) in
+      record {
+        socket = was.socket;
+        emission = was.emission;
+        stands = was.stands;
+        emits = was.emits;
+        datagram = datagram-is was.emission.datagram addr raw was.sent_to was.same;
+        close = λ packet offset reads named.
+            was-near net most lawful few near addr socket here front item rest from raw joined arrives was packet offset reads named;
+      })

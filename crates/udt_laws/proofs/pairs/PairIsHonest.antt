@@ -52,7 +52,7 @@ datagram_from addr bytes = record { addr = addr; bytes = bytes }
 datagram_from-same : (a b : Addr) (m n : List ℕ) → a ≡ b → m ≡ n → datagram_from a m ≡ datagram_from b n
 datagram_from-same a b m n addr bytes = cc
 
-datagram-is : (datagram : Datagram) (addr : Addr) (bytes : List ℕ) → datagram.addr ≡ addr → datagram.bytes ≡ bytes
+pub datagram-is : (datagram : Datagram) (addr : Addr) (bytes : List ℕ) → datagram.addr ≡ addr → datagram.bytes ≡ bytes
     → datagram ≡ record { addr = addr; bytes = bytes }
 unfolding datagram_from
 datagram-is datagram addr bytes addr_is bytes_are = datagram_from-same datagram.addr addr datagram.bytes bytes addr_is bytes_are
