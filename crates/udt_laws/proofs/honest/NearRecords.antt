@@ -1,19 +1,26 @@
 -- Lawful records are honest where each arrival was emitted at its address for the socket, and no socket took 2^30 bytes.
-use Rattle.std.proofs.Common.{◌≡◌, ℕ, ◌+◌, ◌^◌, ◌<◌, ◌≤◌, false, List, [], ◌∷◌, ◌++◌, Some, Ok, length, refl, ap, ◌∙◌, sym, subst, arith}
+use Rattle.std.proofs.Common.{◌≡◌, ℕ, ◌+◌, ◌^◌, ◌<◌, ◌≤◌, true, false, List, [], ◌∷◌, ◌++◌, Some, Ok, length, refl, ap, ◌∙◌, sym, subst, inl, inr, arith}
 use Rattle.std.specs.List.{Contains}
 use Rattle.udt_model.specs.declared.addresses.Addr.{Addr}
 use Rattle.udt_model.specs.Emissions.{emitted, arrivals}
-use Rattle.udt_model.specs.Events.{Act, Arrive}
+use Rattle.udt_model.specs.Events.{Act, Arrive, Reply}
 use Rattle.udt_model.specs.History.{Item, after_items, start_of, accepted}
 use Rattle.udt_model.specs.Honest.{IsClose, read_by, WasEmitted, IsHonestAct, AreHonest, IsHonest}
 use Rattle.udt_model.specs.Rate.{Ways}
-use Rattle.udt_model.specs.Records.{Enrolled, EndpointRecord, StandsAt, own_peer, AreLawful}
+use Rattle.udt_model.specs.Records.{Enrolled, IsSocket, EndpointRecord, StandsAt, own_peer, AreLawful}
 use Rattle.udt_model.specs.State.{State, Datagram, Emission}
 use Rattle.udt_model.specs.Step.{step}
 use Rattle.udt_model.specs.Wire.{Packet, is_handshake, destination, read}
+use Rattle.udt_model.proofs.EmissionLemmas.{Emitting, SendsHandshake}
+use Rattle.udt_model.proofs.SettlingLemmas.{IsHandshake}
+use Rattle.udt_laws.proofs.adoption.Agreement.{connects-part, parts-connected}
+use Rattle.udt_laws.proofs.adoption.NamesBack.{names-back}
+use Rattle.udt_laws.proofs.adoption.PeersMeet.{stands-socket, stands-connects}
+use Rattle.udt_laws.proofs.sent_blocks.EmissionsRead.{packet_of}
+use Rattle.udt_laws.proofs.sent_blocks.SentBlocks.{same-packet, emission-at, emission-reads}
 use Rattle.udt_laws.proofs.honest.StandsNearPeer.{all-between}
-use Rattle.udt_laws.proofs.pairs.PairIsHonest.{datagram-is}
-use Rattle.udt_laws.proofs.sockets.ConnectedParts.{ConnectedPart, part-emitted}
+use Rattle.udt_laws.proofs.pairs.PairIsHonest.{none-named, datagram-is}
+use Rattle.udt_laws.proofs.sockets.ConnectedParts.{ConnectedPart, socket-parts, part-emitted, never-emits}
 use Rattle.udt_laws.proofs.sockets.OneSocket.{IsEmittedAs, packet-bound, same-peer}
 use Rattle.udt_laws.proofs.sockets.Opened.{AreConnected}
 use Rattle.udt_laws.proofs.sockets.WasSaid.{datagram_from, arrives-at, WasSaid, AllSaid, said-bound}
@@ -26,6 +33,32 @@ module _ {C : Type 0} (w : Ways C) where
         → Contains (arrivals socket.history) datagram → (packet : Packet) → read datagram.bytes ≡ Ok packet
         → is_handshake packet ≡ false → destination packet ≡ socket.own
     pub taken : (addr : Addr) (socket : Enrolled C) → StandsAt net addr socket → length (accepted socket.history) ≤ most
+
+  -- a handshake names no offset
+  kind-names_none : (s : State C) (act : Act) (reply : Reply) (emission : Emission) (x : Emitting w s act reply emission) (offset : ℕ)
+      → is_handshake (packet_of w s act reply emission x) ≡ true → Contains emission.offsets offset → ⊥
+  kind-names_none s act reply emission (SendsHandshake to dest shake sends is) offset shakes named =
+      none-named offset (subst (λ (l : List ℕ). Contains l offset) (ap (λ (e : Emission). e.offsets) is) named)
+  kind-names_none s act reply emission _ offset shakes named = cc
+
+  is-names_none : (emission : Emission) (offset : ℕ) → IsHandshake emission → Contains emission.offsets offset → ⊥
+  is-names_none emission offset shakes named =
+      none-named offset (subst (λ (l : List ℕ). Contains l offset) (ap (λ (e : Emission). e.offsets) shakes.is) named)
+
+  shake-names_none : (socket : Enrolled C) → IsSocket w socket → (emission : Emission) (packet : Packet) (offset : ℕ)
+      → Contains (emitted w socket.history) emission → read emission.datagram.bytes ≡ Ok packet → is_handshake packet ≡ true
+      → Contains emission.offsets offset → ⊥
+  shake-names_none socket is emission packet offset among reads shakes named = elim (socket-parts w socket is) [
+    | inl never ↦ is-names_none emission offset (never.quiet.emitted emission among) named
+    | inr since ↦ elim (since.goes_on.emitted emission among) [
+      | inl shake ↦ is-names_none emission offset shake named
+      | inr later ↦
+          let at = emission-at w since.part since.begins emission later in
+          let spelled = emission-reads w since.part since.begins emission at in
+          let same = same-packet emission.datagram.bytes _ packet spelled.reads reads in
+          kind-names_none _ _ _ emission at.emitting offset (ap is_handshake same ∙ shakes) named
+    ]
+  ]
 
   module _ (net : List (EndpointRecord C)) (addr : Addr) where
     act-honest : (s : State C) (act : Act) → ((from : Addr) (raw : List ℕ) → act ≡ Arrive from raw → WasEmitted w net s from addr raw)
@@ -84,12 +117,44 @@ module _ {C : Type 0} (w : Ways C) where
         (omega (arith, start, taken, ap length since.goes_on.accepted)) emission offset among named in
         (omega (arith, between.0, start), between.1)
 
+    plain-near : (addr : Addr) (socket : Enrolled C) → StandsAt net addr socket → (front : List Item) (item : Item) (rest : List Item)
+        (from : Addr) (raw : List ℕ) → socket.history.items ≡ front ++ item ∷ rest → item.event.act ≡ Arrive from raw
+        → (was : WasSaid w net from addr raw) (packet : Packet) (offset : ℕ) → read raw ≡ Ok packet → is_handshake packet ≡ false
+        → Contains was.emission.offsets offset
+        → IsClose offset (read_by (after_items w socket.history.opening front) packet)
+    plain-near addr socket here front item rest from raw joined arrives was packet offset reads plain named =
+        let other = was.socket in
+        let own_is = near.bound addr socket here (datagram_from from raw)
+        (arrives-at front item rest socket.history.items from raw joined arrives) packet reads plain in
+        let back = subst (λ (id : ℕ). own_peer w other.history ≡ Some (record { addr = addr; id = id })) own_is
+        (said-bound w net lawful from addr raw was packet reads (packet-bound packet plain)) in
+        elim (stands-connects w net lawful from other was.stands) [
+          | inl idle ↦ absurd (never-emits w other.history idle.never was.emission packet was.emits (ap read was.same ∙ reads) plain)
+          | inr theirs ↦ elim (stands-connects w net lawful addr socket here) [
+            | inl idle ↦ ?
+            | inr mine ↦
+                let names = names-back w net lawful near.said from other was.stands addr socket here back mine in
+                let since = connects-part w net lawful addr socket here mine in
+                let other_since = connects-part w net lawful from other was.stands theirs in
+                let connected = parts-connected w net lawful near.said from other was.stands addr socket here back names theirs mine in
+                let between = names-near from other was.stands addr socket here names back other_since since connected was.emission offset
+                (part-emitted w other.history other_since was.emission packet was.emits (ap read was.same ∙ reads) plain) named in
+                ?
+          ]
+        ]
+
     -- each arrival lies near the state in which it comes
     was-near : (addr : Addr) (socket : Enrolled C) → StandsAt net addr socket → (front : List Item) (item : Item) (rest : List Item)
         (from : Addr) (raw : List ℕ) → socket.history.items ≡ front ++ item ∷ rest → item.event.act ≡ Arrive from raw
         → (was : WasSaid w net from addr raw) (packet : Packet) (offset : ℕ) → read raw ≡ Ok packet → Contains was.emission.offsets offset
         → IsClose offset (read_by (after_items w socket.history.opening front) packet)
-    was-near addr socket here front item rest from raw joined arrives was packet offset reads named = ?
+    was-near addr socket here front item rest from raw joined arrives was packet offset reads named =
+        elim (is_handshake packet) as (λ shakes. is_handshake packet ≡ shakes → IsClose offset (read_by (after_items w socket.history.opening front) packet)) [
+          | true ↦ λ shakes.
+              absurd (shake-names_none was.socket (stands-socket w net lawful from was.socket was.stands) was.emission packet offset was.emits
+              (ap read was.same ∙ reads) shakes named)
+          | false ↦ λ plain. plain-near addr socket here front item rest from raw joined arrives was packet offset reads plain named
+        ] refl
 
   pub near-honest : (net : List (EndpointRecord C)) (most : ℕ) → AreLawful w net → most < 2 ^ 30 → AreNear net most → IsHonest w net
   near-honest net most lawful few near addr socket here =
