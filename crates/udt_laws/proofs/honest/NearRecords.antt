@@ -8,9 +8,10 @@ use Rattle.udt_model.specs.History.{Item, after_items, start_of, accepted}
 use Rattle.udt_model.specs.Honest.{IsClose, read_by, WasEmitted, IsHonestAct, AreHonest, IsHonest}
 use Rattle.udt_model.specs.Rate.{Ways}
 use Rattle.udt_model.specs.Records.{Enrolled, IsSocket, EndpointRecord, StandsAt, own_peer, AreLawful}
+use Rattle.udt_model.specs.SendHalf.{acked_of}
 use Rattle.udt_model.specs.State.{State, Datagram, Emission}
 use Rattle.udt_model.specs.Step.{step}
-use Rattle.udt_model.specs.Wire.{Packet, is_handshake, destination, read}
+use Rattle.udt_model.specs.Wire.{Packet, Ack, Nak, is_handshake, destination, read}
 use Rattle.udt_model.proofs.EmissionLemmas.{Emitting, SendsHandshake}
 use Rattle.udt_model.proofs.SettlingLemmas.{IsHandshake}
 use Rattle.udt_laws.proofs.adoption.Agreement.{connects-part, parts-connected}
@@ -19,11 +20,14 @@ use Rattle.udt_laws.proofs.adoption.PeersMeet.{stands-socket, stands-connects}
 use Rattle.udt_laws.proofs.sent_blocks.EmissionsRead.{packet_of}
 use Rattle.udt_laws.proofs.sent_blocks.SentBlocks.{same-packet, emission-at, emission-reads}
 use Rattle.udt_laws.proofs.honest.StandsNearPeer.{all-between}
-use Rattle.udt_laws.proofs.pairs.PairIsHonest.{none-named, datagram-is}
+use Rattle.udt_laws.proofs.pairs.PairIsHonest.{none-named, both-close, datagram-is}
 use Rattle.udt_laws.proofs.sockets.ConnectedParts.{ConnectedPart, socket-parts, part-emitted, never-emits}
 use Rattle.udt_laws.proofs.sockets.OneSocket.{IsEmittedAs, packet-bound, same-peer}
-use Rattle.udt_laws.proofs.sockets.Opened.{AreConnected}
+use Rattle.udt_laws.proofs.sockets.Opened.{AreConnected, connected-back}
 use Rattle.udt_laws.proofs.sockets.WasSaid.{datagram_from, arrives-at, WasSaid, AllSaid, said-bound}
+
+abbrev LiesBetween : ℕ → ℕ → ℕ → Type 0
+LiesBetween low high offset = (low ≤ offset) × (offset ≤ high)
 
 module _ {C : Type 0} (w : Ways C) where
   -- what arrives was emitted, and bound for the socket if it isn't a handshake, and no socket took more bytes than this
@@ -33,6 +37,13 @@ module _ {C : Type 0} (w : Ways C) where
         → Contains (arrivals socket.history) datagram → (packet : Packet) → read datagram.bytes ≡ Ok packet
         → is_handshake packet ≡ false → destination packet ≡ socket.own
     pub taken : (addr : Addr) (socket : Enrolled C) → StandsAt net addr socket → length (accepted socket.history) ≤ most
+
+  -- the offset by which a packet is read lies where the top and the first offset that isn't acknowledged do
+  read-between : (s : State C) (packet : Packet) (low high : ℕ) → LiesBetween low high s.receiving.top
+      → LiesBetween low high (acked_of s.sending) → LiesBetween low high (read_by s packet)
+  read-between s (Ack number stamp dest body) low high top first = first
+  read-between s (Nak stamp dest ranges) low high top first = first
+  read-between s _ low high top first = top
 
   -- a handshake names no offset
   kind-names_none : (s : State C) (act : Act) (reply : Reply) (emission : Emission) (x : Emitting w s act reply emission) (offset : ℕ)
@@ -117,6 +128,17 @@ module _ {C : Type 0} (w : Ways C) where
         (omega (arith, start, taken, ap length since.goes_on.accepted)) emission offset among named in
         (omega (arith, between.0, start), between.1)
 
+    -- before each of its items a connected socket stands near where its direction begins
+    state-near : (addr : Addr) (socket : Enrolled C) (here : StandsAt net addr socket) (from : Addr) (other : Enrolled C)
+        (there : StandsAt net from other) → own_peer w socket.history ≡ Some (record { addr = from; id = other.own })
+        → own_peer w other.history ≡ Some (record { addr = addr; id = socket.own })
+        → (since : ConnectedPart w socket.history) (other_since : ConnectedPart w other.history)
+        → AreConnected w addr socket.own since.part from other.own other_since.part
+        → (front : List Item) (item : Item) (rest : List Item) → socket.history.items ≡ front ++ item ∷ rest
+        → LiesBetween (start_of socket.history) (start_of socket.history + most) (after_items w socket.history.opening front).receiving.top
+        × LiesBetween (start_of socket.history) (start_of socket.history + most) (acked_of (after_items w socket.history.opening front).sending)
+    state-near addr socket here from other there names back since other_since connected front item rest joined = ?
+
     plain-near : (addr : Addr) (socket : Enrolled C) → StandsAt net addr socket → (front : List Item) (item : Item) (rest : List Item)
         (from : Addr) (raw : List ℕ) → socket.history.items ≡ front ++ item ∷ rest → item.event.act ≡ Arrive from raw
         → (was : WasSaid w net from addr raw) (packet : Packet) (offset : ℕ) → read raw ≡ Ok packet → is_handshake packet ≡ false
@@ -137,9 +159,17 @@ module _ {C : Type 0} (w : Ways C) where
                 let since = connects-part w net lawful addr socket here mine in
                 let other_since = connects-part w net lawful from other was.stands theirs in
                 let connected = parts-connected w net lawful near.said from other was.stands addr socket here back names theirs mine in
+                let there = connected-back w from other.own other_since.part addr socket.own since.part connected in
+                let starts = connected.same_start in
                 let between = names-near from other was.stands addr socket here names back other_since since connected was.emission offset
                 (part-emitted w other.history other_since was.emission packet was.emits (ap read was.same ∙ reads) plain) named in
-                ?
+                let state = state-near addr socket here from other was.stands names back since other_since there front item rest joined in
+                let low = start_of socket.history in
+                let start = since.same_start in
+                let other_start = other_since.same_start in
+                let at = read-between (after_items w socket.history.opening front) packet low (low + most) state.0 state.1 in
+                both-close low (low + most) offset _ (omega (arith, few)) (omega (arith, between.0, starts, start, other_start))
+                (omega (arith, between.1, starts, start, other_start)) at.0 at.1
           ]
         ]
 
