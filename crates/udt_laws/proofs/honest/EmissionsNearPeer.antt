@@ -1,5 +1,5 @@
 -- All offsets that a history names lie between its start and as many more as bytes that it or its peer may send, where its half stands there.
-use Rattle.std.proofs.Common.{◌≡◌, ℕ, ◌+◌, ◌-◌, ◌<◌, ◌≤◌, true, false, List, [], ◌∷◌, length, Some, None, Ok, refl, ap, sym, subst, arith}
+use Rattle.std.proofs.Common.{◌≡◌, ℕ, ◌+◌, ◌-◌, ◌<◌, ◌≤◌, true, false, List, ◌∷◌, length, Some, None, Ok, refl, ap, subst, arith}
 use Rattle.std.specs.List.{Contains}
 use Rattle.std.specs.Prelude.{nat_lt, if◌then◌else◌}
 use Rattle.std.proofs.lemmas.Bool.{ltb-true}
@@ -11,7 +11,7 @@ use Rattle.udt_model.specs.Emissions.{emitted}
 use Rattle.udt_model.specs.History.{History, after_items, start_of, accepted}
 use Rattle.udt_model.specs.Numbers.{near}
 use Rattle.udt_model.specs.Rate.{Ways}
-use Rattle.udt_model.specs.ReceiveHalf.{Receiving, after_block, block_answer, drop_range, gap_before}
+use Rattle.udt_model.specs.ReceiveHalf.{after_block, gap_before}
 use Rattle.udt_model.specs.ReceiveReports.{ack_offset}
 use Rattle.udt_model.specs.State.{State, Emission}
 use Rattle.udt_model.specs.Wire.{Block, read}
@@ -28,7 +28,7 @@ use Rattle.udt_laws.proofs.sent_blocks.EmissionsRead.{packet_of}
 use Rattle.udt_laws.proofs.sent_blocks.NakRanges.{EndsMeet, IsBetween, nak-ends, block-gap, drop-gap, gap-found, named-ends}
 use Rattle.udt_laws.proofs.sent_blocks.NamedWasSent.{only-named}
 use Rattle.udt_laws.proofs.sent_blocks.ReportsFit.{ReportsFit, block-fits}
-use Rattle.udt_laws.proofs.sent_blocks.SentBlocks.{emission-at, moment-at, emission-reads}
+use Rattle.udt_laws.proofs.sent_blocks.SentBlocks.{emission-at, emission-reads}
 use Rattle.udt_laws.proofs.sockets.Begins.{Begins}
 
 -- a gap ends below what shows it

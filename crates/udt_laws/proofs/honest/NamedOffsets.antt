@@ -6,7 +6,7 @@ use Rattle.udt_model.specs.declared.packets.Flags.{Flags}
 use Rattle.udt_model.specs.declared.packets.Kind.{Kind}
 use Rattle.udt_model.specs.declared.packets.Kind.TheVariants.{Stream, Message}
 use Rattle.udt_model.specs.Emissions.{emitted}
-use Rattle.udt_model.specs.Events.{Act, Reply, at_moment}
+use Rattle.udt_model.specs.Events.{Act, Reply}
 use Rattle.udt_model.specs.History.{History, after_items, state_of, start_of, accepted}
 use Rattle.udt_model.specs.Numbers.{sequence_number}
 use Rattle.udt_model.specs.Rate.{Ways}

@@ -10,21 +10,21 @@ use Rattle.udt_model.specs.declared.packets.Shake.{Shake}
 use Rattle.udt_model.specs.declared.routes.Routed.TheVariants.{ToSocket as RoutedTo, Id}
 use Rattle.udt_model.specs.Emissions.{emitted, emitted_by, arrived_by_act, arrived_by, arrivals}
 use Rattle.udt_model.specs.Events.{Act, Arrive, Event, outs_of}
-use Rattle.udt_model.specs.History.{Item, History, taken_by, accepted_by, accepted, after_items, state_of, item_of, happened}
+use Rattle.udt_model.specs.History.{Item, History, taken_by, accepted_by, accepted, state_of, item_of, happened}
 use Rattle.udt_model.specs.Lines.{is_arrival, AreEmitted}
-use Rattle.udt_model.specs.Network.{ScriptSocket, ScriptDatagram, Network, known_at, ToSocket, route}
+use Rattle.udt_model.specs.Network.{ScriptSocket, ScriptDatagram, Network, known_at}
 use Rattle.udt_model.specs.Rate.{Ways}
 use Rattle.udt_model.specs.Routes.{Known, handshake_in, to_unnamed, to_named, to_target}
-use Rattle.udt_model.specs.Script.{from_host, size_of, with_socket, event_at, paired, paired_socket, network_after}
-use Rattle.udt_model.specs.State.{State, Datagram, Emission}
+use Rattle.udt_model.specs.Script.{from_host, size_of, event_at, paired, network_after}
+use Rattle.udt_model.specs.State.{Datagram, Emission}
 use Rattle.udt_model.specs.Step.{step}
-use Rattle.udt_model.specs.Wire.{Packet, Handshake, is_handshake, destination, read, target}
+use Rattle.udt_model.specs.Wire.{Packet, Handshake, is_handshake, destination, read}
 use Rattle.udt_model.proofs.HistoryLemmas.{accepted_by-append}
 use Rattle.udt_model.proofs.RecordLemmas.{arrived_by-append, emitted_by-append, emission-of}
 use Rattle.udt_model.proofs.WireLemmas.{target-of-read}
 use Rattle.udt_laws.proofs.laid_messages.Members.{contained-cases, none-contained}
 use Rattle.udt_laws.proofs.scripts.EachSocket.{Each, each-set, each-more}
-use Rattle.udt_laws.proofs.scripts.KeptByLines.{arrival_of, Comes, KeptByLines, event-here, event-elsewhere, lines-keep}
+use Rattle.udt_laws.proofs.scripts.KeptByLines.{arrival_of, Comes, KeptByLines, lines-keep}
 use Rattle.udt_laws.proofs.scripts.LineRanges.{size_of_act, taken-size}
 use Rattle.udt_laws.proofs.scripts.ReplacedOne.{set-other, set-same, append-first, found-once, map-among}
 use Rattle.udt_laws.proofs.scripts.RouteFinds.{route-finds}

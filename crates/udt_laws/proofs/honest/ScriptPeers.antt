@@ -1,18 +1,17 @@
 -- The main theorems hold of the sockets of a script whose records are lawful, where no line gives bytes of its own.
-use Rattle.std.proofs.Common.{◌≡◌, ℕ, ◌+◌, ◌^◌, ◌<◌, false, List, Some, Ok, refl, ap, ◌∙◌, sym, subst, arith}
+use Rattle.std.proofs.Common.{◌≡◌, ℕ, ◌+◌, ◌^◌, ◌<◌, List, Some, refl, ap, ◌∙◌, sym, subst}
 use Rattle.std.specs.Prelude.{slice_get}
 use Rattle.std.specs.List.{Contains}
 use Rattle.udt_model.specs.declared.addresses.Addr.{Addr}
 use Rattle.udt_model.specs.Emissions.{arrivals}
-use Rattle.udt_model.specs.History.{History, start_of, accepted}
+use Rattle.udt_model.specs.History.{History, start_of}
 use Rattle.udt_model.specs.Honest.{IsHonest}
 use Rattle.udt_model.specs.Lines.{AreEmitted}
-use Rattle.udt_model.specs.Network.{ScriptSocket, ScriptDatagram, Network}
+use Rattle.udt_model.specs.Network.{ScriptSocket, Network}
 use Rattle.udt_model.specs.Rate.{Ways}
 use Rattle.udt_model.specs.Records.{Enrolled, StandsAt, PeerPair, own_peer}
 use Rattle.udt_model.specs.Script.{size_of, network_after}
 use Rattle.udt_model.specs.State.{Datagram}
-use Rattle.udt_model.specs.Wire.{Packet, is_handshake, destination, read}
 use Rattle.udt_laws.specs.Laws.{IsStream, CarriesMessages, HasHeard, peer_isn, AreInStep, ShowsMessages}
 use Rattle.udt_laws.specs.Scripts.{enrolled_at, HasLawfulRecords, ScriptLawful, HasPeerThere, ScriptAdoption, ScriptPrefix, ScriptMessages}
 use Rattle.udt_laws.proofs.adoption.MutualAdoption.{mutual_adoption}

@@ -1,5 +1,5 @@
 -- A half that was given a control keeps one, so a state without one had no connection before, and its halves were idle.
-use Rattle.std.proofs.Common.{◌≡◌, ℕ, zero, suc, Bool, true, false, List, [], ◌∷◌, ◌++◌, Ok, Err, refl, ap, ◌∙◌, sym, subst, inl, inr, arith}
+use Rattle.std.proofs.Common.{◌≡◌, ℕ, zero, suc, Bool, true, false, List, [], ◌∷◌, ◌++◌, Ok, Err, refl, ap, sym, inl, inr}
 use Rattle.std.specs.Prelude.{Result, Option, Some, None, length, nat_lt, if◌then◌else◌, option_map}
 use Rattle.udt_model.specs.declared.answers.SendNo.{SendNo}
 use Rattle.udt_model.specs.declared.packets.AckBody.{AckBody}
