@@ -115,6 +115,17 @@ module _ {C : Type 0} (w : Ways C) where
           → socket.history.opening ≡ opening w socket.own config peer now 0 → start_of socket.history ≡ 0
       request-start socket config peer now opens = opening_start w socket.own config peer now 0 socket.history opens
 
+      -- a connected socket whose peer begins at 0 does so too
+      pub starts-as_peer : (addr : Addr) (socket : Enrolled C) (here : StandsAt net addr socket) (at : Addr) (other : Enrolled C)
+          → StandsAt net at other → own_peer w socket.history ≡ Some (record { addr = at; id = other.own })
+          → start_of other.history ≡ 0 → Connects w net here.endpoint socket → start_of socket.history ≡ 0
+      starts-as_peer addr socket here at other there names zero (ByHandshake isn config now in_range opens connected_at) =
+          handshake-start addr socket here isn config now in_range opens
+      starts-as_peer addr socket here at other there names zero (ForRequest config peer now in_range opens request) =
+          request-start socket config peer now opens
+      starts-as_peer addr socket here at other there names zero (AsPair paired) =
+          sym (pair-begin addr socket here at other there names paired).start ∙ zero
+
       module _ (addr : Addr) (socket : Enrolled C) (here : StandsAt net addr socket) (at : Addr) (other : Enrolled C)
           (there : StandsAt net at other)
           (names : own_peer w socket.history ≡ Some (record { addr = at; id = other.own }))
