@@ -1,6 +1,7 @@
 -- What tables know once there is one more socket.
-use Rattle.std.proofs.Common.{◌≡◌, ℕ, zero, suc, ◌+◌, ◌-◌, ◌≤◌, ◌<◌, ◌==◌, Bool, true, false, cond, List, [], ◌∷◌, ◌++◌, length, Some, None, Option, refl, ap, ◌∙◌, sym, arith, option_map}
-use Rattle.std.specs.Prelude.{slice_get, is_some, sum_by, if◌then◌else◌}
+use Rattle.std.proofs.Common.{◌≡◌, ℕ, zero, suc, ◌+◌, ◌-◌, ◌≤◌, ◌<◌, ◌==◌, Bool, true, false, cond, List, [], ◌∷◌, ◌++◌, length, Some, None, Option, refl, ap, ◌∙◌, sym, arith, option_map, inl, inr}
+use Rattle.std.proofs.lemmas.Bool.{cases_eq}
+use Rattle.std.specs.Prelude.{slice_get, ◌⊎◌, is_some, sum_by, if◌then◌else◌}
 use Rattle.std.proofs.lemmas.List.{length_push}
 use Rattle.std.proofs.lemmas.List.Sums.{sum_by_push}
 use Rattle.std.proofs.lemmas.Option.{slice_get_past}
@@ -11,7 +12,7 @@ use Rattle.udt_model.specs.Phases.{is_closed}
 use Rattle.udt_routes.specs.Tables.{Table, what_of, with_enrolled}
 use Rattle.udt_world.specs.Views.{Sight}
 use Rattle.udt_world.specs.Wiring.{Knows, adopts, first_with, is_any, is_here, listens, meets, one_if, peer_in, sight_with}
-use Rattle.udt_world.proofs.KeyLemmas.{length_inserted, rising_inserted, value_inserted}
+use Rattle.udt_world.proofs.KeyLemmas.{is_same_id, length_inserted, other_id, rising_inserted, value_inserted}
 use Rattle.udt_world.proofs.FirstLemmas.{with-place}
 use Rattle.udt_world.proofs.PushLemmas.{push_other}
 
@@ -94,7 +95,24 @@ module _ {C R : Type 0} (sights : List (Sight C)) (s : Sight C) (host : Addr) (t
       (sym (either-some (what_of t new_id) new_id) ∙ (knows.same.enrolled new_id ∙ ap (λ (o : Option (Sight C)). is_any (is_here host) o) past))
 
   enrolled-same : (id : ℕ) → is_some (cond (is_eq (nat_cmp id new_id)) (Some what) (what_of t id)) ≡ is_any (is_here host) (sight_with (sights ++ s ∷ []) id)
-  enrolled-same id = ?
+  enrolled-same id = by id (cases_eq id new_id)
+    where
+      known : (id : ℕ) → is_some (what_of t id) ≡ is_any (is_here host) (sight_with sights id)
+      known id = sym (either-some (what_of t id) id) ∙ knows.same.enrolled id
+
+      by : (id : ℕ) → (id ≡ new_id) ⊎ (id ≡ new_id → ⊥)
+          → is_some (cond (is_eq (nat_cmp id new_id)) (Some what) (what_of t id)) ≡ is_any (is_here host) (sight_with (sights ++ s ∷ []) id)
+      by id (inl is) = rw (is, is_same_id new_id, with-place (sights ++ s ∷ []) (length sights), get-end sights s, here, live) refl
+      by zero (inr apart) = rw (other_id 0 new_id apart) (known 0)
+      by (suc k) (inr apart) =
+          let one : suc k ≡ k + 1 = omega arith in
+          let far : k ≡ length sights → ⊥ = λ e. apart (one ∙ ap (λ (n : ℕ). n + 1) e) in
+          rw (other_id (suc k) new_id apart)
+          (known (suc k)
+          ∙ (ap (λ (n : ℕ). is_any (is_here host) (sight_with sights n)) one
+          ∙ (ap (λ (o : Option (Sight C)). is_any (is_here host) o)
+          (with-place sights k ∙ (sym (get-other sights s k far) ∙ sym (with-place (sights ++ s ∷ []) k)))
+          ∙ ap (λ (n : ℕ). is_any (is_here host) (sight_with (sights ++ s ∷ []) n)) (sym one))))
 
   -- once it is enrolled, the table knows it
   pub enrolled-knows : Knows (with_enrolled t new_id what) (sights ++ s ∷ []) host
