@@ -1,5 +1,5 @@
 -- A network stays wired where a socket takes or gives bytes: what an endpoint may know of it stays.
-use Rattle.std.proofs.Common.{◌≡◌, ℕ, ◌+◌, ◌≤◌, ◌<◌, ◌&&◌, not, Bool, List, Some, None, Option, is_some, length, map, refl, ap, ◌∙◌, sym, subst, arith, inl, inr}
+use Rattle.std.proofs.Common.{◌≡◌, ℕ, zero, suc, ◌+◌, ◌≤◌, ◌<◌, ◌&&◌, ◌||◌, Bool, List, [], ◌∷◌, Some, None, Option, is_some, length, map, refl, ap, ◌∙◌, sym, subst, arith, inl, inr}
 use Rattle.std.specs.Prelude.{slice_get, slice_set, vec_len}
 use Rattle.std.specs.List.{Contains}
 use Rattle.std.proofs.lemmas.Bool.{cases_eq}
@@ -9,17 +9,20 @@ use Rattle.udt_model.specs.declared.limits.TheConstants.{MOST_SOCKETS}
 use Rattle.udt_model.specs.declared.packets.Kind.{Kind}
 use Rattle.udt_model.specs.declared.packets.Kind.TheVariants as kind
 use Rattle.udt_model.specs.Calls.{send_in, send_as, recv_in, recv_as}
-use Rattle.udt_model.specs.Events.{Send, Recv, at_moment, event}
+use Rattle.udt_model.specs.declared.answers.Heard.{Heard}
+use Rattle.udt_model.specs.Events.{Arrive, DidHear, Recv, Reply, Send, at_moment, event}
+use Rattle.udt_model.specs.Network.{first_met, is_listening}
 use Rattle.udt_model.specs.Phases.{Link, Stands, Lost, Absent, link_of}
 use Rattle.udt_model.specs.Rate.{Ways}
+use Rattle.udt_model.specs.Records.{PeerPair}
 use Rattle.udt_model.specs.State.{State}
 use Rattle.udt_model.specs.Step.{step}
 use Rattle.udt_model.specs.Words.{is_word}
 use Rattle.udt_routes.specs.Tables.{Table}
-use Rattle.udt_laws.proofs.scripts.ReplacedOne.{set-same}
+use Rattle.udt_laws.proofs.scripts.ReplacedOne.{found-once, set-same}
 use Rattle.udt_world.specs.declared.network.Network.{Network}
 use Rattle.udt_world.specs.declared.network.ScriptSocket.{ScriptSocket}
-use Rattle.udt_world.specs.Views.{Sight, sight_of}
+use Rattle.udt_world.specs.Views.{Sight, after_event, sight_of}
 use Rattle.udt_world.specs.Wiring.{FitsPhase, HasAddress, IsGiven, IsWired, Knows, adopts, is_any, is_here, listens, meets, one_if, peer_in, place_seen, sight_with, sights_of, waiting_at}
 use Rattle.udt_world.proofs.FirstLemmas.{Only, first-set, only-set, position-set, replaced-cases, sum-set, with-place, with-set}
 use Rattle.udt_world.proofs.WiredLemmas.{mapped, sight-at}
@@ -107,7 +110,7 @@ module _ {C : Type 0} (sights : List (Sight C)) (place : ℕ) (s : Sight C) (aft
     live = knows.live;
     enrolled = omega (arith, knows.enrolled, length-set sights place next);
     adoptions =
-        omega (arith, knows.adoptions, sum-set (λ (x : Sight C). one_if (is_some (peer_in x))) sights place s next found, ap (λ (o : Option _). one_if (is_some o)) peer-same);
+        omega (arith, knows.adoptions, sum-set (λ (x : Sight C). one_if (is_some (peer_in x))) sights place s next found, ap (λ (o : Option PeerPair). one_if (is_some o)) peer-same);
     meetings = omega (arith, knows.meetings, sum-set (λ (x : Sight C). one_if (is_some x.met)) sights place s next found);
   }
 
@@ -182,3 +185,37 @@ module _ {C : Type 0} (old new : Network C) (place : ℕ) (socket : ScriptSocket
         (only-alike (sights_of old) place (sight_of socket) after seen keeps (adopts host addr id)
         (adopts-same (sights_of old) place (sight_of socket) after seen keeps host addr id) (wired.adopts_once host addr id));
   }
+
+or-false : (b : Bool) → (b || Bool.false) ≡ b
+or-false Bool.true = refl
+or-false Bool.false = refl
+
+first-none : (o : Option Addr) → first_met o None ≡ o
+first-none None = refl
+first-none (Some to) = refl
+
+-- who hears a datagram begins neither to listen nor to meet anybody
+pub heard-same : {C : Type 0} (w : Ways C) (s : Sight C) (now : ℕ) (from : Addr) (bytes : List ℕ) (after : State C) (heard : Heard)
+    → after ≡ (step w s.state (event now (Arrive from bytes))).after → DidHear heard ≡ (step w s.state (event now (Arrive from bytes))).reply
+    → record s { state = after } ≡ after_event w s (event now (Arrive from bytes))
+heard-same w s now from bytes after heard is reply =
+    let listened : (s.listened || is_listening (step w s.state (event now (Arrive from bytes))).reply) ≡ s.listened =
+    ap (λ (r : Reply). s.listened || is_listening r) (sym reply) ∙ or-false s.listened in
+    rw (listened, first-none s.met, is) refl
+
+-- a place in a list has an element
+pub there-is : {X : Type 0} (xs : List X) (i : ℕ) → i < length xs → (x : X) × (slice_get xs i ≡ Some x)
+there-is [] i within = absurd (omega (arith, within))
+there-is (x ∷ xs) zero within = (x, refl)
+there-is (x ∷ xs) (suc i) within = there-is xs i (omega (arith, within))
+
+-- each socket has the endpoint that it had
+pub ends-kept : {C : Type 0} (xs : List (ScriptSocket C)) (place : ℕ) (x y : ScriptSocket C) → slice_get xs place ≡ Some x
+    → y.endpoint ≡ x.endpoint → (p : ℕ) (a b : ScriptSocket C) → slice_get xs p ≡ Some a → slice_get (slice_set xs place y) p ≡ Some b
+    → b.endpoint ≡ a.endpoint
+ends-kept {C} xs place x y at same p a b at_a at_b =
+    replaced-cases xs place x y at p b at_b
+    (λ is b_is.
+    let a_is : x ≡ a = found-once xs p x a (ap (slice_get xs) is ∙ at) at_a in
+    ap (λ (z : ScriptSocket C). z.endpoint) b_is ∙ (same ∙ ap (λ (z : ScriptSocket C). z.endpoint) a_is))
+    (λ apart before. ap (λ (z : ScriptSocket C). z.endpoint) (found-once xs p b a before at_a))
