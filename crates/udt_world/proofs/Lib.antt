@@ -24,3 +24,5 @@ pub mod NameLemmas
 pub mod PushLemmas
 pub mod EmptyLemmas
 pub mod AddedLemmas
+pub mod GivenLemmas
+pub mod DatagramLemmas

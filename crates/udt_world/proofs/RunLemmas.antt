@@ -1,9 +1,9 @@
 -- What the turns of a generated run do.
-use Rattle.std.proofs.Common.{◌≡◌, ℕ, zero, suc, ◌+◌, ◌-◌, ◌≤◌, ◌<◌, Bool, true, false, eqb, ◌*◌, List, [], ◌++◌, length, Some, refl, ap, ◌∙◌, sym, arith}
-use Rattle.std.specs.Prelude.{slice_get, codes, Result, Ok, Err, IfOk, nat_lt, ◌%◌, vec_len}
+use Rattle.std.proofs.Common.{◌≡◌, ℕ, zero, suc, ◌+◌, ◌-◌, ◌≤◌, ◌<◌, Bool, true, false, eqb, ◌*◌, List, [], ◌++◌, length, get_or, inl, inr, ◌⊎◌, Some, refl, ap, ◌∙◌, sym, arith}
+use Rattle.std.specs.Prelude.{slice_get, None, codes, Result, Ok, Err, IfOk, OnOk, nat_lt, ◌%◌, vec_len}
 use Rattle.std.proofs.lemmas.Bool.{le-ltb, lt-ltb, ne_eqb}
 use Rattle.std.proofs.lemmas.List.{append-nil, length-append, length-map, length-take-le, length-set}
-use Rattle.std.proofs.lemmas.Option.{same_Some, slice_get-map}
+use Rattle.std.proofs.lemmas.Option.{same_Some, slice_get-map, slice_get_cases}
 use Rattle.udt_core.specs.Received.{received_in}
 use Rattle.udt_model.specs.declared.addresses.Addr.{Addr}
 use Rattle.udt_model.specs.declared.answers.Perf.{Perf}
@@ -22,24 +22,58 @@ use Rattle.udt_model.specs.Network.{Network, ScriptSocket, empty_network, place_
 use Rattle.udt_model.specs.Network as model
 use Rattle.udt_model.specs.Opening.{opening}
 use Rattle.udt_model.specs.Rate.{Ways}
-use Rattle.udt_model.specs.Script.{Printed, arrived, event_at, on_line, paired, may_pair}
+use Rattle.udt_model.specs.Routes.{handshake_in}
+use Rattle.udt_model.specs.Wire.{read}
+use Rattle.udt_model.specs.Script.{Printed, arrived, call_by, event_at, on_line, paired, may_pair}
 use Rattle.udt_model.specs.Lines.{PairLine}
 use Rattle.udt_model.specs.SendHalf.{Sending, acked_of, send_answer}
 use Rattle.udt_model.specs.State.{State}
 use Rattle.udt_model.specs.Step.{step}
 use Rattle.udt_model.proofs.HistoryLemmas.{accepted_by-append, delivered_by-append}
+use Rattle.udt_model.proofs.PhaseLemmas.{is_settled}
 use Rattle.udt_script.specs.CodeLines.{datagram_of}
 use Rattle.udt_world.specs.declared.generated.Run as code_run
 use Rattle.udt_world.specs.declared.network.Network as code
 use Rattle.udt_world.specs.declared.network.ScriptSocket as code_socket
 use Rattle.udt_world.specs.Done.{DoesLine, GoesTo}
-use Rattle.udt_world.specs.Runs.{count_in, Counts, IsRun}
+use Rattle.udt_world.specs.Runs.{count_in, Counts, IsRun, IsSet}
 use Rattle.udt_world.specs.Views.{Sight, View, Shows, Moves, Answers, sight_of, sight_of_history, view_of}
-use Rattle.udt_world.proofs.ArriveLemmas.{arrive-gives}
-use Rattle.udt_world.proofs.CallLemmas.{some_at}
+use Rattle.udt_world.specs.Wiring.{IsWired, MayHappen}
+use Rattle.udt_world.proofs.ArriveLemmas.{arrive-gives, not_followed, paired-settled, settled-promises}
 use Rattle.udt_world.proofs.CountedLemmas.{counted-length}
 use Rattle.udt_world.proofs.EventLemmas.{shown_at, moves_shown, reply_shown, tick_reply}
-use Rattle.udt_world.proofs.RouteLemmas.{not_zero}
+
+-- what stands at a place of a list
+there_by : {A : Type 0} (xs : List A) (i : ℕ) → i < length xs
+    → ((x : A) × (i < length xs) × (slice_get xs i ≡ Some x) × (get_or xs i x ≡ x)) ⊎ ((length xs ≤ i) × (slice_get xs i ≡ None))
+    → (x : A) × (slice_get xs i ≡ Some x)
+there_by xs i within (inl found) = (found.0, found.2)
+there_by xs i within (inr past) = absurd (omega (arith, within, past.0))
+
+there_at : {A : Type 0} (xs : List A) (i : ℕ) → i < length xs → (x : A) × (slice_get xs i ≡ Some x)
+there_at xs i within = there_by xs i within (slice_get_cases xs i).1
+
+-- two facts of a result
+pub on_ok_both : {T E P Q : Type 0} (r : Result T E) → OnOk r P → OnOk r Q → OnOk r (P × Q)
+on_ok_both (Ok x) p q = (p, q)
+on_ok_both (Err e) p q = tt
+
+-- a pack and a tick need nothing
+pub may_pack : {C : Type 0} (sights : List (Sight C)) (place : ℕ) → MayHappen sights place Pack
+may_pack sights place = record {
+  listens = λ s most secret found is. absurd (cc);
+  meets = λ s to found is. absurd (cc);
+  offers = λ id is. absurd (cc);
+  hears = λ s from bytes shake found is reads none. absurd (cc);
+}
+
+pub may_tick : {C : Type 0} (sights : List (Sight C)) (place : ℕ) → MayHappen sights place Tick
+may_tick sights place = record {
+  listens = λ s most secret found is. absurd (cc);
+  meets = λ s to found is. absurd (cc);
+  offers = λ id is. absurd (cc);
+  hears = λ s from bytes shake found is reads none. absurd (cc);
+}
 
 -- ---- what is taken and given
 
@@ -108,6 +142,18 @@ module _ {C : Type 0} (w : Ways C) where
       let count = ap length moves.sockets ∙ length-set (view_of old).sockets place _ in
       omega (arith, count, length-map old.sockets.items sight_of, length-map new.sockets.items sight_of, old.sockets.ok.0, new.sockets.ok.0)
 
+  -- and what is set stays so
+  pub set_moved : (place : ℕ) (happens : Event) (old new : code_run.Run C) → IsSet old
+      → Moves w place happens (view_of old.network) (view_of new.network) → IsWired new.network
+      → new.pattern ≡ old.pattern → new.room ≡ old.room → IsSet new
+  set_moved place happens old new set moves wired pattern room = record {
+    wired = wired;
+    sockets = moved_count place happens old.network new.network moves ∙ set.sockets;
+    pattern = rw pattern set.pattern;
+    length = rw pattern set.length;
+    room = rw room set.room;
+  }
+
   -- ---- histories
 
   accepted-happened : (h : History C) (e : Event)
@@ -123,6 +169,11 @@ module _ {C : Type 0} (w : Ways C) where
   delivered-happened h e =
       ap length (delivered_by-append h.items _ ∙ ap (λ more. delivered h ++ more) (append-nil (given_by (step w (state_of w h) e).reply)))
       ∙ length-append (delivered h) (given_by (step w (state_of w h) e).reply)
+
+  -- a call that needs no place at its host
+  abbrev pub IsPlain : ℕ → Act → Type 0
+  IsPlain now act = (n : Network C) (place : ℕ) (socket : ScriptSocket C)
+      → call_by w n place socket now act ≡ event_at w n place socket (event now act)
 
   -- ---- counts
 
@@ -143,6 +194,8 @@ module _ {C : Type 0} (w : Ways C) where
       sockets_are = rw c.sockets_are refl;
       first_name = c.first_name;
       second_name = c.second_name;
+      first_paired = c.first_paired;
+      second_paired = c.second_paired;
       start = c.start;
       accepted = rw (c.accepted, is) (sym (accepted-happened c.first.history e));
       delivered = c.delivered;
@@ -158,6 +211,8 @@ module _ {C : Type 0} (w : Ways C) where
       sockets_are = rw c.sockets_are refl;
       first_name = c.first_name;
       second_name = c.second_name;
+      first_paired = c.first_paired;
+      second_paired = c.second_paired;
       start = c.start;
       accepted = c.accepted;
       delivered = rw (c.delivered, is) (sym (delivered-happened c.second.history e));
@@ -177,15 +232,28 @@ module _ {C : Type 0} (w : Ways C) where
         rw same (rw none at (counts_second (event now (Arrive from bytes)) 0 gives))
     counts_arrival (suc (suc place)) known now from bytes there = let never = rw c.sockets_are at there in absurd (cc)
 
+    -- each of the two is settled
+    pub settled_at : (place : ℕ) (known : ScriptSocket C) → slice_get n.sockets place ≡ Some known
+        → is_settled (state_of w known.history).phase ≡ true
+    settled_at zero known there =
+        rw (same_Some _ _ (sym there ∙ first_at)) (paired-settled w c.first.history c.first_paired)
+    settled_at (suc zero) known there =
+        rw (same_Some _ _ (sym there ∙ second_at)) (paired-settled w c.second.history c.second_paired)
+    settled_at (suc (suc place)) known there = let never = rw c.sockets_are at there in absurd (cc)
+
     -- ---- calls
 
-    pub after_first : (now : ℕ) (act : Act) → after_call w n (codes "a") now act ≡ (event_at w n 0 c.first (event now act)).network
+    pub after_first : (now : ℕ) (act : Act) → IsPlain now act
+        → after_call w n (codes "a") now act ≡ (event_at w n 0 c.first (event now act)).network
     unfolding place_of
-    after_first now act = rw (c.sockets_are, c.first_name, c.second_name) refl
+    after_first now act plain =
+        rw (c.sockets_are, c.first_name, c.second_name) (ap (λ (p : Printed C). p.network) (plain n 0 c.first))
 
-    pub after_second : (now : ℕ) (act : Act) → after_call w n (codes "b") now act ≡ (event_at w n 1 c.second (event now act)).network
+    pub after_second : (now : ℕ) (act : Act) → IsPlain now act
+        → after_call w n (codes "b") now act ≡ (event_at w n 1 c.second (event now act)).network
     unfolding place_of
-    after_second now act = rw (c.sockets_are, c.first_name, c.second_name) refl
+    after_second now act plain =
+        rw (c.sockets_are, c.first_name, c.second_name) (ap (λ (p : Printed C). p.network) (plain n 1 c.second))
 
   -- ---- the beginning
 
@@ -201,6 +269,8 @@ module _ {C : Type 0} (w : Ways C) where
     sockets_are = refl;
     first_name = refl;
     second_name = refl;
+    first_paired = refl;
+    second_paired = refl;
     start = refl;
     accepted = refl;
     delivered = refl;
@@ -254,13 +324,13 @@ module _ {C : Type 0} (w : Ways C) where
   -- ---- turns
 
   -- an event of a, which took so many bytes
-  run_first : (run : Run C) (old new : code_run.Run C) (now : ℕ) (act : Act) (more state : ℕ) (is : IsRun w run old)
+  run_first : (run : Run C) (old new : code_run.Run C) (now : ℕ) (act : Act) (more state : ℕ) (is : IsRun w run old) → IsPlain now act
       → Moves w 0 (event now act) (view_of old.network) (view_of new.network)
       → more ≡ length (taken_by act (step w (state_of w is.counts.first.history) (event now act)).reply)
       → new.state ≡ state → new.accepted ≡ old.accepted + more → new.delivered ≡ old.delivered
       → IsRun w (record { network = after_call w run.network (codes "a") now act; state = state }) new
-  run_first run old new now act more state is moves took state_is accepted_is delivered_is =
-      let after = after_first run.network old.accepted old.delivered is.counts now act in
+  run_first run old new now act more state is plain moves took state_is accepted_is delivered_is =
+      let after = after_first run.network old.accepted old.delivered is.counts now act plain in
       record {
         shown = rw after (moves_shown w run.network 0 is.counts.first (event now act) _ _ is.shown (first_at run.network old.accepted old.delivered is.counts) moves);
         state = state_is;
@@ -268,13 +338,13 @@ module _ {C : Type 0} (w : Ways C) where
       }
 
   -- an event of b, which gave so many bytes
-  run_second : (run : Run C) (old new : code_run.Run C) (now : ℕ) (act : Act) (more state : ℕ) (is : IsRun w run old)
+  run_second : (run : Run C) (old new : code_run.Run C) (now : ℕ) (act : Act) (more state : ℕ) (is : IsRun w run old) → IsPlain now act
       → Moves w 1 (event now act) (view_of old.network) (view_of new.network)
       → more ≡ length (given_by (step w (state_of w is.counts.second.history) (event now act)).reply)
       → new.state ≡ state → new.accepted ≡ old.accepted → new.delivered ≡ old.delivered + more
       → IsRun w (record { network = after_call w run.network (codes "b") now act; state = state }) new
-  run_second run old new now act more state is moves gave state_is accepted_is delivered_is =
-      let after = after_second run.network old.accepted old.delivered is.counts now act in
+  run_second run old new now act more state is plain moves gave state_is accepted_is delivered_is =
+      let after = after_second run.network old.accepted old.delivered is.counts now act plain in
       record {
         shown = rw after (moves_shown w run.network 1 is.counts.second (event now act) _ _ is.shown (second_at run.network old.accepted old.delivered is.counts) moves);
         state = state_is;
@@ -292,7 +362,7 @@ module _ {C : Type 0} (w : Ways C) where
       let reply = reply_shown w run.network 0 is.counts.first (event now (Send bytes)) (Sent answer) _ _ is.shown there answers in
       let took = taken_is (state_of w is.counts.first.history) now bytes answer reply in
       let same : bytes ≡ counted_bytes (accepted_of (slice_get run.network.sockets 0)) (1 + draw run.state % 4096) = rw (sent, sym is.state) bytes_are in
-      rw (sym same) (run_first run old new now (Send bytes) (count_in answer) (next_state run.state) is answers.moves took (state_is ∙ ap (λ s. next_state s) is.state) accepted_is delivered_is)
+      rw (sym same) (run_first run old new now (Send bytes) (count_in answer) (next_state run.state) is (λ n place socket. refl) answers.moves took (state_is ∙ ap (λ s. next_state s) is.state) accepted_is delivered_is)
 
   pub run_received : (run : Run C) (old new : code_run.Run C) (now room : ℕ) (into : List ℕ) (answer : Result ℕ Refusal) → IsRun w run old
       → IfOk answer (λ count. count ≤ length into)
@@ -303,17 +373,17 @@ module _ {C : Type 0} (w : Ways C) where
       let there = second_at run.network old.accepted old.delivered is.counts in
       let reply = reply_shown w run.network 1 is.counts.second (event now (Recv room)) _ _ _ is.shown there answers in
       let gave = given_is answer into _ within reply in
-      run_second run old new now (Recv room) (count_in answer) run.state is answers.moves gave (state_is ∙ is.state) accepted_is delivered_is
+      run_second run old new now (Recv room) (count_in answer) run.state is (λ n place socket. refl) answers.moves gave (state_is ∙ is.state) accepted_is delivered_is
 
   -- an event of a that takes no bytes
-  pub run_quiet_first : (run : Run C) (old new : code_run.Run C) (now : ℕ) (act : Act) → IsRun w run old
+  pub run_quiet_first : (run : Run C) (old new : code_run.Run C) (now : ℕ) (act : Act) → IsRun w run old → IsPlain now act
       → ((reply : Reply) → taken_by act reply ≡ [])
       → Moves w 0 (event now act) (view_of old.network) (view_of new.network)
       → new.state ≡ old.state → new.accepted ≡ old.accepted → new.delivered ≡ old.delivered
       → IsRun w (record run { network = after_call w run.network (codes "a") now act }) new
-  run_quiet_first run old new now act is none moves state_is accepted_is delivered_is =
+  run_quiet_first run old new now act is plain none moves state_is accepted_is delivered_is =
       let took = sym (ap length (none (step w (state_of w is.counts.first.history) (event now act)).reply)) in
-      run_first run old new now act 0 run.state is moves took (state_is ∙ is.state) (omega (arith, accepted_is)) delivered_is
+      run_first run old new now act 0 run.state is plain moves took (state_is ∙ is.state) (omega (arith, accepted_is)) delivered_is
 
   -- and a tick of b
   pub run_ticked_second : (run : Run C) (old new : code_run.Run C) (now : ℕ) → IsRun w run old
@@ -322,14 +392,14 @@ module _ {C : Type 0} (w : Ways C) where
       → IsRun w (record run { network = after_call w run.network (codes "b") now Tick }) new
   run_ticked_second run old new now is moves state_is accepted_is delivered_is =
       let gave = sym (ap (λ reply. length (given_by reply)) (tick_reply w (state_of w is.counts.second.history) now)) in
-      run_second run old new now Tick 0 run.state is moves gave (state_is ∙ is.state) accepted_is (omega (arith, delivered_is))
+      run_second run old new now Tick 0 run.state is (λ n place socket. refl) moves gave (state_is ∙ is.state) accepted_is (omega (arith, delivered_is))
 
   -- ---- deliveries
 
   pub datagram_at : (old : code_run.Run C) (number : ℕ) → number < length old.network.datagrams.items
       → (datagram : model.ScriptDatagram) × (slice_get (view_of old.network).datagrams number ≡ Some datagram)
   datagram_at old number within =
-      some_at (view_of old.network).datagrams number (omega (arith, length-map old.network.datagrams.items datagram_of, within))
+      there_at (view_of old.network).datagrams number (omega (arith, length-map old.network.datagrams.items datagram_of, within))
 
   module _ (run : Run C) (old new : code_run.Run C) (now kind number : ℕ) (is : IsRun w run old)
       (number_is : number ≡ delivered_number kind (draw old.state) (length old.network.datagrams.items))
@@ -340,13 +410,22 @@ module _ {C : Type 0} (w : Ways C) where
     count_is = omega (arith, ap length is.shown.datagrams_are, length-map old.network.datagrams.items datagram_of)
 
     -- what the delivery leads to
-    delivered_so : (after : Network C) → (arrived w run.network now datagram (model.route w run.network.sockets datagram)).network ≡ after
+    delivered_so : (after : Network C) → (arrived w run.network now datagram (model.route w run.network datagram)).network ≡ after
         → after_delivery w run now kind ≡ record { network = after; state = next_state run.state }
     delivered_so after is_after =
-        let some : eqb (length run.network.datagrams) 0 ≡ false = not_zero (length run.network.datagrams) (omega (arith, count_is, within)) in
+        let some : eqb (length run.network.datagrams) 0 ≡ false = ne_eqb (length run.network.datagrams) 0 (λ e. absurd (omega (arith, e, count_is, within))) in
         let same : delivered_number kind (draw run.state) (length run.network.datagrams) ≡ number = rw (count_is, sym is.state) (sym number_is) in
         let there : slice_get run.network.datagrams number ≡ Some datagram = rw is.shown.datagrams_are at at in
         rw (some, same, there, is_after) refl
+
+    -- the socket promises no place
+    silent_arrival : (place : ℕ) (known : ScriptSocket C) → slice_get run.network.sockets place ≡ Some known
+        → (arrived w run.network now datagram (model.ToSocket place known)).network
+        ≡ (event_at w run.network place known (event now (Arrive datagram.from datagram.bytes))).network
+    silent_arrival place known there =
+        ap (λ (p : Printed C). p.network) (not_followed w _ now place known datagram (handshake_in (read datagram.bytes)) _
+        (settled-promises w (state_of w known.history) now datagram.from datagram.bytes
+        (settled_at run.network old.accepted old.delivered is.counts place known there)))
 
     -- it goes to a socket
     pub run_delivered : (place : ℕ) → GoesTo w run.network datagram place
@@ -354,8 +433,8 @@ module _ {C : Type 0} (w : Ways C) where
         → IsRun w (after_delivery w run now kind) new
     run_delivered place goes moves =
         let arrives = event now (Arrive datagram.from datagram.bytes) in
-        let leads : (arrived w run.network now datagram (model.route w run.network.sockets datagram)).network ≡ (event_at w run.network place goes.0 arrives).network =
-        ap (λ r. (arrived w run.network now datagram r).network) goes.2 in
+        let leads : (arrived w run.network now datagram (model.route w run.network datagram)).network ≡ (event_at w run.network place goes.0 arrives).network =
+        ap (λ r. (arrived w run.network now datagram r).network) goes.2 ∙ silent_arrival place goes.0 goes.1 in
         rw (delivered_so _ leads) (record {
           shown = moves_shown w run.network place goes.0 arrives _ _ is.shown goes.1 moves;
           state = state_is ∙ ap (λ s. next_state s) is.state;
@@ -363,10 +442,10 @@ module _ {C : Type 0} (w : Ways C) where
         })
 
     -- it goes nowhere
-    pub run_dropped : (word : List ℕ) → model.route w run.network.sockets datagram ≡ model.Nowhere word
+    pub run_dropped : (word : List ℕ) → model.route w run.network datagram ≡ model.Nowhere word
         → (view_of new.network) ≡ (view_of old.network) → IsRun w (after_delivery w run now kind) new
     run_dropped word nowhere same =
-        let leads : (arrived w run.network now datagram (model.route w run.network.sockets datagram)).network ≡ run.network =
+        let leads : (arrived w run.network now datagram (model.route w run.network datagram)).network ≡ run.network =
         ap (λ r. (arrived w run.network now datagram r).network) nowhere in
         rw (delivered_so _ leads) (record {
           shown = rw same is.shown;

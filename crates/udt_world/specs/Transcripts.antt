@@ -19,7 +19,7 @@ pub record Entry : Type 0 where
 
 -- the text that tells the answer to a call
 abbrev pub answer_text : Option Line → Reply → List ℕ
-answer_text (Some (CallLine name event)) reply = event_text name reply
+answer_text (Some (CallLine name event)) reply = event_text name event.act reply
 answer_text line reply = []
 
 abbrev pub entry_text : Entry → List ℕ
