@@ -12,10 +12,12 @@ use Rattle.udt_model.specs.Records.{Enrolled, EndpointRecord, StandsAt, own_peer
 use Rattle.udt_model.specs.State.{State}
 use Rattle.udt_model.specs.Wire.{read}
 use Rattle.udt_laws.proofs.adoption.NamesBack.{mate_of, request-begins, request-peer, asks-not_begun, peer-is}
-use Rattle.udt_laws.proofs.adoption.PeersMeet.{names-has, names-so, Connects, ByHandshake, ForRequest, AsPair, stands-socket, met_kind, introduced_by, requested_by}
+use Rattle.udt_laws.proofs.adoption.PeersMeet.{names-has, names-so, Connects, ByHandshake, ForRequest, AsPair, stands-socket}
+use Rattle.udt_laws.proofs.adoption.PeersMeet.{met_kind, introduced_by, requested_by}
 use Rattle.udt_model.proofs.SettlingLemmas.{IsConnectedAt}
 use Rattle.udt_laws.proofs.sockets.Begins.{Begins, last_peer}
-use Rattle.udt_laws.proofs.sockets.ConnectedParts.{ConnectedPart, begins-part, connected_part, opened_start, socket-own, part-emitted}
+use Rattle.udt_laws.proofs.sockets.ConnectedParts.{ConnectedPart, begins-part, connected_part, opened_start, socket-own}
+use Rattle.udt_laws.proofs.sockets.ConnectedParts.{part-emitted}
 use Rattle.udt_laws.proofs.sockets.OneSocket.{ComesNear, from-sender}
 use Rattle.udt_laws.proofs.sockets.Opened.{AreConnected, opened_start as opening_start}
 use Rattle.udt_laws.proofs.sockets.WasSaid.{AllSaid}

@@ -1,4 +1,5 @@
--- All offsets that a history names lie between its start and as many more as bytes that it or its peer may send, where its half stands there.
+-- All offsets that a history names lie between its start and as many more as bytes that it or its peer may send,
+-- where its half stands there.
 use Rattle.std.proofs.Common.{◌≡◌, ℕ, ◌+◌, ◌-◌, ◌<◌, ◌≤◌, true, false, List, ◌∷◌, length, Some, None, Ok, refl, ap, subst, arith}
 use Rattle.std.specs.List.{Contains}
 use Rattle.std.specs.Prelude.{nat_lt, if◌then◌else◌}
@@ -16,7 +17,8 @@ use Rattle.udt_model.specs.ReceiveReports.{ack_offset}
 use Rattle.udt_model.specs.State.{State, Emission}
 use Rattle.udt_model.specs.Wire.{Block, read}
 use Rattle.udt_model.proofs.DropLemmas.{drop_range-is}
-use Rattle.udt_model.proofs.EmissionLemmas.{Emitting, NewBlock, LostBlock, DropRequest, FullAck, LightAck, Reports, ReportsGap, ReportsDropGap, AnswersAck, SendsKeepAlive, TheEnd, SendsHandshake, IsEmittedAt}
+use Rattle.udt_model.proofs.EmissionLemmas.{Emitting, NewBlock, LostBlock, DropRequest, FullAck, LightAck, Reports, ReportsGap}
+use Rattle.udt_model.proofs.EmissionLemmas.{ReportsDropGap, AnswersAck, SendsKeepAlive, TheEnd, SendsHandshake, IsEmittedAt}
 use Rattle.udt_model.proofs.ReceivingLemmas.{offset_of-some}
 use Rattle.udt_model.proofs.TickLemmas.{ack_outcome-tells}
 use Rattle.udt_laws.proofs.acked_has_arrived.BelowGapWasPlaced.{ack-within}
@@ -48,14 +50,16 @@ module _ {C : Type 0} (w : Ways C) where
     pub fits : ReportsFit s.receiving
     pub meets : MeetsBelow high s act
     -- a light ACK names an offset that isn't below the start
-    pub light : (now number : ℕ) (flags : Flags) (payload : List ℕ) → low ≤ (after_block s.receiving now number flags payload).blocks.base
+    pub light : (now number : ℕ) (flags : Flags) (payload : List ℕ)
+        → low ≤ (after_block s.receiving now number flags payload).blocks.base
 
   module _ (low high : ℕ) (t : State C) (act : Act) (stands : StandsAtAct low high t act) where
     brought : (from : Addr) (raw : List ℕ) → act ≡ Arrive from raw → BringsBelow high t from raw
     brought from raw arrives = subst (MeetsBelow high t) arrives stands.meets
 
     -- the offset of a data packet that arrives
-    arrived-below : (from : Addr) (raw : List ℕ) (number : ℕ) (flags : Flags) (stamp : ℕ) (payload : List ℕ) → act ≡ Arrive from raw
+    arrived-below : (from : Addr) (raw : List ℕ) (number : ℕ) (flags : Flags) (stamp : ℕ) (payload : List ℕ)
+        → act ≡ Arrive from raw
         → read raw ≡ Ok (Block number flags stamp t.own payload) → from ≡ t.peer.addr
         → (offset : ℕ) → near t.receiving.isn t.receiving.top number ≡ Some offset → offset < high
     arrived-below from raw number flags stamp payload arrives carries sender offset found =
@@ -65,7 +69,8 @@ module _ {C : Type 0} (w : Ways C) where
     top-stands = record { not_below = omega (arith, stands.base, stands.fits.order.base); not_above = stands.top }
 
   module _ (h : History C) (begins : Begins w h) (high : ℕ) (few : start_of h + length (accepted h) ≤ high) where
-    kind-between : (emission : Emission) (offset : ℕ) → Contains (emitted w h) emission → (t : State C) (act : Act) (reply : Reply)
+    kind-between : (emission : Emission) (offset : ℕ) → Contains (emitted w h) emission
+        → (t : State C) (act : Act) (reply : Reply)
         → (x : Emitting w t act reply emission) → read emission.datagram.bytes ≡ Ok (packet_of w t act reply emission x)
         → Contains emission.offsets offset → StandsAtAct (start_of h) high t act → (start_of h ≤ offset) × (offset ≤ high)
     kind-between emission offset among t act reply (NewBlock block connected packs is) reads named stands =
@@ -101,18 +106,22 @@ module _ {C : Type 0} (w : Ways C) where
         let there = subst (λ (l : List ℕ). Contains l offset) (ap (λ (e : Emission). e.offsets) is) named in
         let gap_is = block-gap t.receiving number ends gap in
         let found = offset_of-some t.receiving number (ends.1 + 1) (gap-found t.receiving number ends gap) in
-        let less = arrived-below (start_of h) high t act stands from raw number flags stamp payload arrives carries sender (ends.1 + 1) found.is_near in
+        let less = arrived-below (start_of h) high t act stands from raw number flags stamp payload arrives carries sender
+        (ends.1 + 1) found.is_near in
         two-named (start_of h) high ends offset
         (omega (arith, gap_is.from, stands.base, stands.fits.order.base), gap_is.order, omega (arith, less)) there
     kind-between emission offset among t act reply
-        (ReportsDropGap from raw message stamp first last range ends connected arrives asks sender messages taken gap is) reads named stands =
+        (ReportsDropGap from raw message stamp first last range ends connected arrives asks sender messages taken gap is)
+        reads named stands =
         let there = subst (λ (l : List ℕ). Contains l offset) (ap (λ (e : Emission). e.offsets) is) named in
         let gap_is = drop-gap t.receiving first last range ends taken gap in
-        let less = (brought (start_of h) high t act stands from raw arrives).drops message stamp first last range sender asks taken in
+        let below = brought (start_of h) high t act stands from raw arrives in
+        let less = below.drops message stamp first last range sender asks taken in
         let takes = (drop_range-is t.receiving first last range taken).takes in
         let end = gap-below t.receiving.top range.first ends gap in
         two-named (start_of h) high ends offset
-        (omega (arith, gap_is.from, stands.base, stands.fits.order.base), gap_is.order, omega (arith, end, less, takes.some)) there
+        (omega (arith, gap_is.from, stands.base, stands.fits.order.base), gap_is.order,
+        omega (arith, end, less, takes.some)) there
     kind-between emission offset among t act reply (AnswersAck number connected is) reads named stands =
         absurd (none-named offset (subst (λ (l : List ℕ). Contains l offset) (ap (λ (e : Emission). e.offsets) is) named))
     kind-between emission offset among t act reply (SendsKeepAlive connected is) reads named stands =

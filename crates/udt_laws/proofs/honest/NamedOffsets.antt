@@ -1,4 +1,5 @@
--- The data packets and message drop requests of a history name offsets from its start on, below as many more as bytes that it accepted.
+-- The data packets and message drop requests of a history name offsets from its start on, below as many more as bytes
+-- that it accepted.
 use Rattle.std.proofs.Common.{◌≡◌, ℕ, ◌+◌, ◌-◌, ◌<◌, ◌≤◌, List, [], ◌∷◌, length, Ok, refl, sym, subst, arith}
 use Rattle.std.specs.List.{Contains}
 use Rattle.std.proofs.lemmas.Option.{slice_get_within}
@@ -27,7 +28,8 @@ use Rattle.udt_laws.proofs.laid_messages.SentMessages.{payload_of, sends_message
 module _ {C : Type 0} (w : Ways C) where
   -- a stream asks to drop nothing
   asks-no_drop : (s : State C) (act : Act) (reply : Reply) (emission : Emission) (x : Emitting w s act reply emission)
-      (message stamp dest first last : ℕ) → IsEndless w s → packet_of w s act reply emission x ≡ DropAsk message stamp dest first last → ⊥
+      (message stamp dest first last : ℕ) → IsEndless w s
+      → packet_of w s act reply emission x ≡ DropAsk message stamp dest first last → ⊥
   asks-no_drop s act reply emission (DropRequest dropped connected packs is) message stamp dest first last endless same =
       packing-no_drop w s.sending s.last dropped endless.none packs
   asks-no_drop s act reply emission _ message stamp dest first last endless same = cc
@@ -40,8 +42,10 @@ module _ {C : Type 0} (w : Ways C) where
         let carries = carries-block w h begins emission number flags stamp dest payload among reads in
         let same = only-named emission carries.offset offset carries.names named in
         let blocks = blocks_by w h.opening h.items in
-        let room : carries.offset - start_of h < length blocks = slice_get_within blocks (carries.offset - start_of h) payload carries.carries in
-        let parts = blocks_by-parts w h.opening h.items (begins_settled w h begins) begins.legal (begins-well w h begins).cut.payload in
+        let room : carries.offset - start_of h < length blocks =
+        slice_get_within blocks (carries.offset - start_of h) payload carries.carries in
+        let parts = blocks_by-parts w h.opening h.items (begins_settled w h begins) begins.legal
+        (begins-well w h begins).cut.payload in
         (omega (arith, same, carries.not_before), omega (arith, same, carries.not_before, room, parts.few))
 
     kind-drop : (k : Kind) → h.opening.kind ≡ k → (emission : Emission) (message stamp dest first last offset : ℕ)
@@ -59,7 +63,8 @@ module _ {C : Type 0} (w : Ways C) where
         let asks = sends.drops emission message stamp dest first last among reads in
         let lies = lies-from (payload_of w h) sends.some (start_of h) sends.laid asks.laid sends.are_laid asks.among in
         let order = (first-covered (payload_of w h) sends.some (start_of h) asks.laid lies).to in
-        let between = either-named asks.laid.message.first asks.laid.message.last offset emission.offsets asks.names named order in
+        let between = either-named asks.laid.message.first asks.laid.message.last offset emission.offsets asks.names
+        named order in
         (omega (arith, lies.from, between.0), omega (arith, between.1, laid-within w h begins sends asks.laid asks.among))
 
     pub drop-between : (emission : Emission) (message stamp dest first last offset : ℕ) → Contains (emitted w h) emission

@@ -1,5 +1,6 @@
 -- Lawful records are honest where each arrival was emitted at its address for the socket, and no socket took 2^30 bytes.
-use Rattle.std.proofs.Common.{◌≡◌, ℕ, ◌+◌, ◌^◌, ◌<◌, ◌≤◌, true, false, List, [], ◌∷◌, ◌++◌, Some, Ok, length, refl, ap, ◌∙◌, sym, subst, inl, inr, arith}
+use Rattle.std.proofs.Common.{◌≡◌, ℕ, ◌+◌, ◌^◌, ◌<◌, ◌≤◌, true, false, List, [], ◌∷◌, ◌++◌, Some, Ok, length, refl, ap, ◌∙◌, sym}
+use Rattle.std.proofs.Common.{subst, inl, inr, arith}
 use Rattle.std.specs.List.{Contains}
 use Rattle.std.specs.Prelude.{None}
 use Rattle.udt_model.specs.declared.addresses.Addr.{Addr}
@@ -24,7 +25,8 @@ use Rattle.udt_laws.proofs.sent_blocks.SentBlocks.{same-packet, emission-at, emi
 use Rattle.udt_laws.proofs.honest.StandsNearPeer.{AllBelow, top-after, all-between, acked-between, peer-below, silent-below}
 use Rattle.udt_laws.proofs.pairs.PairIsHonest.{none-named, both-close, datagram-is}
 use Rattle.udt_laws.proofs.sockets.Begins.{last_peer}
-use Rattle.udt_laws.proofs.sockets.ConnectedParts.{ConnectedPart, NeverConnected, begins_unlinked, socket-parts, socket-own, part-emitted, never-emits}
+use Rattle.udt_laws.proofs.sockets.ConnectedParts.{ConnectedPart, NeverConnected, begins_unlinked, socket-parts, socket-own}
+use Rattle.udt_laws.proofs.sockets.ConnectedParts.{part-emitted, never-emits}
 use Rattle.udt_laws.proofs.sockets.IdleFronts.{front-idle, unlinked-uncontrolled}
 use Rattle.udt_laws.proofs.sockets.OneSocket.{IsEmittedAs, packet-bound, same-socket, same-peer}
 use Rattle.udt_laws.proofs.sockets.Opened.{AreConnected, connected-back}
@@ -50,7 +52,8 @@ module _ {C : Type 0} (w : Ways C) where
   read-between s _ low high top first = top
 
   -- a handshake names no offset
-  kind-names_none : (s : State C) (act : Act) (reply : Reply) (emission : Emission) (x : Emitting w s act reply emission) (offset : ℕ)
+  kind-names_none : (s : State C) (act : Act) (reply : Reply) (emission : Emission) (x : Emitting w s act reply emission)
+      (offset : ℕ)
       → is_handshake (packet_of w s act reply emission x) ≡ true → Contains emission.offsets offset → ⊥
   kind-names_none s act reply emission (SendsHandshake to dest shake sends is) offset shakes named =
       none-named offset (subst (λ (l : List ℕ). Contains l offset) (ap (λ (e : Emission). e.offsets) is) named)
@@ -76,7 +79,8 @@ module _ {C : Type 0} (w : Ways C) where
   ]
 
   module _ (net : List (EndpointRecord C)) (addr : Addr) where
-    act-honest : (s : State C) (act : Act) → ((from : Addr) (raw : List ℕ) → act ≡ Arrive from raw → WasEmitted w net s from addr raw)
+    act-honest : (s : State C) (act : Act)
+        → ((from : Addr) (raw : List ℕ) → act ≡ Arrive from raw → WasEmitted w net s from addr raw)
         → IsHonestAct w net addr s act
     act-honest s (Arrive from raw) was = was from raw refl
     act-honest s act was = tt
@@ -94,12 +98,15 @@ module _ {C : Type 0} (w : Ways C) where
           was (item ∷ front) next rest from raw (ap (λ (l : List Item). item ∷ l) joined) arrives),
     )
 
-  module _ (net : List (EndpointRecord C)) (most : ℕ) (lawful : AreLawful w net) (few : most < 2 ^ 30) (near : AreNear net most) where
-    -- what is no handshake and arrives from the address of a socket that has this one as its peer was emitted since that was connected
+  module _ (net : List (EndpointRecord C)) (most : ℕ) (lawful : AreLawful w net) (few : most < 2 ^ 30)
+      (near : AreNear net most) where
+    -- what is no handshake and arrives from the address of a socket that has this one as its peer was emitted since
+    -- that was connected
     comes-since : (addr : Addr) (socket : Enrolled C) (here : StandsAt net addr socket) (from : Addr) (other : Enrolled C)
         (there : StandsAt net from other) → own_peer w other.history ≡ Some (record { addr = addr; id = socket.own })
         → (since : ConnectedPart w socket.history) (other_since : ConnectedPart w other.history) (raw : List ℕ) (packet : Packet)
-        → Contains (arrivals since.part) (record { addr = from; bytes = raw }) → read raw ≡ Ok packet → is_handshake packet ≡ false
+        → Contains (arrivals since.part) (record { addr = from; bytes = raw }) → read raw ≡ Ok packet
+        → is_handshake packet ≡ false
         → destination packet ≡ socket.own → IsEmittedAs w other_since.part raw
     comes-since addr socket here from other there back since other_since raw packet among reads plain own_is =
         let was = near.said addr socket here _ (since.goes_on.arrived _ among) in
@@ -109,7 +116,8 @@ module _ {C : Type 0} (w : Ways C) where
         record {
           emission = was.emission;
           among = part-emitted w other.history other_since was.emission packet
-              (subst (λ (x : Enrolled C). Contains (emitted w x.history) was.emission) same was.emits) (ap read was.same ∙ reads) plain;
+              (subst (λ (x : Enrolled C). Contains (emitted w x.history) was.emission) same was.emits)
+              (ap read was.same ∙ reads) plain;
           same = was.same;
         }
 
@@ -130,7 +138,8 @@ module _ {C : Type 0} (w : Ways C) where
           (comes-since addr socket here from other there back since other_since)
 
       -- what a socket since it was connected names lies between these, where its own peer has it
-      names-near : (emission : Emission) (offset : ℕ) → Contains (emitted w since.part) emission → Contains emission.offsets offset
+      names-near : (emission : Emission) (offset : ℕ) → Contains (emitted w since.part) emission
+          → Contains emission.offsets offset
           → LiesBetween (start_of socket.history) high offset
       names-near emission offset among named =
           let between = all-between w since.part since.begins high own-few below emission offset among named in
@@ -169,10 +178,12 @@ module _ {C : Type 0} (w : Ways C) where
         elim (stands-connects w net lawful addr was.socket was.stands) [
           | inl idle ↦ never-emits w was.socket.history idle.never was.emission packet was.emits (ap read was.same ∙ reads) plain
           | inr mine ↦
-              let own = named-by w net lawful near.said from other there addr socket.own was.socket was.stands back names theirs mine in
+              let own = named-by w net lawful near.said from other there addr socket.own was.socket was.stands back
+              names theirs mine in
               let same = same-socket w net lawful addr was.socket socket was.stands here own in
               never-emits w socket.history never was.emission packet
-              (subst (λ (x : Enrolled C). Contains (emitted w x.history) was.emission) same was.emits) (ap read was.same ∙ reads) plain
+              (subst (λ (x : Enrolled C). Contains (emitted w x.history) was.emission) same was.emits)
+              (ap read was.same ∙ reads) plain
         ]
 
     -- so what it emits lies near where this one stands, which is where both begin
@@ -183,7 +194,8 @@ module _ {C : Type 0} (w : Ways C) where
         → (emission : Emission) (packet : Packet) (offset : ℕ) → Contains (emitted w other.history) emission
         → read emission.datagram.bytes ≡ Ok packet → is_handshake packet ≡ false → Contains emission.offsets offset
         → IsClose offset (read_by (after_items w socket.history.opening front) packet)
-    idle-near addr socket here idle front rest joined from other there back theirs emission packet offset among reads plain named =
+    idle-near addr socket here idle front rest joined from other there back theirs emission packet offset among
+        reads plain named =
         let h = socket.history in
         let never = idle.never in
         let legal = (stands-socket w net lawful addr socket here).legal in
@@ -195,7 +207,8 @@ module _ {C : Type 0} (w : Ways C) where
         let so = names-so w other.history (record { addr = addr; id = socket.own }) back in
         let peer_is = sym (last_peer w since.part since.begins) ∙ ap (λ (s : State C). s.peer) (sym since.goes_on.ends) in
         let own_is = since.name.own ∙ socket-own w other (stands-socket w net lawful from other there) in
-        let none = λ (raw : List ℕ) (it : Packet) (came : Contains (arrivals since.part) (datagram_from since.part.opening.peer.addr raw))
+        let none = λ (raw : List ℕ) (it : Packet)
+        (came : Contains (arrivals since.part) (datagram_from since.part.opening.peer.addr raw))
         (reads_it : read raw ≡ Ok it) (plain_it : is_handshake it ≡ false) (bound : destination it ≡ since.part.opening.own).
         idle-silent addr socket here never from other there back theirs raw it
         (subst (λ (a : Addr). Contains (arrivals other.history) (datagram_from a raw))
@@ -203,14 +216,16 @@ module _ {C : Type 0} (w : Ways C) where
         let start = starts-as_peer w net lawful near.said from other there addr socket here back never.begun theirs in
         let same = since.same_start in
         let taken = near.taken from other there in
-        let between = all-between w since.part since.begins most (omega (arith, start, same, taken, ap length since.goes_on.accepted))
+        let between = all-between w since.part since.begins most
+        (omega (arith, start, same, taken, ap length since.goes_on.accepted))
         (silent-below w since.part most none) emission offset
         (part-emitted w other.history since emission packet among reads plain) named in
         let at = read-between (after_items w h.opening front) packet 0 most
         (omega (arith, state.top), omega (arith, state.top)) (omega (arith, state.first), omega (arith, state.first)) in
         both-close 0 most offset _ (omega (arith, few)) (omega (arith, between.0)) between.1 at.0 at.1
 
-    plain-near : (addr : Addr) (socket : Enrolled C) → StandsAt net addr socket → (front : List Item) (item : Item) (rest : List Item)
+    plain-near : (addr : Addr) (socket : Enrolled C) → StandsAt net addr socket
+        → (front : List Item) (item : Item) (rest : List Item)
         (from : Addr) (raw : List ℕ) → socket.history.items ≡ front ++ item ∷ rest → item.event.act ≡ Arrive from raw
         → (was : WasSaid w net from addr raw) (packet : Packet) (offset : ℕ) → read raw ≡ Ok packet → is_handshake packet ≡ false
         → Contains was.emission.offsets offset
@@ -222,20 +237,24 @@ module _ {C : Type 0} (w : Ways C) where
         let back = subst (λ (id : ℕ). own_peer w other.history ≡ Some (record { addr = addr; id = id })) own_is
         (said-bound w net lawful from addr raw was packet reads (packet-bound packet plain)) in
         elim (stands-connects w net lawful from other was.stands) [
-          | inl idle ↦ absurd (never-emits w other.history idle.never was.emission packet was.emits (ap read was.same ∙ reads) plain)
+          | inl idle ↦ absurd (never-emits w other.history idle.never was.emission packet was.emits
+              (ap read was.same ∙ reads) plain)
           | inr theirs ↦ elim (stands-connects w net lawful addr socket here) [
-            | inl idle ↦ idle-near addr socket here idle front (item ∷ rest) joined from other was.stands back theirs was.emission packet
-                offset was.emits (ap read was.same ∙ reads) plain named
+            | inl idle ↦ idle-near addr socket here idle front (item ∷ rest) joined from other was.stands back theirs
+                was.emission packet offset was.emits (ap read was.same ∙ reads) plain named
             | inr mine ↦
                 let names = names-back w net lawful near.said from other was.stands addr socket here back mine in
                 let since = connects-part w net lawful addr socket here mine in
                 let other_since = connects-part w net lawful from other was.stands theirs in
-                let connected = parts-connected w net lawful near.said from other was.stands addr socket here back names theirs mine in
+                let connected = parts-connected w net lawful near.said from other was.stands addr socket here back
+                names theirs mine in
                 let there = connected-back w from other.own other_since.part addr socket.own since.part connected in
                 let starts = connected.same_start in
-                let between = names-near from other was.stands addr socket here names other_since since connected was.emission offset
+                let between = names-near from other was.stands addr socket here names other_since since connected
+                was.emission offset
                 (part-emitted w other.history other_since was.emission packet was.emits (ap read was.same ∙ reads) plain) named in
-                let state = state-near addr socket here from other was.stands back since other_since there front (item ∷ rest) joined in
+                let state = state-near addr socket here from other was.stands back since other_since there front
+                (item ∷ rest) joined in
                 let low = start_of socket.history in
                 let start = since.same_start in
                 let other_start = other_since.same_start in
@@ -246,19 +265,24 @@ module _ {C : Type 0} (w : Ways C) where
         ]
 
     -- each arrival lies near the state in which it comes
-    was-near : (addr : Addr) (socket : Enrolled C) → StandsAt net addr socket → (front : List Item) (item : Item) (rest : List Item)
+    was-near : (addr : Addr) (socket : Enrolled C) → StandsAt net addr socket
+        → (front : List Item) (item : Item) (rest : List Item)
         (from : Addr) (raw : List ℕ) → socket.history.items ≡ front ++ item ∷ rest → item.event.act ≡ Arrive from raw
-        → (was : WasSaid w net from addr raw) (packet : Packet) (offset : ℕ) → read raw ≡ Ok packet → Contains was.emission.offsets offset
+        → (was : WasSaid w net from addr raw) (packet : Packet) (offset : ℕ) → read raw ≡ Ok packet
+        → Contains was.emission.offsets offset
         → IsClose offset (read_by (after_items w socket.history.opening front) packet)
     was-near addr socket here front item rest from raw joined arrives was packet offset reads named =
-        elim (is_handshake packet) as (λ shakes. is_handshake packet ≡ shakes → IsClose offset (read_by (after_items w socket.history.opening front) packet)) [
+        elim (is_handshake packet) as (λ shakes. is_handshake packet ≡ shakes
+        → IsClose offset (read_by (after_items w socket.history.opening front) packet)) [
           | true ↦ λ shakes.
-              absurd (shake-names_none was.socket (stands-socket w net lawful from was.socket was.stands) was.emission packet offset was.emits
-              (ap read was.same ∙ reads) shakes named)
-          | false ↦ λ plain. plain-near addr socket here front item rest from raw joined arrives was packet offset reads plain named
+              absurd (shake-names_none was.socket (stands-socket w net lawful from was.socket was.stands) was.emission packet
+              offset was.emits (ap read was.same ∙ reads) shakes named)
+          | false ↦ λ plain. plain-near addr socket here front item rest from raw joined arrives was packet
+              offset reads plain named
         ] refl
 
-  pub near-honest : (net : List (EndpointRecord C)) (most : ℕ) → AreLawful w net → most < 2 ^ 30 → AreNear net most → IsHonest w net
+  pub near-honest : (net : List (EndpointRecord C)) (most : ℕ) → AreLawful w net → most < 2 ^ 30 → AreNear net most
+      → IsHonest w net
   near-honest net most lawful few near addr socket here =
       items-honest net addr socket.history.opening socket.history.items (λ front item rest from raw joined arrives.
       let was = near.said addr socket here (datagram_from from raw)
@@ -270,5 +294,6 @@ module _ {C : Type 0} (w : Ways C) where
         emits = was.emits;
         datagram = datagram-is was.emission.datagram addr raw was.sent_to was.same;
         close = λ packet offset reads named.
-            was-near net most lawful few near addr socket here front item rest from raw joined arrives was packet offset reads named;
+            was-near net most lawful few near addr socket here front item rest from raw joined arrives was packet
+            offset reads named;
       })

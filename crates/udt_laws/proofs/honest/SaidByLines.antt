@@ -1,5 +1,6 @@
 -- What arrives at a socket of a script was emitted by one of them for its host, and none takes more bytes than the lines have.
-use Rattle.std.proofs.Common.{◌≡◌, ◌⊎◌, ℕ, zero, suc, ◌+◌, ◌-◌, ◌≤◌, true, false, List, [], ◌∷◌, ◌++◌, length, Some, None, Ok, Option, refl, ap, ◌∙◌, sym, subst, inl, inr, arith}
+use Rattle.std.proofs.Common.{◌≡◌, ◌⊎◌, ℕ, zero, suc, ◌+◌, ◌-◌, ◌≤◌, true, false, List, [], ◌∷◌, ◌++◌, length, Some, None, Ok}
+use Rattle.std.proofs.Common.{Option, refl, ap, ◌∙◌, sym, subst, inl, inr, arith}
 use Rattle.std.specs.Prelude.{◌==◌, slice_get, slice_set, map, if◌then◌else◌}
 use Rattle.std.specs.List.{Contains}
 use Rattle.std.proofs.lemmas.Bool.{cases_eq}
@@ -44,7 +45,8 @@ not-shake packet is = refl
 
 enrolled-id : (k : Known) (from : Addr) (dest id : ℕ) → to_named k from (suc dest) None ≡ RoutedTo id → id - 1 + 1 ≡ suc dest
 enrolled-id k from dest id is =
-    elim (k.is_enrolled (suc dest)) as (λ enrolled. (if enrolled then RoutedTo (suc dest) else Id) ≡ RoutedTo id → id - 1 + 1 ≡ suc dest) [
+    elim (k.is_enrolled (suc dest)) as
+        (λ enrolled. (if enrolled then RoutedTo (suc dest) else Id) ≡ RoutedTo id → id - 1 + 1 ≡ suc dest) [
       | true ↦ λ e.
           let same : suc dest ≡ id = cc in
           omega (arith, same)
@@ -54,7 +56,8 @@ enrolled-id k from dest id is =
 named-id : (k : Known) (from : Addr) (dest id : ℕ) → to_target k from (Some dest) None ≡ RoutedTo id → id - 1 + 1 ≡ dest
 named-id k from zero id is = absurd (cc)
 named-id k from (suc dest) id is =
-    elim (suc dest == 0) as (λ none. (if none then to_unnamed k from None else to_named k from (suc dest) None) ≡ RoutedTo id → id - 1 + 1 ≡ suc dest) [
+    elim (suc dest == 0) as (λ none. (if none then to_unnamed k from None else to_named k from (suc dest) None) ≡ RoutedTo id
+        → id - 1 + 1 ≡ suc dest) [
       | true ↦ λ e. absurd (cc)
       | false ↦ λ e. enrolled-id k from dest id e
     ] is
@@ -105,7 +108,8 @@ module _ {C : Type 0} (w : Ways C) where
     unfolding emitted_by
     emits-now emission among =
         subst (λ (l : List Emission). Contains l emission) (sym (emitted_by-append w h.opening h.items (next ∷ [])))
-        (Contains-append_right (emitted w h) _ emission (Contains-append_left (step w (state_of w h) event).emissions [] emission among))
+        (Contains-append_right (emitted w h) _ emission
+        (Contains-append_left (step w (state_of w h) event).emissions [] emission among))
 
     came-before : (came : Datagram) → Contains (arrivals (happened w h 0 event)) came
         → Contains (arrivals h) came ⊎ Contains (arrived_by_act event.act) came
@@ -128,7 +132,8 @@ module _ {C : Type 0} (w : Ways C) where
 
   -- ---- more bytes, datagrams and sockets
 
-  served-more : (size more place : ℕ) (datagrams outs : List ScriptDatagram) (socket : ScriptSocket C) → IsServed size datagrams place socket
+  served-more : (size more place : ℕ) (datagrams outs : List ScriptDatagram) (socket : ScriptSocket C)
+      → IsServed size datagrams place socket
       → IsServed (size + more) (datagrams ++ outs) place socket
   served-more size more place datagrams outs socket is = record {
     came = λ came among.
@@ -137,7 +142,8 @@ module _ {C : Type 0} (w : Ways C) where
     taken = omega (arith, is.taken);
   }
 
-  sized-more : (size more place : ℕ) (datagrams : List ScriptDatagram) (socket : ScriptSocket C) → IsServed size datagrams place socket
+  sized-more : (size more place : ℕ) (datagrams : List ScriptDatagram) (socket : ScriptSocket C)
+      → IsServed size datagrams place socket
       → IsServed (size + more) datagrams place socket
   sized-more size more place datagrams socket is = record { came = is.came; taken = omega (arith, is.taken) }
 
@@ -149,7 +155,8 @@ module _ {C : Type 0} (w : Ways C) where
     taken = omega (arith, ap (λ (l : List Item). length (accepted_by l)) fresh);
   }
 
-  said-more : (sockets added : List (ScriptSocket C)) (datagram : ScriptDatagram) → IsSaid sockets datagram → IsSaid (sockets ++ added) datagram
+  said-more : (sockets added : List (ScriptSocket C)) (datagram : ScriptDatagram) → IsSaid sockets datagram
+      → IsSaid (sockets ++ added) datagram
   said-more sockets added datagram is = record {
     place = is.place;
     socket = is.socket;
@@ -162,7 +169,8 @@ module _ {C : Type 0} (w : Ways C) where
   }
 
   -- sockets to which nothing happened are added
-  added-served : (size : ℕ) (n : Network C) (added : List (ScriptSocket C)) → Each added (λ place socket. socket.history.items ≡ [])
+  added-served : (size : ℕ) (n : Network C) (added : List (ScriptSocket C))
+      → Each added (λ place socket. socket.history.items ≡ [])
       → AreServed size n → AreServed size (record n { sockets = n.sockets ++ added })
   added-served size n added fresh is = record {
     said = λ datagram among. said-more n.sockets added datagram (is.said datagram among);
@@ -171,7 +179,9 @@ module _ {C : Type 0} (w : Ways C) where
   }
 
   one-fresh : (one : ScriptSocket C) → one.history.items ≡ [] → Each (one ∷ []) (λ place socket. socket.history.items ≡ [])
-  one-fresh one fresh zero socket at = let same : one ≡ socket = cc in ap (λ (s : ScriptSocket C). s.history.items) (sym same) ∙ fresh
+  one-fresh one fresh zero socket at =
+      let same : one ≡ socket = cc in
+      ap (λ (s : ScriptSocket C). s.history.items) (sym same) ∙ fresh
   one-fresh one fresh (suc k) socket at = absurd (cc)
 
   two-fresh : (one two : ScriptSocket C) → one.history.items ≡ [] → two.history.items ≡ []
@@ -185,7 +195,8 @@ module _ {C : Type 0} (w : Ways C) where
 
   module _ (sockets : List (ScriptSocket C)) (place : ℕ) (old new : ScriptSocket C) (at : slice_get sockets place ≡ Some old)
       (host : new.host ≡ old.host)
-      (emits : (emission : Emission) → Contains (emitted w old.history) emission → Contains (emitted w new.history) emission) where
+      (emits : (emission : Emission) → Contains (emitted w old.history) emission
+      → Contains (emitted w new.history) emission) where
     set-said : (datagram : ScriptDatagram) → IsSaid sockets datagram → IsSaid (slice_set sockets place new) datagram
     set-said datagram said = elim (cases_eq place said.place) [
       | inl same ↦
@@ -197,7 +208,8 @@ module _ {C : Type 0} (w : Ways C) where
             emission = said.emission;
             at = set-same sockets place old new at;
             host = host ∙ ap (λ (s : ScriptSocket C). s.host) is ∙ said.host;
-            emits = emits said.emission (subst (λ (s : ScriptSocket C). Contains (emitted w s.history) said.emission) (sym is) said.emits);
+            emits = emits said.emission
+                (subst (λ (s : ScriptSocket C). Contains (emitted w s.history) said.emission) (sym is) said.emits);
             sent_to = said.sent_to;
             same = said.same;
           }
@@ -257,7 +269,8 @@ module _ {C : Type 0} (w : Ways C) where
     unfolding event_at
     event-served = record {
       said = λ datagram among. elim (Contains-append_cases n.datagrams outs datagram among) [
-        | inl old ↦ set-said n.sockets place socket after at refl (emits-before socket.history event) datagram (is.said datagram old)
+        | inl old ↦ set-said n.sockets place socket after at refl (emits-before socket.history event) datagram
+            (is.said datagram old)
         | inr new ↦ now-said datagram new
       ];
       each = each-set n.sockets place socket after (IsServed (size + more) (n.datagrams ++ outs)) at
@@ -266,8 +279,10 @@ module _ {C : Type 0} (w : Ways C) where
 
   -- ---- what comes
 
-  module _ (n : Network C) (place : ℕ) (socket : ScriptSocket C) (datagram : ScriptDatagram) (comes : Comes w ⊥ n place socket datagram) where
-    bound-there : (packet : Packet) → read datagram.bytes ≡ Ok packet → is_handshake packet ≡ false → destination packet ≡ place + 1
+  module _ (n : Network C) (place : ℕ) (socket : ScriptSocket C) (datagram : ScriptDatagram)
+      (comes : Comes w ⊥ n place socket datagram) where
+    bound-there : (packet : Packet) → read datagram.bytes ≡ Ok packet → is_handshake packet ≡ false
+        → destination packet ≡ place + 1
     bound-there packet reads plain =
         let none = ap handshake_in reads ∙ not-shake packet plain in
         elim comes.why [
@@ -277,20 +292,23 @@ module _ {C : Type 0} (w : Ways C) where
               let to = ap (λ (t : Option ℕ). to_target known datagram.from t (handshake_in (read datagram.bytes)))
               (sym (target-of-read datagram.bytes packet reads)) ∙ routed.goes in
               let named = named-id known datagram.from (destination packet) routed.id
-              (subst (λ (shake : Option Shake). to_target known datagram.from (Some (destination packet)) shake ≡ RoutedTo routed.id) none to) in
+              (subst (λ (shake : Option Shake). to_target known datagram.from (Some (destination packet)) shake
+              ≡ RoutedTo routed.id) none to) in
               omega (arith, named, routed.place_is)
           | inr made ↦
               let reads_too = made.reads in
               absurd (cc)
         ]
 
-    came-there : (came : Datagram) → Contains (arrived_by_act (Arrive datagram.from datagram.bytes)) came → CameThere n.datagrams socket.host place came
+    came-there : (came : Datagram) → Contains (arrived_by_act (Arrive datagram.from datagram.bytes)) came
+        → CameThere n.datagrams socket.host place came
     came-there came among = elim (contained-cases (record { addr = datagram.from; bytes = datagram.bytes }) [] came among) [
       | inl same ↦ subst (CameThere n.datagrams socket.host place) same (record {
           among = elim comes.came [
             | inl raw ↦ absurd raw
             | inr there ↦ subst (Contains n.datagrams)
-                (sym (between-same datagram.from socket.host datagram.from datagram.to datagram.bytes datagram.bytes refl comes.host refl)) there
+                (sym (between-same datagram.from socket.host datagram.from datagram.to datagram.bytes
+                datagram.bytes refl comes.host refl)) there
           ];
           bound = bound-there;
         })
@@ -315,12 +333,14 @@ module _ {C : Type 0} (w : Ways C) where
         subst (λ (k : ℕ). AreServed k (event_at w n place socket event).network) sum one;
     name = λ size n place socket name at is. record {
       said = λ datagram among.
-          set-said n.sockets place socket (record socket { name = name }) at refl (λ emission h. h) datagram (is.said datagram among);
+          set-said n.sockets place socket (record socket { name = name }) at refl (λ emission h. h) datagram
+              (is.said datagram among);
       each = each-set n.sockets place socket (record socket { name = name }) (IsServed size n.datagrams) at is.each
           (record { came = (is.each place socket at).came; taken = (is.each place socket at).taken });
     };
     arrival = λ size n now place socket datagram comes is.
-        event-served size 1 n place socket (arrival_of now datagram) comes.at (omega arith) (came-there n place socket datagram comes) is;
+        event-served size 1 n place socket (arrival_of now datagram) comes.at (omega arith)
+            (came-there n place socket datagram comes) is;
     made = λ size n now place listener datagram shake gets before after. added-served (size + 1) _ _ (one-fresh _ refl) after;
   }
 

@@ -13,7 +13,8 @@ use Rattle.udt_model.specs.Records.{Enrolled, StandsAt, PeerPair, own_peer}
 use Rattle.udt_model.specs.Script.{size_of, network_after}
 use Rattle.udt_model.specs.State.{Datagram}
 use Rattle.udt_laws.specs.Laws.{IsStream, CarriesMessages, HasHeard, peer_isn, AreInStep, ShowsMessages}
-use Rattle.udt_laws.specs.Scripts.{enrolled_at, HasLawfulRecords, ScriptLawful, HasPeerThere, ScriptAdoption, ScriptPrefix, ScriptMessages}
+use Rattle.udt_laws.specs.Scripts.{enrolled_at, HasLawfulRecords, ScriptLawful, HasPeerThere}
+use Rattle.udt_laws.specs.Scripts.{ScriptAdoption, ScriptPrefix, ScriptMessages}
 use Rattle.udt_laws.proofs.adoption.MutualAdoption.{mutual_adoption}
 use Rattle.udt_laws.proofs.adoption.SocketsInStep.{prefix, messages}
 use Rattle.udt_laws.proofs.sockets.WasSaid.{WasSaid}
@@ -61,7 +62,8 @@ module _ {C : Type 0} (w : Ways C) where
       bound = λ addr socket stands datagram among packet reads plain.
           (came-there addr socket stands datagram among).bound packet reads plain ∙ sym (has.among addr socket stands).own_is;
       taken = λ addr socket stands. rw (has.among addr socket stands).history_is
-          (served.each (has.among addr socket stands).place (has.among addr socket stands).socket (has.among addr socket stands).at).taken;
+          (served.each (has.among addr socket stands).place (has.among addr socket stands).socket
+          (has.among addr socket stands).at).taken;
     }
 
   module _ (lawful : ScriptLawful w) (lines : List (List ℕ)) (few : size_of lines < 2 ^ 30) (emitted : AreEmitted lines) where
@@ -72,13 +74,15 @@ module _ {C : Type 0} (w : Ways C) where
     has = lawful lines
 
     records-honest : IsHonest w has.net
-    records-honest = near-honest w has.net (size_of lines) has.lawful few (network-near n (size_of lines) has (lines-served w lines emitted))
+    records-honest = near-honest w has.net (size_of lines) has.lawful few
+        (network-near n (size_of lines) has (lines-served w lines emitted))
 
     peer-there : (place : ℕ) (socket : ScriptSocket C) (peer : PeerPair) → slice_get n.sockets place ≡ Some socket
         → own_peer w socket.history ≡ Some peer → HasHeard w socket.history → HasPeerThere w n place socket peer
     peer-there place socket peer at names heard =
         let there = has.stands place socket at in
-        let met = mutual_adoption w has.net socket.host (enrolled_at place there.way socket) peer has.lawful records-honest there.stands names heard in
+        let met = mutual_adoption w has.net socket.host (enrolled_at place there.way socket) peer has.lawful records-honest
+        there.stands names heard in
         let is = has.among peer.addr met.other met.stands in
         record {
           peer_place = is.place;
@@ -107,10 +111,12 @@ module _ {C : Type 0} (w : Ways C) where
           let there = has.stands place socket at in
           let other = has.stands peer_place peer peer_at in
           messages w has.net socket.host (enrolled_at place there.way socket) (enrolled_at peer_place other.way peer)
-          (record { addr = peer.host; id = peer_place + 1 }) has.lawful records-honest there.stands carries names other.stands refl
+          (record { addr = peer.host; id = peer_place + 1 }) has.lawful records-honest there.stands carries names
+          other.stands refl
 
   pub script_adoption : ScriptLawful w → ScriptAdoption w
-  script_adoption lawful lines place socket peer few emitted at names heard = peer-there lawful lines few emitted place socket peer at names heard
+  script_adoption lawful lines place socket peer few emitted at names heard =
+      peer-there lawful lines few emitted place socket peer at names heard
 
   pub script_prefix : ScriptLawful w → ScriptPrefix w
   script_prefix lawful lines place peer_place socket peer few emitted at peer_at stream names =

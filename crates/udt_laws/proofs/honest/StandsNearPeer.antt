@@ -1,5 +1,7 @@
--- The top of a history whose peer's datagrams alone arrive stays between its start and as many more as bytes that the peer accepted.
-use Rattle.std.proofs.Common.{◌≡◌, ℕ, ◌+◌, ◌^◌, ◌<◌, ◌≤◌, true, false, List, [], ◌∷◌, ◌++◌, length, Ok, refl, ap, ◌∙◌, sym, subst, arith}
+-- The top of a history whose peer's datagrams alone arrive stays between its start and as many more as bytes that the
+-- peer accepted.
+use Rattle.std.proofs.Common.{◌≡◌, ℕ, ◌+◌, ◌^◌, ◌<◌, ◌≤◌, true, false, List, [], ◌∷◌, ◌++◌, length, Ok, refl, ap, ◌∙◌, sym}
+use Rattle.std.proofs.Common.{subst, arith}
 use Rattle.std.specs.List.{Contains}
 use Rattle.std.proofs.lemmas.List.{length-append}
 use Rattle.std.proofs.lemmas.List.Elements.{Contains-append_left, Contains-append_right, Contains-push}
@@ -118,7 +120,8 @@ module _ {C : Type 0} (w : Ways C) where
       (comes : (raw : List ℕ) (packet : Packet) → Contains (arrivals h) (record { addr = at; bytes = raw }) → read raw ≡ Ok packet
       → is_handshake packet ≡ false → destination packet ≡ own → IsEmittedAs w g raw) where
     last-isn : (s : State C) → s.receiving.isn ≡ h.opening.receiving.isn → (state_of w g).sending.isn ≡ s.receiving.isn
-    last-isn s isn_is = last_isn w g connected.other_begins ∙ sym connected.isn ∙ sym (begins_receiving w h connected.begins) ∙ sym isn_is
+    last-isn s isn_is =
+        last_isn w g connected.other_begins ∙ sym connected.isn ∙ sym (begins_receiving w h connected.begins) ∙ sym isn_is
 
     pub peer-below : AllBelow h high
     peer-below s (Arrive from raw) own_same peer_is same_isn stands among =
@@ -126,19 +129,22 @@ module _ {C : Type 0} (w : Ways C) where
         let starts = connected.same_start in
         let own_is = own_same ∙ connected.own_is in
         let isn_is = last-isn s same_isn in
-        let came = λ (from_is : from ≡ s.peer.addr). subst (λ (a : Addr). Contains (arrivals h) (record { addr = a; bytes = raw }))
+        let came = λ (from_is : from ≡ s.peer.addr).
+        subst (λ (a : Addr). Contains (arrivals h) (record { addr = a; bytes = raw }))
         (from_is ∙ ap (λ (p : Peer). p.addr) peer_is ∙ connected.peer_addr) (among _ (Contains-push [] _)) in
         record {
           places = λ number flags stamp payload offset from_is reads found.
               let is = comes raw (Block number flags stamp s.own payload) (came from_is) reads refl own_is in
-              let carries = carries-block w g begins is.emission number flags stamp s.own payload is.among (ap read is.same ∙ reads) in
+              let carries = carries-block w g begins is.emission number flags stamp s.own payload is.among
+              (ap read is.same ∙ reads) in
               let named = subst (λ (offsets : List ℕ). Contains offsets carries.offset) (sym carries.names)
               (Contains-push [] carries.offset) in
               let there = block-between w g begins is.emission number flags stamp s.own payload carries.offset is.among
               (ap read is.same ∙ reads) named in
-              let same = reads-offset s.receiving.isn (state_of w g).sending.isn s.receiving.top number carries.offset offset isn_is
-              carries.numbered
-              (omega (arith, there.1, few, starts, room, stands.not_below), omega (arith, there.0, starts, room, stands.not_above))
+              let same = reads-offset s.receiving.isn (state_of w g).sending.isn s.receiving.top number carries.offset offset
+              isn_is carries.numbered
+              (omega (arith, there.1, few, starts, room, stands.not_below),
+              omega (arith, there.0, starts, room, stands.not_above))
               found in
               omega (arith, same, there.1, few, starts);
           drops = λ message stamp first last range from_is reads taken.
@@ -146,9 +152,10 @@ module _ {C : Type 0} (w : Ways C) where
               let ends = names-last w g begins is.emission message stamp s.own first last is.among (ap read is.same ∙ reads) in
               let there = drop-between w g begins is.emission message stamp s.own first last ends.offset is.among
               (ap read is.same ∙ reads) ends.named in
-              let same = reads-offset s.receiving.isn (state_of w g).sending.isn s.receiving.top last ends.offset range.last isn_is
-              ends.numbered
-              (omega (arith, there.1, few, starts, room, stands.not_below), omega (arith, there.0, starts, room, stands.not_above))
+              let same = reads-offset s.receiving.isn (state_of w g).sending.isn s.receiving.top last ends.offset range.last
+              isn_is ends.numbered
+              (omega (arith, there.1, few, starts, room, stands.not_below),
+              omega (arith, there.0, starts, room, stands.not_above))
               (drop_range-is s.receiving first last range taken).last_near in
               omega (arith, same, there.1, few, starts);
         }

@@ -43,16 +43,19 @@ module _ {C : Type 0} where
   -- the data packets and the message drop requests that come from the peer are read as offsets below this
   pub record BringsBelow (high : ℕ) (s : State C) (from : Addr) (raw : List ℕ) : Type 0 where
     pub places : (number : ℕ) (flags : Flags) (stamp : ℕ) (payload : List ℕ) (offset : ℕ) → from ≡ s.peer.addr
-        → read raw ≡ Ok (Block number flags stamp s.own payload) → near s.receiving.isn s.receiving.top number ≡ Some offset → offset < high
+        → read raw ≡ Ok (Block number flags stamp s.own payload) → near s.receiving.isn s.receiving.top number ≡ Some offset
+        → offset < high
     pub drops : (message stamp first last : ℕ) (range : LostRange) → from ≡ s.peer.addr
-        → read raw ≡ Ok (DropAsk message stamp s.own first last) → drop_range s.receiving first last ≡ Some range → range.last < high
+        → read raw ≡ Ok (DropAsk message stamp s.own first last) → drop_range s.receiving first last ≡ Some range
+        → range.last < high
 
   abbrev pub MeetsBelow : ℕ → State C → Act → Type 0
   MeetsBelow high s (Arrive from raw) = BringsBelow high s from raw
   MeetsBelow high s act = Unit {0}
 
 module _ {C : Type 0} (w : Ways C) (low high : ℕ) where
-  brings : (s : State C) (act : Act) (from : Addr) (raw : List ℕ) → MeetsBelow high s act → act ≡ Arrive from raw → BringsBelow high s from raw
+  brings : (s : State C) (act : Act) (from : Addr) (raw : List ℕ) → MeetsBelow high s act → act ≡ Arrive from raw
+      → BringsBelow high s from raw
   brings s act from raw meets is = subst (MeetsBelow high s) is meets
 
   pub step-stands_below : (s : State C) (event : Event) → is_settled s.phase ≡ true → MeetsBelow high s event.act

@@ -1,7 +1,8 @@
 -- The history of a socket since it was connected, which begins as connected: all of it, where the socket was opened
 -- so, and else what follows the handshake that connected it. Before, nothing is taken or given, and no more than
 -- handshakes are emitted.
-use Rattle.std.proofs.Common.{◌≡◌, ℕ, ◌^◌, ◌<◌, ◌≤◌, true, false, List, ◌∷◌, ◌++◌, length, Ok, refl, ap, ◌∙◌, sym, subst, inl, inr, ◌⊎◌, arith}
+use Rattle.std.proofs.Common.{◌≡◌, ℕ, ◌^◌, ◌<◌, ◌≤◌, true, false, List, ◌∷◌, ◌++◌, length, Ok, refl, ap, ◌∙◌, sym, subst, inl}
+use Rattle.std.proofs.Common.{inr, ◌⊎◌, arith}
 use Rattle.std.specs.List.{Contains}
 use Rattle.udt_model.specs.declared.answers.Heard.TheVariants as heard
 use Rattle.udt_model.specs.declared.answers.Origin.{Origin}
@@ -10,7 +11,8 @@ use Rattle.udt_model.specs.declared.packets.Config.{Config}
 use Rattle.udt_model.specs.Counted.{on_control}
 use Rattle.udt_model.specs.Emissions.{emitted}
 use Rattle.udt_model.specs.Events.{Outcome, at_moment}
-use Rattle.udt_model.specs.History.{Item, History, after_items, state_of, start_of, IsLegal, acked, arrived, gapless, placed_offsets}
+use Rattle.udt_model.specs.History.{Item, History, after_items, state_of, start_of, IsLegal, acked, arrived, gapless}
+use Rattle.udt_model.specs.History.{placed_offsets}
 use Rattle.udt_model.specs.Opening.{connected, opened, opening, IsOpened, IsOpening}
 use Rattle.udt_model.specs.Rate.{Ways}
 use Rattle.udt_model.specs.Records.{Way, Opened, Paired, PairedAt, IsWay, opened_by, Enrolled, IsSocket, peer_by, own_peer}
@@ -127,10 +129,11 @@ module _ {C : Type 0} (w : Ways C) where
         at.linked.emissions
         (unlinked-some w config 0 t in_range.values.payload at.unlinked) known.knows agrees at.linked.links
 
-    -- before it, the halves are idle
+    -- what follows the handshake that connects it
     abbrev since_item : IsConnectedAt w config 0 h.opening h.items → History C
     since_item at = record { opening = (step w (after_items w h.opening at.front) at.item.event).after; items = at.rest }
 
+    -- before that the halves are idle
     idle_front : (front rest first : List Item) → IsUnlinked w config 0 (after_items w h.opening first)
         → first ≡ front ++ rest → AreIdle w (start_of h) (after_items w h.opening front)
     idle_front front rest first unlinked same =

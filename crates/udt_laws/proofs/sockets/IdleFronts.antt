@@ -10,8 +10,11 @@ use Rattle.udt_model.specs.History.{Item, after_items}
 use Rattle.udt_model.specs.Losses.{LostRange}
 use Rattle.udt_model.specs.Rate.{Ways}
 use Rattle.udt_model.specs.ReceiveHalf.{Receiving}
-use Rattle.udt_model.specs.SendHalf.{Sending, send_answer, message_answer, expiry_of, after_answer, after_send, after_send_message, Packing, Waits, Retransmits, Drops, Sends, Idles, after_packing, acked_of}
-use Rattle.udt_model.specs.SendReports.{Acking, Acks, IsStale, acking, acked_number, sampled, released, measured, after_acking, after_ack, entering, after_entering, after_nak, after_timeout}
+use Rattle.udt_model.specs.SendHalf.{Sending, send_answer, message_answer, expiry_of, after_answer, after_send}
+use Rattle.udt_model.specs.SendHalf.{after_send_message, acked_of}
+use Rattle.udt_model.specs.SendHalf.{Packing, Waits, Retransmits, Drops, Sends, Idles, after_packing}
+use Rattle.udt_model.specs.SendReports.{Acking, Acks, IsStale, acking, acked_number, sampled, released, measured, after_acking}
+use Rattle.udt_model.specs.SendReports.{after_ack, entering, after_entering, after_nak, after_timeout}
 use Rattle.udt_model.specs.State.{State}
 use Rattle.udt_model.specs.Step.{step}
 use Rattle.udt_model.specs.Timing.{RoundTrip}
@@ -28,7 +31,9 @@ pub data SplitsMeet {A : Type 0} (front rest first : List A) (middle : A) (last 
 pub splits-meet : {A : Type 0} (front rest first : List A) (middle : A) (last : List A) → front ++ rest ≡ first ++ middle ∷ last
     → SplitsMeet front rest first middle last
 splits-meet [] rest first middle last same = Within first refl
-splits-meet (a ∷ front) rest [] middle last same = let head : a ≡ middle = cc in let tail : front ++ rest ≡ last = cc in
+splits-meet (a ∷ front) rest [] middle last same =
+    let head : a ≡ middle = cc in
+    let tail : front ++ rest ≡ last = cc in
     Beyond front (ap (λ x. x ∷ front) head) (sym tail)
 splits-meet (a ∷ front) rest (b ∷ first) middle last same =
     let head : a ≡ b = cc in
@@ -106,6 +111,7 @@ module _ {C : Type 0} (w : Ways C) where
   timeout-controlled s known has =
       either-controlled (nat_lt (acked_of s) s.next) _ s (λ none. has (map-none _ s.control none)) has
 
+  -- no event takes the control of a half
   step-controlled : (s : State C) (event : Event) → IsControlled s.sending → IsControlled (step w s event).after.sending
   step-controlled s event has = sending-shows w s event (λ sending. IsControlled sending) (record {
     stays = has;
@@ -130,6 +136,7 @@ module _ {C : Type 0} (w : Ways C) where
     pub first : acked_of s.sending ≡ start
 
   module _ (config : Config) (start : ℕ) where
+    -- while no control is given, a state without a connection stays so
     front-unlinked : (s : State C) (front more : List Item) → IsUnlinked w config start s
         → (after_items w s (front ++ more)).sending.control ≡ None → IsUnlinked w config start (after_items w s front)
     unfolding after_items
@@ -141,7 +148,7 @@ module _ {C : Type 0} (w : Ways C) where
           absurd (items-controlled (step w s item.event).after (front ++ more) (λ lacks. absurd (cc)) none)
     ]
 
-    -- so are those of an unlinked state's all fronts, as long as no control was given
+    -- and its halves stay as they were opened
     pub front-idle : (s : State C) (front more : List Item) → IsUnlinked w config start s
         → (after_items w s (front ++ more)).sending.control ≡ None → AreIdle start (after_items w s front)
     front-idle s front more unlinked none =
