@@ -119,9 +119,11 @@ module _ {C : Type 0} (w : Ways C) where
         let less = below.drops message stamp first last range sender asks taken in
         let takes = (drop_range-is t.receiving first last range taken).takes in
         let end = gap-below t.receiving.top range.first ends gap in
-        two-named (start_of h) high ends offset
-        (omega (arith, gap_is.from, stands.base, stands.fits.order.base), gap_is.order,
-        omega (arith, end, less, takes.some)) there
+        two-named (start_of h) high ends offset (
+          omega (arith, gap_is.from, stands.base, stands.fits.order.base),
+          gap_is.order,
+          omega (arith, end, less, takes.some),
+        ) there
     kind-between emission offset among t act reply (AnswersAck number connected is) reads named stands =
         absurd (none-named offset (subst (λ (l : List ℕ). Contains l offset) (ap (λ (e : Emission). e.offsets) is) named))
     kind-between emission offset among t act reply (SendsKeepAlive connected is) reads named stands =

@@ -21,7 +21,7 @@ use Rattle.udt_laws.proofs.sent_blocks.EmissionsRead.{packet_of}
 use Rattle.udt_laws.proofs.sent_blocks.NamedWasSent.{only-named, IsEndless, items-endless, moment-endless, begins-endless}
 use Rattle.udt_laws.proofs.sent_blocks.SentBlocks.{same-packet, begins-well, emission-at, emission-reads, carries-block}
 use Rattle.udt_laws.proofs.laid_messages.LayoutLemmas.{lies-from, first-covered}
-use Rattle.udt_laws.proofs.laid_messages.Members.{first-contained, other-contained}
+use Rattle.udt_model.proofs.Members.{first-contained, other-contained}
 use Rattle.udt_laws.proofs.laid_messages.PairMessages.{either-named, laid-within}
 use Rattle.udt_laws.proofs.laid_messages.SentMessages.{payload_of, sends_messages}
 

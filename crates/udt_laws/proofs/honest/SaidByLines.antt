@@ -23,7 +23,7 @@ use Rattle.udt_model.specs.Wire.{Packet, Handshake, is_handshake, destination, r
 use Rattle.udt_model.proofs.HistoryLemmas.{accepted_by-append}
 use Rattle.udt_model.proofs.RecordLemmas.{arrived_by-append, emitted_by-append, emission-of}
 use Rattle.udt_model.proofs.WireLemmas.{target-of-read}
-use Rattle.udt_laws.proofs.laid_messages.Members.{contained-cases, none-contained}
+use Rattle.udt_model.proofs.Members.{contained-cases, none-contained}
 use Rattle.udt_laws.proofs.scripts.EachSocket.{Each, each-set, each-more}
 use Rattle.udt_laws.proofs.scripts.KeptByLines.{arrival_of, Comes, KeptByLines, lines-keep}
 use Rattle.udt_laws.proofs.scripts.LineRanges.{size_of_act, taken-size}
@@ -46,7 +46,7 @@ not-shake packet is = refl
 enrolled-id : (k : Known) (from : Addr) (dest id : ℕ) → to_named k from (suc dest) None ≡ RoutedTo id → id - 1 + 1 ≡ suc dest
 enrolled-id k from dest id is =
     elim (k.is_enrolled (suc dest)) as
-        (λ enrolled. (if enrolled then RoutedTo (suc dest) else Id) ≡ RoutedTo id → id - 1 + 1 ≡ suc dest) [
+    (λ enrolled. (if enrolled then RoutedTo (suc dest) else Id) ≡ RoutedTo id → id - 1 + 1 ≡ suc dest) [
       | true ↦ λ e.
           let same : suc dest ≡ id = cc in
           omega (arith, same)
@@ -57,7 +57,7 @@ named-id : (k : Known) (from : Addr) (dest id : ℕ) → to_target k from (Some 
 named-id k from zero id is = absurd (cc)
 named-id k from (suc dest) id is =
     elim (suc dest == 0) as (λ none. (if none then to_unnamed k from None else to_named k from (suc dest) None) ≡ RoutedTo id
-        → id - 1 + 1 ≡ suc dest) [
+    → id - 1 + 1 ≡ suc dest) [
       | true ↦ λ e. absurd (cc)
       | false ↦ λ e. enrolled-id k from dest id e
     ] is
@@ -127,8 +127,13 @@ module _ {C : Type 0} (w : Ways C) where
     takes-more : length (accepted (happened w h 0 event)) ≤ length (accepted h) + size_of_act event.act
     unfolding accepted_by
     takes-more =
-        omega (arith, ap length (accepted_by-append h.items (next ∷ [])), length-append (accepted h) (accepted_by (next ∷ [])),
-        length-append (taken_by next.event.act next.reply) [], taken-size event.act next.reply)
+        omega (
+          arith,
+          ap length (accepted_by-append h.items (next ∷ [])),
+          length-append (accepted h) (accepted_by (next ∷ [])),
+          length-append (taken_by next.event.act next.reply) [],
+          taken-size event.act next.reply,
+        )
 
   -- ---- more bytes, datagrams and sockets
 
@@ -214,15 +219,15 @@ module _ {C : Type 0} (w : Ways C) where
             same = said.same;
           }
       | inr apart ↦ record {
-          place = said.place;
-          socket = said.socket;
-          emission = said.emission;
-          at = set-other sockets place said.place new apart ∙ said.at;
-          host = said.host;
-          emits = said.emits;
-          sent_to = said.sent_to;
-          same = said.same;
-        }
+        place = said.place;
+        socket = said.socket;
+        emission = said.emission;
+        at = set-other sockets place said.place new apart ∙ said.at;
+        host = said.host;
+        emits = said.emits;
+        sent_to = said.sent_to;
+        same = said.same;
+      }
     ]
 
   -- ---- an event of the socket at a place
@@ -304,14 +309,14 @@ module _ {C : Type 0} (w : Ways C) where
         → CameThere n.datagrams socket.host place came
     came-there came among = elim (contained-cases (record { addr = datagram.from; bytes = datagram.bytes }) [] came among) [
       | inl same ↦ subst (CameThere n.datagrams socket.host place) same (record {
-          among = elim comes.came [
-            | inl raw ↦ absurd raw
-            | inr there ↦ subst (Contains n.datagrams)
-                (sym (between-same datagram.from socket.host datagram.from datagram.to datagram.bytes
-                datagram.bytes refl comes.host refl)) there
-          ];
-          bound = bound-there;
-        })
+        among = elim comes.came [
+          | inl raw ↦ absurd raw
+          | inr there ↦ subst (Contains n.datagrams)
+              (sym (between-same datagram.from socket.host datagram.from datagram.to datagram.bytes
+              datagram.bytes refl comes.host refl)) there
+        ];
+        bound = bound-there;
+      })
       | inr none ↦ absurd (none-contained came none)
     ]
 
@@ -334,13 +339,13 @@ module _ {C : Type 0} (w : Ways C) where
     name = λ size n place socket name at is. record {
       said = λ datagram among.
           set-said n.sockets place socket (record socket { name = name }) at refl (λ emission h. h) datagram
-              (is.said datagram among);
+          (is.said datagram among);
       each = each-set n.sockets place socket (record socket { name = name }) (IsServed size n.datagrams) at is.each
           (record { came = (is.each place socket at).came; taken = (is.each place socket at).taken });
     };
     arrival = λ size n now place socket datagram comes is.
         event-served size 1 n place socket (arrival_of now datagram) comes.at (omega arith)
-            (came-there n place socket datagram comes) is;
+        (came-there n place socket datagram comes) is;
     made = λ size n now place listener datagram shake gets before after. added-served (size + 1) _ _ (one-fresh _ refl) after;
   }
 

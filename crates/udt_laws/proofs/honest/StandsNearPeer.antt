@@ -142,9 +142,10 @@ module _ {C : Type 0} (w : Ways C) where
               let there = block-between w g begins is.emission number flags stamp s.own payload carries.offset is.among
               (ap read is.same ∙ reads) named in
               let same = reads-offset s.receiving.isn (state_of w g).sending.isn s.receiving.top number carries.offset offset
-              isn_is carries.numbered
-              (omega (arith, there.1, few, starts, room, stands.not_below),
-              omega (arith, there.0, starts, room, stands.not_above))
+              isn_is carries.numbered (
+                omega (arith, there.1, few, starts, room, stands.not_below),
+                omega (arith, there.0, starts, room, stands.not_above),
+              )
               found in
               omega (arith, same, there.1, few, starts);
           drops = λ message stamp first last range from_is reads taken.
@@ -153,9 +154,10 @@ module _ {C : Type 0} (w : Ways C) where
               let there = drop-between w g begins is.emission message stamp s.own first last ends.offset is.among
               (ap read is.same ∙ reads) ends.named in
               let same = reads-offset s.receiving.isn (state_of w g).sending.isn s.receiving.top last ends.offset range.last
-              isn_is ends.numbered
-              (omega (arith, there.1, few, starts, room, stands.not_below),
-              omega (arith, there.0, starts, room, stands.not_above))
+              isn_is ends.numbered (
+                omega (arith, there.1, few, starts, room, stands.not_below),
+                omega (arith, there.0, starts, room, stands.not_above),
+              )
               (drop_range-is s.receiving first last range taken).last_near in
               omega (arith, same, there.1, few, starts);
         }
