@@ -121,7 +121,7 @@ module _ {C : Type 0} (w : Ways C) where
 
       moved_text : (answer : Result ℕ Refusal) → Accepted answer ≡ (step w s.state (event now Accept)).reply
           → moved.text ≡ spaced known.name ++ ended (reply_text (Accepted answer))
-      unfolding event_at, event_text
+      unfolding event_at event_text
       moved_text answer answers =
           rw (accept_outs w (state_of w known.history) now, no_datagrams_text (length n.datagrams), answers_too answer answers)
           (append-nil (spaced known.name ++ ended (reply_text (Accepted answer))))

@@ -32,6 +32,19 @@ use Rattle.udt_world.proofs.ActLemmas.{still-waits}
 use Rattle.udt_world.proofs.FirstLemmas.{Only, first-set, only-set, position-set, replaced-cases, sum-set, with-place, with-set}
 use Rattle.udt_world.proofs.WiredLemmas.{mapped, sight-at}
 
+-- an accept leaves the phase but for the one that waited first
+accept-closed : (p : Phase) → is_closed (phase_after_accept p) ≡ is_closed p
+accept-closed (phase.Listening b) = refl
+accept-closed _ = refl
+
+accept-waits : (p : Phase) (id : ℕ) → Contains (waiting_at (phase_after_accept p)) id → Contains (waiting_at p) id
+accept-waits (phase.Listening b) id has = still-waits b.offered id has
+accept-waits _ id has = has
+
+accept-fits : (p : Phase) (from : Origin) (peer : Peer) → FitsPhase p from peer → FitsPhase (phase_after_accept p) from peer
+accept-fits (phase.Listening b) from peer fits = fits
+accept-fits _ from peer fits = fits
+
 module _ {C : Type 0} where
   -- a state with this phase and peer
   pub record KeepsLook (s t : State C) : Type 0 where
@@ -76,18 +89,6 @@ module _ {C : Type 0} where
     waits = λ id has. subst (λ (p : Phase). Contains (waiting_at p) id) keeps.phase has;
     fits = λ fits. rw (keeps.phase, keeps.origin, keeps.peer) fits;
   }
-
-  accept-closed : (p : Phase) → is_closed (phase_after_accept p) ≡ is_closed p
-  accept-closed (phase.Listening b) = refl
-  accept-closed _ = refl
-
-  accept-waits : (p : Phase) (id : ℕ) → Contains (waiting_at (phase_after_accept p)) id → Contains (waiting_at p) id
-  accept-waits (phase.Listening b) id has = still-waits b.offered id has
-  accept-waits _ id has = has
-
-  accept-fits : (p : Phase) (from : Origin) (peer : Peer) → FitsPhase p from peer → FitsPhase (phase_after_accept p) from peer
-  accept-fits (phase.Listening b) from peer fits = fits
-  accept-fits _ from peer fits = fits
 
   pub accept-keeps : (w : Ways C) (s : State C) (now : ℕ) → StaysKnown s (step w s (event now Accept)).after
   unfolding step
