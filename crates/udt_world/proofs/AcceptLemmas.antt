@@ -97,7 +97,7 @@ module _ {C : Type 0} (w : Ways C) where
       unfolding place_of
       there = first_passes (λ (socket : model.ScriptSocket C). is_word socket.name name) n.sockets place (sym at)
 
-      known : model.ScriptSocket C
+      abbrev known : model.ScriptSocket C
       known = there.0
 
       known_name : known.name ≡ name
@@ -116,12 +116,12 @@ module _ {C : Type 0} (w : Ways C) where
           (shown_at w n old place s known shows found there.1))
 
       planned : (answer : Result ℕ Refusal) → Accepted answer ≡ (step w s.state (event now Accept)).reply
-          → on_line w n (AcceptLine name now accepted) ≡ Some (named_by moved known.name accepted (Accepted answer))
+          → on_line w n (AcceptLine name now accepted) ≡ Some (named_by w moved known.name accepted (Accepted answer))
       planned answer answers = rw (sym free, sym at, there.1, answers_too answer answers) refl
 
       moved_text : (answer : Result ℕ Refusal) → Accepted answer ≡ (step w s.state (event now Accept)).reply
           → moved.text ≡ spaced known.name ++ ended (reply_text (Accepted answer))
-      unfolding event_at, event_text
+      unfolding event_at event_text
       moved_text answer answers =
           rw (accept_outs w (state_of w known.history) now, no_datagrams_text (length n.datagrams), answers_too answer answers)
           (append-nil (spaced known.name ++ ended (reply_text (Accepted answer))))

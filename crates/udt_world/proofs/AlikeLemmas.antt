@@ -31,7 +31,7 @@ use Rattle.udt_world.proofs.ActLemmas.{still-waits}
 use Rattle.udt_world.proofs.FirstLemmas.{Only, first-set, only-set, position-set, replaced-cases, sum-set, with-place, with-set}
 use Rattle.udt_world.proofs.WiredLemmas.{mapped, sight-at}
 
--- an accept leaves a listener that it was, with fewer that wait
+-- an accept leaves the phase but for the one that waited first
 accept-closed : (p : Phase) → is_closed (phase_after_accept p) ≡ is_closed p
 accept-closed (phase.Listening b) = refl
 accept-closed _ = refl
