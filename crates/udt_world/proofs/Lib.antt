@@ -17,10 +17,12 @@ pub mod RouteLemmas
 pub mod LineLemmas
 pub mod ArriveLemmas
 pub mod MessageLemmas
+pub mod QueueLemmas
 pub mod TranscriptLemmas
 pub mod WorldLemmas
 pub mod CountedLemmas
 pub mod RunLemmas
+pub mod ScriptLaws
 pub mod NameLemmas
 pub mod PushLemmas
 pub mod EmptyLemmas
