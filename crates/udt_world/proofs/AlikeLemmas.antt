@@ -1,6 +1,7 @@
 -- A network stays wired where a socket takes or gives bytes: what an endpoint may know of it stays.
 use Rattle.std.proofs.Common.{◌≡◌, ℕ, zero, suc, ◌+◌, ◌≤◌, ◌<◌, ◌&&◌, ◌||◌, Bool, List, [], ◌∷◌, Some, None, Option, is_some, length, map, refl, ap, ◌∙◌, sym, subst, arith, inl, inr}
-use Rattle.std.specs.Prelude.{slice_get, slice_set, vec_len}
+use Rattle.std.specs.Global.{Global}
+use Rattle.std.specs.Prelude.{slice_get, slice_set, vec_len, Vec}
 use Rattle.std.specs.List.{Contains}
 use Rattle.std.proofs.lemmas.Bool.{cases_eq}
 use Rattle.std.proofs.lemmas.List.{length-set}
@@ -11,7 +12,7 @@ use Rattle.udt_model.specs.declared.packets.Kind.TheVariants as kind
 use Rattle.udt_model.specs.Calls.{send_in, send_as, recv_in, recv_as}
 use Rattle.udt_model.specs.declared.answers.Heard.{Heard}
 use Rattle.udt_model.specs.Events.{Arrive, DidHear, Recv, Reply, Send, at_moment, event}
-use Rattle.udt_model.specs.Network.{first_met, is_listening}
+use Rattle.udt_model.specs.Network.{address_of_host, first_met, is_listening}
 use Rattle.udt_model.specs.Phases.{Link, Stands, Lost, Absent, link_of}
 use Rattle.udt_model.specs.Rate.{Ways}
 use Rattle.udt_model.specs.Records.{PeerPair}
@@ -21,9 +22,10 @@ use Rattle.udt_model.specs.Words.{is_word}
 use Rattle.udt_routes.specs.Tables.{Table}
 use Rattle.udt_laws.proofs.scripts.ReplacedOne.{found-once, set-same}
 use Rattle.udt_world.specs.declared.network.Network.{Network}
+use Rattle.udt_world.specs.declared.network.ScriptHost.{ScriptHost}
 use Rattle.udt_world.specs.declared.network.ScriptSocket.{ScriptSocket}
-use Rattle.udt_world.specs.Views.{Sight, after_event, sight_of}
-use Rattle.udt_world.specs.Wiring.{FitsPhase, HasAddress, IsGiven, IsWired, Knows, adopts, is_any, is_here, listens, meets, one_if, peer_in, place_seen, sight_with, sights_of, waiting_at}
+use Rattle.udt_world.specs.Views.{Sight, after_event, host_of, sight_of}
+use Rattle.udt_world.specs.Wiring.{FitsPhase, HasAddress, IsGiven, IsHalf, IsWired, Knows, adopts, is_any, is_here, listens, meets, one_if, peer_in, place_seen, sight_with, sights_of, waiting_at}
 use Rattle.udt_world.proofs.FirstLemmas.{Only, first-set, only-set, position-set, replaced-cases, sum-set, with-place, with-set}
 use Rattle.udt_world.proofs.WiredLemmas.{mapped, sight-at}
 
@@ -118,7 +120,8 @@ module _ {C : Type 0} (old new : Network C) (place : ℕ) (socket : ScriptSocket
     (found : slice_get old.sockets.items place ≡ Some socket) (keeps : KeepsLook socket.socket after)
     (sockets_are : new.sockets.items ≡ slice_set old.sockets.items place (record socket { socket = after }))
     (sights_are : sights_of new ≡ slice_set (sights_of old) place (record (sight_of socket) { state = after }))
-    (endpoints_are : new.endpoints.items ≡ old.endpoints.items) (names_are : new.names ≡ old.names)
+    (endpoints_are : new.endpoints.items ≡ old.endpoints.items) (hosts_are : new.hosts ≡ old.hosts)
+    (names_are : new.names ≡ old.names)
     (count : vec_len new.sockets ≡ vec_len old.sockets) where
   abbrev later : Sight C
   later = record (sight_of socket) { state = after }
@@ -175,6 +178,12 @@ module _ {C : Type 0} (old new : Network C) (place : ℕ) (socket : ScriptSocket
         (λ is x_is. subst (λ (y : Sight C). FitsPhase y.state.phase y.state.origin y.state.peer) (sym x_is)
         (rw (keeps.phase, keeps.origin, keeps.peer) (wired.peers place (sight_of socket) seen)))
         (λ apart before. wired.peers p x before);
+    halves = λ p x at. each p x at
+        (λ is x_is. subst (λ (y : Sight C). IsHalf p y.host (peer_in y)) (sym x_is) (rw (keeps.origin, keeps.peer)
+        (subst (λ (q : ℕ). IsHalf q socket.host (peer_in (sight_of socket))) (sym is) (wired.halves place (sight_of socket) seen))))
+        (λ apart before. wired.halves p x before);
+    free = λ name addr named. wired.free name addr
+        (ap (λ (v : Vec ScriptHost Global). address_of_host name (map host_of v.items)) (sym hosts_are) ∙ named);
     listens_once = λ host. rw sights_are
         (only-alike (sights_of old) place (sight_of socket) after seen keeps (listens host)
         (listens-same (sights_of old) place (sight_of socket) after seen keeps host) (wired.listens_once host));

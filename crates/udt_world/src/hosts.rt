@@ -1,6 +1,6 @@
 // The hosts of a script, and what the endpoint at each knows of the sockets there.
 
-ghost use Rattle.std.specs.Prelude.{◌≡◌, ◌<◌, ◌+◌, ◌^◌, length, map, position, take, slice_get, slice_set, vec_len, Some, None, IfSome, IfOk, OnOk, OnErr};
+ghost use Rattle.std.specs.Prelude.{◌≡◌, ◌<◌, ◌+◌, ◌^◌, length, map, position, take, slice_get, slice_set, vec_len, false, true, Some, None, IfSome, IfOk, OnOk, OnErr};
 ghost use Rattle.udt_model.specs.Lines.{HostLine};
 ghost use Rattle.udt_model.specs.Script.{may_host, on_line};
 ghost use Rattle.udt_model.specs.Addresses.{same_addr};
@@ -11,7 +11,7 @@ ghost use Rattle.udt_routes.specs.Tables.{empty_table};
 ghost use Rattle.udt_world.specs.Done.{DoesLine};
 ghost use Rattle.udt_world.specs.Views.{host_of, sight_of, view_of, Shows};
 ghost use Rattle.udt_world.specs.Wiring.{with_listener, with_met, with_pair, with_told};
-ghost use Rattle.udt_world.specs.Wiring.{HasAddress, IsEndpoint, IsWired, KeepsAddresses};
+ghost use Rattle.udt_world.specs.Wiring.{place_seen, sights_of, HasAddress, IsEndpoint, IsWired, KeepsAddresses};
 
 use crate::network::{Network, ScriptHost, ScriptSocket};
 use std::alloc::{AllocError, Global};
@@ -145,7 +145,8 @@ impl<C: Control> Network<C> {
     /// A socket or a host has this name.
     pub fn is_taken(&self, name: &[u8]) -> bool
         requires { IsWired self.now }
-        ensures { (n : model.Network C) → Shows C.ways n (view_of self.now) → result ≡ model.is_taken name.now n }
+        ensures taken { (n : model.Network C) → Shows C.ways n (view_of self.now) → result ≡ model.is_taken name.now n }
+        ensures free { result ≡ false → place_seen (sights_of self.now) name.now ≡ None }
     {
         self.names.contains_key(name) || self.host_named(name).is_some()
     }
@@ -153,7 +154,8 @@ impl<C: Control> Network<C> {
     // The name and the address of a host are new, and there is room for it.
     fn may_host(&self, name: &[u8], addr: Addr) -> bool
         requires { IsWired self.now }
-        ensures { (n : model.Network C) → Shows C.ways n (view_of self.now) → result ≡ may_host n name.now addr }
+        ensures may { (n : model.Network C) → Shows C.ways n (view_of self.now) → result ≡ may_host n name.now addr }
+        ensures free { result ≡ true → model.is_host (map host_of self.now.hosts.items) addr ≡ false }
     {
         (self.hosts.len() as u64) < MOST_HOSTS && !self.is_taken(name) && !self.is_host(addr)
     }
