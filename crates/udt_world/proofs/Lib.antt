@@ -26,3 +26,4 @@ pub mod EmptyLemmas
 pub mod AddedLemmas
 pub mod GivenLemmas
 pub mod DatagramLemmas
+pub mod OpeningLemmas
