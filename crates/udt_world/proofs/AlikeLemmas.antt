@@ -1,6 +1,7 @@
 -- A network stays wired where a socket becomes one of which an endpoint knows the same.
 use Rattle.std.proofs.Common.{◌≡◌, ℕ, zero, suc, ◌+◌, ◌≤◌, ◌<◌, ◌&&◌, ◌||◌, Bool, List, [], ◌∷◌, Some, None, Option, is_some, length, map, refl, ap, ◌∙◌, sym, subst, arith, inl, inr}
-use Rattle.std.specs.Prelude.{slice_get, slice_set, vec_len}
+use Rattle.std.specs.Global.{Global}
+use Rattle.std.specs.Prelude.{slice_get, slice_set, vec_len, Vec}
 use Rattle.std.specs.List.{Contains}
 use Rattle.std.proofs.lemmas.Bool.{cases_eq}
 use Rattle.std.proofs.lemmas.List.{length-set}
@@ -13,7 +14,7 @@ use Rattle.udt_model.specs.declared.answers.Origin.{Origin}
 use Rattle.udt_model.specs.declared.answers.Peer.{Peer}
 use Rattle.udt_model.specs.Connections.{phase_after_accept}
 use Rattle.udt_model.specs.Events.{Accept, Event, Recv, Reply, Send, at_moment, event}
-use Rattle.udt_model.specs.Network.{first_met, is_listening, meets_by}
+use Rattle.udt_model.specs.Network.{address_of_host, first_met, is_listening, meets_by}
 use Rattle.udt_model.specs.Phases.{Phase, Link, Stands, Lost, Absent, is_closed, link_of}
 use Rattle.udt_model.specs.Phases as phase
 use Rattle.udt_model.specs.Rate.{Ways}
@@ -24,9 +25,10 @@ use Rattle.udt_model.specs.Words.{is_word}
 use Rattle.udt_routes.specs.Tables.{Table}
 use Rattle.udt_laws.proofs.scripts.ReplacedOne.{found-once, set-same}
 use Rattle.udt_world.specs.declared.network.Network.{Network}
+use Rattle.udt_world.specs.declared.network.ScriptHost.{ScriptHost}
 use Rattle.udt_world.specs.declared.network.ScriptSocket.{ScriptSocket}
-use Rattle.udt_world.specs.Views.{Sight, after_event, sight_of}
-use Rattle.udt_world.specs.Wiring.{FitsPhase, HasAddress, IsGiven, IsWired, Knows, adopts, is_any, is_here, listens, meets, one_if, peer_in, place_seen, place_under, sight_with, sights_of, waiting_at}
+use Rattle.udt_world.specs.Views.{Sight, after_event, host_of, sight_of}
+use Rattle.udt_world.specs.Wiring.{FitsPhase, HasAddress, IsGiven, IsHalf, IsWired, Knows, adopts, is_any, is_here, listens, meets, one_if, peer_in, place_seen, place_under, sight_with, sights_of, waiting_at}
 use Rattle.udt_world.proofs.ActLemmas.{still-waits}
 use Rattle.udt_world.proofs.FirstLemmas.{Only, first-set, only-set, position-set, replaced-cases, sum-set, with-place, with-set}
 use Rattle.udt_world.proofs.WiredLemmas.{mapped, sight-at}
@@ -171,7 +173,8 @@ module _ {C : Type 0} (old new : Network C) (place : ℕ) (socket later : Script
     (stays : later.endpoint ≡ socket.endpoint)
     (sockets_are : new.sockets.items ≡ slice_set old.sockets.items place later)
     (sights_are : sights_of new ≡ slice_set (sights_of old) place (sight_of later))
-    (endpoints_are : new.endpoints.items ≡ old.endpoints.items) (count : vec_len new.sockets ≡ vec_len old.sockets) where
+    (endpoints_are : new.endpoints.items ≡ old.endpoints.items) (hosts_are : new.hosts ≡ old.hosts)
+    (count : vec_len new.sockets ≡ vec_len old.sockets) where
   seen : slice_get (sights_of old) place ≡ Some (sight_of socket)
   seen = sight-at old place socket found
 
@@ -219,6 +222,13 @@ module _ {C : Type 0} (old new : Network C) (place : ℕ) (socket later : Script
         (λ is x_is. subst (λ (y : Sight C). FitsPhase y.state.phase y.state.origin y.state.peer) (sym x_is)
         (alike.look.fits (wired.peers place (sight_of socket) seen)))
         (λ apart before. wired.peers p x before);
+    halves = λ p x at. each-after p x at
+        (λ is x_is. subst (λ (y : Sight C). IsHalf p y.host (peer_in y)) (sym x_is)
+        (rw (alike.host, alike.look.origin, alike.look.peer)
+        (subst (λ (q : ℕ). IsHalf q socket.host (peer_in (sight_of socket))) (sym is) (wired.halves place (sight_of socket) seen))))
+        (λ apart before. wired.halves p x before);
+    free = λ name addr named. wired.free name addr
+        (ap (λ (v : Vec ScriptHost Global). address_of_host name (map host_of v.items)) (sym hosts_are) ∙ named);
     listens_once = λ host. rw sights_are
         (only-alike (sights_of old) place (sight_of socket) (sight_of later) seen alike (listens host)
         (listens-same (sights_of old) place (sight_of socket) (sight_of later) seen alike host) (wired.listens_once host));
@@ -236,7 +246,8 @@ module _ {C : Type 0} (old new : Network C) (place : ℕ) (socket : ScriptSocket
     (found : slice_get old.sockets.items place ≡ Some socket) (keeps : StaysKnown socket.socket after)
     (sockets_are : new.sockets.items ≡ slice_set old.sockets.items place (record socket { socket = after }))
     (sights_are : sights_of new ≡ slice_set (sights_of old) place (record (sight_of socket) { state = after }))
-    (endpoints_are : new.endpoints.items ≡ old.endpoints.items) (names_are : new.names ≡ old.names)
+    (endpoints_are : new.endpoints.items ≡ old.endpoints.items) (hosts_are : new.hosts ≡ old.hosts)
+    (names_are : new.names ≡ old.names)
     (count : vec_len new.sockets ≡ vec_len old.sockets) where
   abbrev goes_on : ScriptSocket C
   goes_on = record socket { socket = after }
@@ -253,12 +264,12 @@ module _ {C : Type 0} (old new : Network C) (place : ℕ) (socket : ScriptSocket
   each-goes : {P : Type 0} (p : ℕ) (x : Sight C) → slice_get (sights_of new) p ≡ Some x → (p ≡ place → x ≡ sight_of goes_on → P)
       → ((p ≡ place → ⊥) → slice_get (sights_of old) p ≡ Some x → P) → P
   each-goes =
-      each-after old new place socket goes_on wired found goes-alike refl sockets_are sights_are endpoints_are count
+      each-after old new place socket goes_on wired found goes-alike refl sockets_are sights_are endpoints_are hosts_are count
 
   -- the sockets and the endpoints fit together still
   pub alike-wired : IsWired new
   alike-wired =
-      placed-wired old new place socket goes_on wired found goes-alike refl sockets_are sights_are endpoints_are count
+      placed-wired old new place socket goes_on wired found goes-alike refl sockets_are sights_are endpoints_are hosts_are count
       (λ name. rw names_are (wired.names name) ∙ sym (seen_same name))
       (λ p x at. seen_same x.name ∙ each-goes p x at
       (λ is x_is. ap (λ (y : Sight C). place_seen (sights_of old) y.name) x_is

@@ -30,3 +30,5 @@ pub mod AddedLemmas
 pub mod GivenLemmas
 pub mod DatagramLemmas
 pub mod AcceptLemmas
+pub mod OpeningLemmas
+pub mod NewLemmas

@@ -35,4 +35,4 @@ returns-clause-wired g c =
     let socket = c.index_mut.result.now in
     let read = slice_get_read network.sockets.items (length network.sockets.items) c.args.place socket refl (omega (arith, network.sockets.ok.0, c.requires.place)) c.index_mut.ensures.value in
     alike-wired network _ c.args.place socket c.recv.new.self c.requires.wired read
-    (rw c.recv.ensures.after (recv-keeps g.C.Control.ways socket.socket c.args.now (length c.args.into.now))) refl (map-set sight_of network.sockets.items c.args.place (record socket { socket = c.recv.new.self })) refl refl refl
+    (rw c.recv.ensures.after (recv-keeps g.C.Control.ways socket.socket c.args.now (length c.args.into.now))) refl (map-set sight_of network.sockets.items c.args.place (record socket { socket = c.recv.new.self })) refl refl refl refl

@@ -52,7 +52,7 @@ returns-clause-wired g c =
     record { host = refl; listened = refl; met = refl; look = record {
       own = refl; closed = refl; origin = refl; peer = refl; waits = λ id has. has; fits = λ fits. fits;
     } } in
-    placed-wired network _ place socket later wired read alike refl refl sights_are refl refl
+    placed-wired network _ place socket later wired read alike refl refl sights_are refl refl refl
     (λ name. kept_after c.remove.new.self c.insert.new.self c.in_ok-key.key.items (Some place) c.in_ok-insert.ensures.updates name
     ∙ (ap (λ (key : List ℕ). cond (is_word key name) (Some place) (lookup (is_named name) c.remove.new.self.entries)) key_is
     ∙ (ap (cond (is_word word name) (Some place))
