@@ -32,3 +32,5 @@ pub mod DatagramLemmas
 pub mod AcceptLemmas
 pub mod OpeningLemmas
 pub mod NewLemmas
+pub mod EndpointLemmas
+pub mod UnderLemmas

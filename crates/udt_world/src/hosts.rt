@@ -160,6 +160,15 @@ impl<C: Control> Network<C> {
         (self.hosts.len() as u64) < MOST_HOSTS && !self.is_taken(name) && !self.is_host(addr)
     }
 
+    // The place of the endpoint with this address.
+    fn place_of_endpoint(&self, addr: Addr) -> Option<usize>
+        ensures { result ≡ position (λ endpoint. same_addr addr endpoint.addr) self.now.endpoints.items }
+    {
+        self.endpoints
+            .iter()
+            .position(|endpoint| addr.is_same(endpoint.addr))
+    }
+
     /// The place of the endpoint at this address, where a host has it. It is made where it is first
     /// asked for.
     pub fn endpoint_at(&mut self, addr: Addr) -> Result<Option<usize>, AllocError>
@@ -183,11 +192,7 @@ impl<C: Control> Network<C> {
         ensures kept { self.new ≡ record self.old { endpoints = self.new.endpoints } }
         ensures stands { OnOk result (KeepsAddresses self.old self.new) }
     {
-        match self
-            .endpoints
-            .iter()
-            .position(|endpoint| addr.is_same(endpoint.addr))
-        {
+        match self.place_of_endpoint(addr) {
             Some(place) => Ok(place),
             None => {
                 let endpoint = new_endpoint(self.alloc, addr)?;
