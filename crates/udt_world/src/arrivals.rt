@@ -1,20 +1,21 @@
 // Datagrams that arrive: where each goes, and the sockets that are made for requests.
 
-ghost use Rattle.std.specs.Prelude.{◌≡◌, ℕ, ◌<◌, ◌^◌, true, take, Some, slice_get, vec_len, IfOk, OnOk, OnErr};
+ghost use Rattle.std.specs.Prelude.{◌≡◌, ℕ, ◌<◌, ◌^◌, true, take, Some, None, slice_get, vec_len, IfOk, OnOk, OnErr};
 ghost use Rattle.std.specs.Option.{ForSome};
 ghost use Rattle.udt_model.specs.Connections.{config_of};
 ghost use Rattle.udt_model.specs.Events.{Arrive};
 ghost use Rattle.udt_model.specs.Handshakes as model;
+ghost use Rattle.udt_model.specs.History.{state_of};
 ghost use Rattle.udt_model.specs.Lines.{DeliverLine};
 ghost use Rattle.udt_model.specs.Network as network;
 ghost use Rattle.udt_model.specs.Opening.{opening};
 ghost use Rattle.udt_model.specs.Routes as routes;
-ghost use Rattle.udt_model.specs.Script.{arrived, delivery, on_line};
+ghost use Rattle.udt_model.specs.Script.{arrived, delivery, offered, on_line};
 ghost use Rattle.udt_script.specs.CodeLines.{datagram_of};
 ghost use Rattle.udt_world.specs.declared.hosts.Endpoint.{Endpoint};
 ghost use Rattle.udt_world.specs.Done.{DoesLine, IsRoute};
-ghost use Rattle.udt_world.specs.Views.{view_of, Shows};
-ghost use Rattle.udt_world.specs.Wiring.{sights_of, IsEndpoint, IsWired, MayHappen};
+ghost use Rattle.udt_world.specs.Views.{view_of, Shows, Sight};
+ghost use Rattle.udt_world.specs.Wiring.{adopts, first_with, sights_of, IsEndpoint, IsWired, MayHappen};
 
 use crate::network::{Act, Network};
 use crate::opening::{named, opened};
@@ -153,7 +154,20 @@ impl<C: Control + Drop> Network<C> {
         datagram: &ScriptDatagram,
         shake: Shake,
         out: &mut Vec<u8>,
-    ) -> Result<(), AllocError> {
+    ) -> Result<(), AllocError>
+        requires place { place < vec_len self.old.sockets }
+        requires wired { IsWired self.old }
+        requires isn { shake.isn < 2 ^ 31 }
+        requires unadopted { (s : Sight C) → slice_get (sights_of self.old) place ≡ Some s
+            → first_with (adopts s.host datagram.now.from shake.id) (sights_of self.old) ≡ None }
+        ensures done { OnOk result ((n : network.Network C) (listener : network.ScriptSocket C) (s : Sight C)
+            → Shows C.ways n (view_of self.old) → slice_get (sights_of self.old) place ≡ Some s
+            → listener.host ≡ s.host → config_of (state_of C.ways listener.history) ≡ config_of s.state
+            → DoesLine C.ways n (Some (offered C.ways n now place listener (datagram_of datagram.now) shake)) true
+            (view_of self.new) out.old.items out.new.items) }
+        ensures wired { OnOk result (IsWired self.new) }
+        ensures err { OnErr result (take (vec_len out.old) out.new.items ≡ out.old.items) }
+    {
         if !self.has_room(1) {
             self.event(place, now, &Act::Withdraw, out)?;
             return Ok(());
