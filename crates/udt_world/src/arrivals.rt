@@ -2,6 +2,7 @@
 
 ghost use Rattle.std.specs.Prelude.{◌≡◌, ℕ, ◌<◌, ◌^◌, true, take, Some, None, slice_get, vec_len, IfOk, OnOk, OnErr};
 ghost use Rattle.std.specs.Option.{ForSome};
+ghost use Rattle.udt_model.specs.declared.routes.Routed.TheVariants as routing;
 ghost use Rattle.udt_model.specs.Connections.{config_of};
 ghost use Rattle.udt_model.specs.Events.{Arrive};
 ghost use Rattle.udt_model.specs.Handshakes as model;
@@ -13,9 +14,9 @@ ghost use Rattle.udt_model.specs.Routes as routes;
 ghost use Rattle.udt_model.specs.Script.{arrived, delivery, offered, on_line};
 ghost use Rattle.udt_script.specs.CodeLines.{datagram_of};
 ghost use Rattle.udt_world.specs.declared.hosts.Endpoint.{Endpoint};
-ghost use Rattle.udt_world.specs.Done.{DoesLine, IsRoute};
+ghost use Rattle.udt_world.specs.Done.{DoesLine, IsRoute, IsRoutedAs};
 ghost use Rattle.udt_world.specs.Views.{view_of, Shows, Sight};
-ghost use Rattle.udt_world.specs.Wiring.{adopts, first_with, sights_of, IsEndpoint, IsWired, MayHappen};
+ghost use Rattle.udt_world.specs.Wiring.{adopts, first_with, seen_at, sights_of, IsEndpoint, IsWired, MayHappen};
 
 use crate::network::{Act, Network};
 use crate::opening::{named, opened};
@@ -36,7 +37,10 @@ pub enum Route {
 }
 
 // Where a datagram goes in the network that goes so at its host.
-fn route_by(routed: Routed) -> Route {
+fn route_by(routed: Routed) -> Route
+    requires { (id : ℕ) → routed ≡ routing.ToSocket id → 0 < id }
+    ensures { IsRoutedAs routed result }
+{
     match routed {
         Routed::ToSocket(id) => Route::To(id as usize - 1),
         Routed::Short => Route::Nowhere(b"short"),
@@ -67,9 +71,11 @@ impl<C: Control> Network<C> {
     // Where bytes go that come from this address, by what the endpoint at this place knows.
     fn destination(&self, endpoint: usize, from: Addr, bytes: &[u8]) -> Routed
         requires { endpoint < vec_len self.now.endpoints }
-        ensures { (n : network.Network C) (known : Endpoint) → Shows C.ways n (view_of self.now) → IsWired self.now
+        ensures value { (n : network.Network C) (known : Endpoint) → Shows C.ways n (view_of self.now) → IsWired self.now
             → slice_get self.now.endpoints.items endpoint ≡ Some known
             → result ≡ routes.route (network.known_at C.ways n.sockets known.addr) from bytes.now }
+        ensures seen { (known : Endpoint) → IsWired self.now → slice_get self.now.endpoints.items endpoint ≡ Some known
+            → result ≡ routes.route (seen_at (sights_of self.now) known.addr) from bytes.now }
     {
         self.endpoints[endpoint].routes.destination_of(from, bytes)
     }
