@@ -79,6 +79,29 @@ position-others p (x ∷ xs) ys none =
           ])
     ] (sym (position-cons p x xs) ∙ none))
 
+-- what isn't so before and after is found nowhere else
+pub position-apart : {A : Type 0} (p : A → Bool) (xs : List A) (k : ℕ) (old new : A) → slice_get xs k ≡ Some old → p old ≡ false → p new ≡ false
+    → position p (slice_set xs k new) ≡ position p xs
+position-apart p [] k old new at not_old not_new = absurd (cc)
+position-apart p (x ∷ xs) zero old new at not_old not_new =
+    let same : p x ≡ false = ap p (same_Some x old at) ∙ not_old in
+    position-cons p new xs ∙ (rw (not_new, same) refl ∙ sym (position-cons p x xs))
+position-apart p (x ∷ xs) (suc k) old new at not_old not_new =
+    position-cons p x (slice_set xs k new) ∙ (rw (position-apart p xs k old new at not_old not_new) refl ∙ sym (position-cons p x xs))
+
+-- and what becomes so where nothing was stands there
+pub position-here : {A : Type 0} (p : A → Bool) (xs : List A) (k : ℕ) (old new : A) → slice_get xs k ≡ Some old → position p xs ≡ None → p new ≡ true
+    → position p (slice_set xs k new) ≡ Some k
+position-here p [] k old new at free is = absurd (cc)
+position-here p (x ∷ xs) zero old new at free is = position-cons p new xs ∙ rw is refl
+position-here p (x ∷ xs) (suc k) old new at free is =
+    position-cons p x (slice_set xs k new)
+    ∙ (elim (p x) as (λ b. cond b (Some 0) (option_map suc (position p xs)) ≡ None
+    → cond b (Some 0) (option_map suc (position p (slice_set xs k new))) ≡ Some (suc k)) [
+      | true ↦ λ e. absurd (cc)
+      | false ↦ λ e. ap (option_map suc) (position-here p xs k old new at (none_of suc (position p xs) e) is)
+    ] (sym (position-cons p x xs) ∙ free))
+
 -- ---- names
 
 pub same_word : (word text : List ℕ) → is_word word text ≡ true → word ≡ text

@@ -1,5 +1,5 @@
 -- Entries tell the histories of a network, so that what they say was received and sent is in step.
-use Rattle.std.proofs.Common.{◌≡◌, ℕ, zero, suc, ◌+◌, ◌<◌, ◌^◌, Bool, true, false, not, ◌||◌, List, [], ◌∷◌, ◌++◌, length, map, Some, None, Option, refl, ap, ◌∙◌, sym, subst, inl, inr, ◌⊎◌, arith, option_map, append_assoc}
+use Rattle.std.proofs.Common.{◌≡◌, ℕ, zero, suc, ◌+◌, ◌-◌, ◌<◌, ◌^◌, Bool, true, false, not, ◌||◌, List, [], ◌∷◌, ◌++◌, length, map, Some, None, Option, Ok, refl, ap, ◌∙◌, sym, subst, inl, inr, ◌⊎◌, arith, option_map, append_assoc}
 use Rattle.std.specs.Prelude.{slice_get, slice_set, if◌then◌else◌, is_some, nat_lt, decimal}
 use Rattle.std.specs.List.{Contains}
 use Rattle.std.proofs.lemmas.Bool.{cases_eq, and_parts}
@@ -44,7 +44,7 @@ use Rattle.udt_world.specs.Wiring.{IsGiven}
 use Rattle.udt_world.proofs.GivenLemmas.{Names, line_names}
 use Rattle.udt_world.proofs.QueueLemmas.{queue_of, IsUnnamed, IsQueued, none-queued, added-queued, event-queued, offered-queued, accept-queued}
 use Rattle.udt_world.proofs.LineLemmas.{no_lines, accepted-by, left-after}
-use Rattle.udt_world.proofs.PlaceLemmas.{same_word, is_same_word, name_there, place-set, position-first, position-others, position-cons}
+use Rattle.udt_world.proofs.PlaceLemmas.{same_word, is_same_word, name_there, place-set, position-first, position-others, position-cons, position-apart, position-here}
 
 -- the entries say of this name nothing
 record SaysNothing (name : List ℕ) (entries : List Entry) : Type 0 where
@@ -428,7 +428,7 @@ module _ {C : Type 0} (w : Ways C) where
 
   call-there : (n : Network C) (entries : List Entry) (line name : List ℕ) (event : Event) (found : Option ℕ) (p : Printed C)
       → read_line line ≡ Some (CallLine name event) → place_of name n.sockets ≡ found
-      → with_place n (λ place socket. call_by w n place socket event.now event.act) found ≡ Some p → IsTold n entries → Made line entries p
+      → with_place w n (λ place socket. call_by w n place socket event.now event.act) found ≡ Some p → IsTold n entries → Made line entries p
   call-there n entries line name event None p reads place is told = absurd (cc)
   call-there n entries line name event (Some k) p reads place is told = call-found n entries line name event k (slice_get n.sockets k) p reads place refl is told
 
@@ -791,16 +791,120 @@ module _ {C : Type 0} (w : Ways C) where
       let none = unnamed-adds name (read_line e.line) e.answer (λ line is. (line_names e.line).given line is) unnamed in
       record { received = rw (none.0, rest.received) refl; sent = rw (none.1, rest.sent) refl }
 
+  true-false : true ≡ false → ⊥
+  true-false is = cc
+
+  -- two words that aren't one
+  apart-words : (a b : List ℕ) → (a ≡ b → ⊥) → is_word a b ≡ false
+  apart-words a b apart = elim (is_word a b) as (λ same. is_word a b ≡ same → same ≡ false) [
+    | true ↦ λ e. absurd (apart (same_word a b e))
+    | false ↦ λ e. refl
+  ] refl
+
+  none-some : (k : ℕ) → None ≡ Some k → ⊥
+  none-some k is = cc
+
+  -- a socket of a pair isn't the one that is renamed
+  began-renamed : (n : Network C) (k : ℕ) (name : List ℕ) (socket : ScriptSocket C) → slice_get n.sockets k ≡ Some socket → is_name socket.name ≡ false
+      → (place : ℕ) (fresh : ScriptSocket C) → is_name fresh.name ≡ true → BeganAs n place fresh
+      → BeganAs (record n { sockets = slice_set n.sockets k (record socket { name = name }) }) place fresh
+  began-renamed n k name socket at unnamed place fresh named began =
+      let apart : k ≡ place → ⊥ = λ same.
+          let one = found-once n.sockets place socket began.socket (subst (λ (j : ℕ). slice_get n.sockets j ≡ Some socket) same at) began.at in
+          let is : is_name socket.name ≡ true = ap (λ (s : ScriptSocket C). is_name s.name) one ∙ (ap is_name began.name ∙ named) in
+          true-false (sym is ∙ unnamed) in
+      record {
+        socket = began.socket;
+        at = set-other n.sockets k place _ apart ∙ began.at;
+        name = began.name;
+        host = began.host;
+        opened = began.opened;
+      }
+
+  -- where a name stands once a socket has another
+  module _ (n : Network C) (k : ℕ) (name : List ℕ) (socket : ScriptSocket C) (at : slice_get n.sockets k ≡ Some socket) where
+    abbrev renamed : ScriptSocket C
+    renamed = record socket { name = name }
+
+    here-renamed : (j : ℕ) → k ≡ j → slice_get (slice_set n.sockets k renamed) j ≡ Some renamed
+    here-renamed j same = subst (λ (i : ℕ). slice_get (slice_set n.sockets k renamed) i ≡ Some renamed) same (set-same n.sockets k socket renamed at)
+
+    place-apart : (other : List ℕ) → is_word socket.name other ≡ false → is_word name other ≡ false
+        → place_of other (slice_set n.sockets k renamed) ≡ place_of other n.sockets
+    unfolding place_of
+    place-apart other old new = position-apart (λ (s : ScriptSocket C). is_word s.name other) n.sockets k socket renamed at old new
+
+    place-renamed : place_of name n.sockets ≡ None → place_of name (slice_set n.sockets k renamed) ≡ Some k
+    unfolding place_of
+    place-renamed free = position-here (λ (s : ScriptSocket C). is_word s.name name) n.sockets k socket renamed at free (is_same_word name)
+
   -- a socket without a name of a line gets one that is new
-  named-told : (n : Network C) (entries : List Entry) (id : ℕ) (name : List ℕ) → IsUnnamed n id → is_name name ≡ true → place_of name n.sockets ≡ None
+  renamed-told : (n : Network C) (entries : List Entry) (k : ℕ) (name : List ℕ) (socket : ScriptSocket C) (at : slice_get n.sockets k ≡ Some socket)
+      → is_name socket.name ≡ false → is_name name ≡ true → place_of name n.sockets ≡ None
+      → IsQueued w (record n { sockets = slice_set n.sockets k (record socket { name = name }) }) → IsTold n entries
+      → IsTold (record n { sockets = slice_set n.sockets k (record socket { name = name }) }) entries
+  renamed-told n entries k name socket at unnamed named free queued told =
+      let old_says = told.sockets k socket at in
+      let none = unnamed-says socket.name entries unnamed in
+      let fresh = told.others name free in
+      let mine : Says name entries socket.history = record {
+        received = fresh.received ∙ (sym none.received ∙ old_says.received);
+        sent = fresh.sent ∙ (sym none.sent ∙ old_says.sent);
+        none = old_says.none;
+      } in
+      let here = here-renamed n k name socket at in
+      let before : (j : ℕ) (found : ScriptSocket C) → (k ≡ j → ⊥) → slice_get (slice_set n.sockets k (record socket { name = name })) j ≡ Some found
+          → slice_get n.sockets j ≡ Some found = λ j found apart found_at. sym (set-other n.sockets k j _ apart) ∙ found_at in
+      record {
+        sockets = λ j found found_at. elim (cases_eq k j) [
+          | inl same ↦ subst (λ (s : ScriptSocket C). Says s.name entries s.history) (found-once _ j _ found (here j same) found_at) mine
+          | inr apart ↦ told.sockets j found (before j found apart found_at)
+        ];
+        places = λ j found found_at. elim (cases_eq k j) [
+          | inl same ↦
+              ap (λ (s : ScriptSocket C). place_of s.name (slice_set n.sockets k (record socket { name = name }))) (sym (found-once _ j _ found (here j same) found_at))
+              ∙ (place-renamed n k name socket at free ∙ ap Some same)
+          | inr apart ↦
+              let old = told.places j found (before j found apart found_at) in
+              let other = apart-words socket.name found.name (λ same. apart (same_Some k j (sym (told.places k socket at) ∙ (ap (λ word. place_of word n.sockets) same ∙ old)))) in
+              let new = apart-words name found.name (λ same. none-some j (sym free ∙ (ap (λ word. place_of word n.sockets) same ∙ old))) in
+              place-apart n k name socket at found.name other new ∙ old
+        ];
+        given = λ j found found_at. elim (cases_eq k j) [
+          | inl same ↦ subst (λ (s : ScriptSocket C). IsGiven j s.name) (found-once _ j _ found (here j same) found_at) (inr named)
+          | inr apart ↦ told.given j found (before j found apart found_at)
+        ];
+        queued = queued;
+        others = λ other nothing. elim (is_word socket.name other) as (λ b. is_word socket.name other ≡ b → SaysNothing other entries) [
+          | true ↦ λ e. subst (λ word. SaysNothing word entries) (same_word socket.name other e) none
+          | false ↦ λ e.
+              let new = apart-words name other (λ same. none-some k (sym nothing
+              ∙ (ap (λ word. place_of word (slice_set n.sockets k (record socket { name = name }))) (sym same) ∙ place-renamed n k name socket at free))) in
+              told.others other (sym (place-apart n k name socket at other e new) ∙ nothing)
+        ] refl;
+        pairs = λ entry p among reads.
+            let pair = told.pairs entry p among reads in
+            let names = (line_names entry.line).given (PairLine p) reads in
+            record {
+              place = pair.place;
+              first = began-renamed n k name socket at unnamed pair.place _ names.0 pair.first;
+              second = began-renamed n k name socket at unnamed (pair.place + 1) _ names.1 pair.second;
+            };
+      }
+
+  -- a socket without a name of a line gets one that is new
+  named-told : (n : Network C) (entries : List Entry) (id : ℕ) (name : List ℕ) → IsUnnamed w n id → is_name name ≡ true → place_of name n.sockets ≡ None
       → IsQueued w (with_name n id name) → IsTold n entries → IsTold (with_name n id name) entries
-  named-told n entries id name unnamed named free queued told = ?
+  named-told n entries id name unnamed named free queued told =
+      let as_named : with_name n id name ≡ named_at n (id - 1) name (Some unnamed.socket) = ap (named_at n (id - 1) name) unnamed.at in
+      subst (λ (m : Network C). IsTold m entries) (sym as_named)
+      (renamed-told n entries (id - 1) name unnamed.socket unnamed.at unnamed.unnamed named free (subst (IsQueued w) as_named queued) told)
 
   named_by-told : (n : Network C) (entries : List Entry) (now : ℕ) (name : List ℕ) (k : ℕ) (socket : ScriptSocket C) (reply : Reply)
       → slice_get n.sockets k ≡ Some socket → is_name name ≡ true → place_of name n.sockets ≡ None
       → (step w (state_of w socket.history) (event now Accept)).reply ≡ reply → IsTold n entries
       → IsTold (event_at w n k socket (event now Accept)).network entries
-      → IsTold (named_by (event_at w n k socket (event now Accept)) socket.name name reply).network entries
+      → IsTold (named_by w (event_at w n k socket (event now Accept)) socket.name name reply).network entries
   unfolding event_at
   named_by-told n entries now name k socket (Accepted (Ok id)) at named free gives before told =
       let accepted = accept-queued w n k socket now id name at gives before.queued in
@@ -828,18 +932,18 @@ module _ {C : Type 0} (w : Ways C) where
 
   accept-there : (n : Network C) (entries : List Entry) (line name : List ℕ) (now : ℕ) (accepted : List ℕ) (found : Option ℕ) (p : Printed C)
       → read_line line ≡ Some (AcceptLine name now accepted) → place_of accepted n.sockets ≡ None
-      → with_place n (accept_at w n now accepted) found ≡ Some p → IsTold n entries → Made line entries p
+      → with_place w n (accept_at w n now accepted) found ≡ Some p → IsTold n entries → Made line entries p
   accept-there n entries line name now accepted None p reads free is told = absurd (cc)
   accept-there n entries line name now accepted (Some k) p reads free is told =
       accept-found n entries line name now accepted k (slice_get n.sockets k) p reads free refl is told
 
   accept-made : (n : Network C) (entries : List Entry) (line name : List ℕ) (now : ℕ) (accepted : List ℕ) (p : Printed C)
       → read_line line ≡ Some (AcceptLine name now accepted)
-      → (if is_taken accepted n then None else with_place n (accept_at w n now accepted) (place_of name n.sockets)) ≡ Some p → IsTold n entries
+      → (if is_taken accepted n then None else with_place w n (accept_at w n now accepted) (place_of name n.sockets)) ≡ Some p → IsTold n entries
       → Made line entries p
   accept-made n entries line name now accepted p reads is told =
       elim (is_taken accepted n) as (λ taken. is_taken accepted n ≡ taken
-      → (if taken then None else with_place n (accept_at w n now accepted) (place_of name n.sockets)) ≡ Some p → Made line entries p) [
+      → (if taken then None else with_place w n (accept_at w n now accepted) (place_of name n.sockets)) ≡ Some p → Made line entries p) [
         | true ↦ λ test e. absurd (cc)
         | false ↦ λ test e. accept-there n entries line name now accepted (place_of name n.sockets) p reads (not_free _ _ test) e told
       ] refl is
