@@ -14,7 +14,7 @@ use Rattle.udt_world.specs.declared.network.Network.{Network}
 use Rattle.udt_world.specs.Views.{Sight}
 use Rattle.udt_world.specs.Wiring.{HasAddress, IsWired, KeepsAddresses, Knows, sights_of}
 use Rattle.udt_world.proofs.EmptyLemmas.{empty_knows}
-use Rattle.udt_world.proofs.PushLemmas.{IsOneMore, Before, Last, each_fails, first_passes, get-first, get-push}
+use Rattle.udt_world.proofs.PushLemmas.{IsOneMore, Before, Last, each_fails, first_passes, get-first, get-last, get-push}
 use Rattle.udt_world.proofs.WiredLemmas.{mapped}
 
 -- other addresses aren't equal
@@ -104,3 +104,11 @@ module _ {C : Type 0} (old : Network C) (endpoints : Vec Endpoint Global) (addr 
           by : IsOneMore old.endpoints.items new place e → Knows e.routes (sights_of old) e.addr
           by (Before there) = wired.knows place e there
           by (Last is it) = subst (λ (x : Endpoint). Knows x.routes (sights_of old) x.addr) (sym it) knows-new
+
+  -- and the new one stands behind them
+  pub endpoint-last : (place : ℕ) → place ≡ length old.endpoints.items → HasAddress endpoints.items place addr
+  endpoint-last place is = record {
+    endpoint = new;
+    found = rw grown (get-last old.endpoints.items new place is);
+    addr_is = addr_is;
+  }
