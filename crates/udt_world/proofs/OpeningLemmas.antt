@@ -12,7 +12,6 @@ use Rattle.udt_model.specs.Network.{address_of_host, first_host, second_host, is
 use Rattle.udt_model.specs.Records.{PeerPair}
 use Rattle.udt_model.specs.Words.{is_word}
 use Rattle.udt_model.proofs.AddressLemmas.{same_addr-is}
-use Rattle.udt_laws.proofs.scripts.ScriptNetworks.{same-id}
 use Rattle.udt_world.specs.declared.network.Network.{Network}
 use Rattle.udt_world.specs.declared.network.ScriptHost.{ScriptHost}
 use Rattle.udt_world.specs.Views.{Sight, host_of}
@@ -30,12 +29,13 @@ named-more [] more name addr is = one (is_word more.name name) is
     one : (b : Bool) → (if b then Some more.addr else None) ≡ Some addr → (None ≡ Some addr) ⊎ (more.addr ≡ addr)
     one true is = inr (same_Some more.addr addr is)
     one false is = inl is
-named-more (host ∷ hosts) more name addr is = by (is_word host.name name) is
+named-more (host ∷ hosts) more name addr is = by (is_word host.name name) is (named-more hosts more name addr)
   where
     by : (b : Bool) → (if b then Some host.addr else address_of_host name (hosts ++ more ∷ [])) ≡ Some addr
+        → (address_of_host name (hosts ++ more ∷ []) ≡ Some addr → (address_of_host name hosts ≡ Some addr) ⊎ (more.addr ≡ addr))
         → ((if b then Some host.addr else address_of_host name hosts) ≡ Some addr) ⊎ (more.addr ≡ addr)
-    by true is = inl is
-    by false is = named-more hosts more name addr is
+    by true is others = inl is
+    by false is others = others is
 
 -- an address that no host has is none of the hosts of pairs
 pub not-fixed : (hosts : List model.ScriptHost) (addr : Addr) → is_host hosts addr ≡ false → IsFree addr
@@ -71,6 +71,9 @@ host-wired old hosts more wired grown is_free = record {
 }
 
 -- ---- pairs
+
+same-id : (a b : PeerPair) → Some a ≡ Some b → a.id ≡ b.id
+same-id a b is = cc
 
 module _ {C : Type 0} (sights : List (Sight C)) (host addr : Addr) (id : ℕ)
     (others : (k : ℕ) (s : Sight C) → slice_get sights k ≡ Some s → s.host ≡ host
