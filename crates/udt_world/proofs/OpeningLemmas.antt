@@ -94,7 +94,8 @@ module _ {C : Type 0} (sights : List (Sight C)) (host addr : Addr) (id : ℕ)
 
 module _ {C : Type 0} (network : Network C) (wired : IsWired network) where
   -- none has adopted the second socket of a pair that comes next
-  pub first-unadopted : (id : ℕ) → length (sights_of network) + 2 ≤ id → first_with (adopts first_host second_host id) (sights_of network) ≡ None
+  pub first-unadopted : (id : ℕ) → length (sights_of network) + 2 ≤ id
+      → first_with (adopts first_host second_host id) (sights_of network) ≡ None
   first-unadopted id past = unadopted (sights_of network) first_host second_host id (λ k s at stands. (
     record { addr = second_host; id = k + 2 },
     (wired.halves k s at).first stands,
@@ -102,7 +103,8 @@ module _ {C : Type 0} (network : Network C) (wired : IsWired network) where
   ))
 
   -- nor the first
-  pub second-unadopted : (id : ℕ) → length (sights_of network) ≤ id → first_with (adopts second_host first_host id) (sights_of network) ≡ None
+  pub second-unadopted : (id : ℕ) → length (sights_of network) ≤ id
+      → first_with (adopts second_host first_host id) (sights_of network) ≡ None
   second-unadopted id past = unadopted (sights_of network) second_host first_host id (λ k s at stands. (
     record { addr = first_host; id = k },
     (wired.halves k s at).second stands,
