@@ -12,7 +12,6 @@ use Rattle.udt_model.specs.Network.{address_of_host, first_host, second_host, is
 use Rattle.udt_model.specs.Records.{PeerPair}
 use Rattle.udt_model.specs.Words.{is_word}
 use Rattle.udt_model.proofs.AddressLemmas.{same_addr-is}
-use Rattle.udt_laws.proofs.scripts.ScriptNetworks.{same-id}
 use Rattle.udt_world.specs.declared.network.Network.{Network}
 use Rattle.udt_world.specs.declared.network.ScriptHost.{ScriptHost}
 use Rattle.udt_world.specs.Views.{Sight, host_of}
@@ -30,12 +29,13 @@ named-more [] more name addr is = one (is_word more.name name) is
     one : (b : Bool) → (if b then Some more.addr else None) ≡ Some addr → (None ≡ Some addr) ⊎ (more.addr ≡ addr)
     one true is = inr (same_Some more.addr addr is)
     one false is = inl is
-named-more (host ∷ hosts) more name addr is = by (is_word host.name name) is
+named-more (host ∷ hosts) more name addr is = by (is_word host.name name) is (named-more hosts more name addr)
   where
     by : (b : Bool) → (if b then Some host.addr else address_of_host name (hosts ++ more ∷ [])) ≡ Some addr
+        → (address_of_host name (hosts ++ more ∷ []) ≡ Some addr → (address_of_host name hosts ≡ Some addr) ⊎ (more.addr ≡ addr))
         → ((if b then Some host.addr else address_of_host name hosts) ≡ Some addr) ⊎ (more.addr ≡ addr)
-    by true is = inl is
-    by false is = named-more hosts more name addr is
+    by true is others = inl is
+    by false is others = others is
 
 -- an address that no host has is none of the hosts of pairs
 pub not-fixed : (hosts : List model.ScriptHost) (addr : Addr) → is_host hosts addr ≡ false → IsFree addr
@@ -72,6 +72,9 @@ host-wired old hosts more wired grown is_free = record {
 
 -- ---- pairs
 
+same-id : (a b : PeerPair) → Some a ≡ Some b → a.id ≡ b.id
+same-id a b is = cc
+
 module _ {C : Type 0} (sights : List (Sight C)) (host addr : Addr) (id : ℕ)
     (others : (k : ℕ) (s : Sight C) → slice_get sights k ≡ Some s → s.host ≡ host
     → (peer : PeerPair) × (peer_in s ≡ Some peer) × (peer.id ≡ id → ⊥)) where
@@ -91,7 +94,8 @@ module _ {C : Type 0} (sights : List (Sight C)) (host addr : Addr) (id : ℕ)
 
 module _ {C : Type 0} (network : Network C) (wired : IsWired network) where
   -- none has adopted the second socket of a pair that comes next
-  pub first-unadopted : (id : ℕ) → length (sights_of network) + 2 ≤ id → first_with (adopts first_host second_host id) (sights_of network) ≡ None
+  pub first-unadopted : (id : ℕ) → length (sights_of network) + 2 ≤ id
+      → first_with (adopts first_host second_host id) (sights_of network) ≡ None
   first-unadopted id past = unadopted (sights_of network) first_host second_host id (λ k s at stands. (
     record { addr = second_host; id = k + 2 },
     (wired.halves k s at).first stands,
@@ -99,7 +103,8 @@ module _ {C : Type 0} (network : Network C) (wired : IsWired network) where
   ))
 
   -- nor the first
-  pub second-unadopted : (id : ℕ) → length (sights_of network) ≤ id → first_with (adopts second_host first_host id) (sights_of network) ≡ None
+  pub second-unadopted : (id : ℕ) → length (sights_of network) ≤ id
+      → first_with (adopts second_host first_host id) (sights_of network) ≡ None
   second-unadopted id past = unadopted (sights_of network) second_host first_host id (λ k s at stands. (
     record { addr = first_host; id = k },
     (wired.halves k s at).second stands,
