@@ -27,3 +27,4 @@ pub mod AddedLemmas
 pub mod GivenLemmas
 pub mod DatagramLemmas
 pub mod AcceptLemmas
+pub mod HeardLemmas
