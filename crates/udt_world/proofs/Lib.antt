@@ -34,3 +34,4 @@ pub mod OpeningLemmas
 pub mod NewLemmas
 pub mod EndpointLemmas
 pub mod UnderLemmas
+pub mod HeardLemmas
