@@ -1,5 +1,5 @@
 -- What waits at a listener is a socket that no line has named yet, and waits there once.
-use Rattle.std.proofs.Common.{◌≡◌, ℕ, ◌+◌, ◌-◌, ◌<◌, false, List, [], ◌∷◌, ◌++◌, length, Some, Ok, refl, ap, ◌∙◌, sym, subst, inl, inr, ◌⊎◌, arith}
+use Rattle.std.proofs.Common.{◌≡◌, ℕ, zero, suc, ◌+◌, ◌-◌, ◌<◌, false, List, [], ◌∷◌, ◌++◌, length, Some, Ok, refl, ap, ◌∙◌, sym, subst, inl, inr, ◌⊎◌, arith}
 use Rattle.std.specs.Prelude.{slice_get, slice_set}
 use Rattle.std.specs.List.{Contains}
 use Rattle.udt_model.specs.Events.{Act, Accept, Offer, Accepted, Event, event}
@@ -9,6 +9,7 @@ use Rattle.udt_model.specs.Rate.{Ways}
 use Rattle.udt_model.specs.Script.{event_at, with_socket, with_name}
 use Rattle.udt_model.specs.Step.{step}
 use Rattle.udt_model.specs.Words.{is_name}
+use Rattle.udt_laws.proofs.scripts.ReplacedOne.{append-found, append-first}
 use Rattle.udt_world.specs.Wiring.{waiting_at}
 
 module _ {C : Type 0} (w : Ways C) where
@@ -37,9 +38,37 @@ module _ {C : Type 0} (w : Ways C) where
     once = λ i j a b id s t at. absurd (no_sockets i s at);
   }
 
+  still-unnamed : (n : Network C) (fresh : ScriptSocket C) (id : ℕ) → IsUnnamed n id → IsUnnamed (with_socket n fresh) id
+  still-unnamed n fresh id is = record {
+    positive = is.positive;
+    socket = is.socket;
+    at = append-first n.sockets (fresh ∷ []) (id - 1) is.socket is.at;
+    unnamed = is.unnamed;
+  }
+
   -- a socket at which nothing waits is added
   pub added-queued : (n : Network C) (fresh : ScriptSocket C) → queue_of fresh ≡ [] → IsQueued n → IsQueued (with_socket n fresh)
-  added-queued n fresh none is = ?
+  added-queued n fresh none is =
+      let queue_none : (j : ℕ) (s : ScriptSocket C) → slice_get (fresh ∷ []) j ≡ Some s → queue_of s ≡ [] = λ j s at. ap queue_of (sym (only j s at)) ∙ none in
+      record {
+        unnamed = λ k id s at waits. elim (append-found n.sockets (fresh ∷ []) k s at) [
+          | inl old ↦ still-unnamed n fresh id (is.unnamed k id s old waits)
+          | inr past ↦ absurd (none-waits id (subst (λ (ids : List ℕ). Contains ids id) (queue_none past.0 s past.2) waits))
+        ];
+        once = λ i j a b id s t at_s at_t first second. elim (append-found n.sockets (fresh ∷ []) i s at_s) [
+          | inl old ↦ elim (append-found n.sockets (fresh ∷ []) j t at_t) [
+            | inl other ↦ is.once i j a b id s t old other first second
+            | inr past ↦ absurd (no_sockets b id (subst (λ (ids : List ℕ). slice_get ids b ≡ Some id) (queue_none past.0 t past.2) second))
+          ]
+          | inr past ↦ absurd (no_sockets a id (subst (λ (ids : List ℕ). slice_get ids a ≡ Some id) (queue_none past.0 s past.2) first))
+        ];
+      }
+    where
+      only : (j : ℕ) (s : ScriptSocket C) → slice_get (fresh ∷ []) j ≡ Some s → fresh ≡ s
+      only zero s at = cc
+      only (suc j) s at = absurd (no_sockets j s at)
+      none-waits : (id : ℕ) → Contains [] id → ⊥
+      none-waits id among = omega (arith, among.1)
 
   -- an event by which nothing comes to wait
   pub event-queued : (n : Network C) (k : ℕ) (socket : ScriptSocket C) (event : Event) → slice_get n.sockets k ≡ Some socket

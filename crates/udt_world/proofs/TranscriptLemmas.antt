@@ -1,8 +1,13 @@
 -- Entries tell the histories of a network, so that what they say was received and sent is in step.
-use Rattle.std.proofs.Common.{◌≡◌, ℕ, zero, suc, ◌+◌, ◌-◌, ◌<◌, ◌^◌, Bool, true, false, not, ◌||◌, List, [], ◌∷◌, ◌++◌, length, map, Some, None, Option, Ok, refl, ap, ◌∙◌, sym, subst, inl, inr, ◌⊎◌, arith, option_map, append_assoc}
+use Rattle.std.proofs.Common.{◌≡◌, ℕ, zero, suc, ◌+◌, ◌-◌, ◌<◌, ◌^◌, Bool, true, false, not, ◌||◌, List, [], ◌∷◌, ◌++◌, length, map, Some, None, Option, Ok, refl, ap, ◌∙◌, sym, subst, inl, inr, ◌⊎◌, arith, rules, tests, option_map, append_assoc}
 use Rattle.std.specs.Prelude.{slice_get, slice_set, if◌then◌else◌, is_some, nat_lt, decimal}
 use Rattle.std.specs.List.{Contains}
-use Rattle.std.proofs.lemmas.Bool.{cases_eq, and_parts}
+use Rattle.std.specs.Str.{all_ascii_digits}
+use Rattle.std.specs.Char.{is_ascii_digit, is_ascii_lowercase}
+use Rattle.std.proofs.lemmas.Fmt.{decimal_injective, digits_decimal}
+use Rattle.std.specs.Str.Parse.{digits_value}
+use Rattle.std.proofs.lemmas.Str.Parse.{IsNumeralModel, numerals_by_value}
+use Rattle.std.proofs.lemmas.Bool.{cases_eq, and_parts, ltb-true}
 use Rattle.std.proofs.lemmas.List.{append-nil, map-append}
 use Rattle.std.proofs.lemmas.List.Concat.{flat_map-append}
 use Rattle.std.proofs.lemmas.List.Elements.{Contains-push_cases}
@@ -44,7 +49,7 @@ use Rattle.udt_world.specs.Wiring.{IsGiven}
 use Rattle.udt_world.proofs.GivenLemmas.{Names, line_names}
 use Rattle.udt_world.proofs.QueueLemmas.{queue_of, IsUnnamed, IsQueued, none-queued, added-queued, event-queued, offered-queued, accept-queued}
 use Rattle.udt_world.proofs.LineLemmas.{no_lines, accepted-by, left-after}
-use Rattle.udt_world.proofs.PlaceLemmas.{same_word, is_same_word, name_there, place-set, position-first, position-others, position-cons, position-apart, position-here}
+use Rattle.udt_world.proofs.PlaceLemmas.{same_word, is_same_word, name_there, found_there, place-set, position-first, position-others, position-cons, position-apart, position-here}
 
 -- the entries say of this name nothing
 record SaysNothing (name : List ℕ) (entries : List Entry) : Type 0 where
@@ -134,6 +139,18 @@ is_false false is = refl
 
 no_socket : {X : Type 0} (k : ℕ) (x : X) → slice_get [] k ≡ Some x → ⊥
 no_socket k x at = cc
+
+true-false : true ≡ false → ⊥
+true-false is = cc
+
+digit-no_letter : (c : ℕ) → is_ascii_digit c ≡ true → is_ascii_lowercase c ≡ false
+digit-no_letter c digit = grind (arith, tests)
+
+numerals : IsNumeralModel (λ ds. all_ascii_digits ds ≡ true) (digits_value 10)
+numerals = numerals_by_value _ (search rules)
+
+number-digits : (n : ℕ) → n < 2 ^ 64 → all_ascii_digits (decimal n) ≡ true
+number-digits n few = digits_decimal numerals n few
 
 module _ {C : Type 0} (w : Ways C) where
   -- the entries say of this name what the history says, which gave no bytes of a stream where the socket carries messages
@@ -677,12 +694,35 @@ module _ {C : Type 0} (w : Ways C) where
   -- ---- arrivals
 
   -- no name of a line is a number, and no socket has that of the next ID
-  number-unnamed : (n : ℕ) → is_name (decimal n) ≡ false
-  number-unnamed n = ?
+  starts-apart : (text : List ℕ) → all_ascii_digits text ≡ true → is_name text ≡ false
+  starts-apart [] digits = refl
+  starts-apart (c ∷ text) digits =
+      let digit = and_parts _ _ digits in
+      let letter : is_ascii_lowercase c ≡ false = digit-no_letter c digit.0 in
+      rw letter refl
 
-  number-free : (n : Network C) (entries : List Entry) → IsTold n entries → place_of (decimal (length n.sockets + 1)) n.sockets ≡ None
-  unfolding place_of
-  number-free n entries told = ?
+  number-unnamed : (n : ℕ) → n < 2 ^ 64 → is_name (decimal n) ≡ false
+  number-unnamed n few = starts-apart (decimal n) (number-digits n few)
+
+  number-held : (n : Network C) (k : ℕ) (socket : ScriptSocket C) → length n.sockets < 2 ^ 32 → slice_get n.sockets k ≡ Some socket → IsGiven k socket.name
+      → socket.name ≡ decimal (length n.sockets + 1) → ⊥
+  number-held n k socket few at (inl own) is =
+      let below = slice_get_within n.sockets k socket at in
+      let same = decimal_injective (k + 1) (length n.sockets + 1) (omega (arith, few, below)) (omega (arith, few)) (sym own ∙ is) in
+      omega (arith, same, below)
+  number-held n k socket few at (inr named) is =
+      let unnamed = number-unnamed (length n.sockets + 1) (omega (arith, few)) in
+      true-false (sym named ∙ (ap is_name is ∙ unnamed))
+
+  number-free : (n : Network C) (entries : List Entry) → length n.sockets < 2 ^ 32 → IsTold n entries
+      → place_of (decimal (length n.sockets + 1)) n.sockets ≡ None
+  number-free n entries few told = by (place_of (decimal (length n.sockets + 1)) n.sockets) refl
+    where
+      by : (found : Option ℕ) → place_of (decimal (length n.sockets + 1)) n.sockets ≡ found → found ≡ None
+      by None is = refl
+      by (Some k) is =
+          let there = found_there (decimal (length n.sockets + 1)) n.sockets k is in
+          absurd (number-held n k there.0 few there.1 (told.given k there.0 there.1) (name_there (decimal (length n.sockets + 1)) n.sockets k there.0 is there.1))
 
   module _ (now : ℕ) (datagram : ScriptDatagram) where
     abbrev arrival : Event
@@ -706,19 +746,19 @@ module _ {C : Type 0} (w : Ways C) where
     withdraw-gives s at = refl
 
     -- a socket is made, offered, and given the request
-    connected-told : (n : Network C) (entries : List Entry) (k : ℕ) (listener socket : ScriptSocket C) (shake : Shake) → slice_get n.sockets k ≡ Some socket
-        → IsTold n entries
+    connected-told : (n : Network C) (entries : List Entry) (k : ℕ) (listener socket : ScriptSocket C) (shake : Shake) → length n.sockets < 2 ^ 32
+        → slice_get n.sockets k ≡ Some socket → IsTold n entries
         → IsTold (and_then
         (event_there w (with_socket n (made_for w n listener datagram.from shake)) k (event now (Offer (length n.sockets + 1))))
         (λ (m : Network C). event_there w m (length n.sockets) arrival)).network entries
     unfolding event_at after_items opening
-    connected-told n entries k listener socket shake at told =
+    connected-told n entries k listener socket shake few at told =
         let new = made_for w n listener datagram.from shake in
         let more = with_socket n new in
         let offer = event now (Offer (length n.sockets + 1)) in
-        let one = added-told n entries new (number-free n entries told) refl refl (inl refl) told in
+        let one = added-told n entries new (number-free n entries few told) refl refl (inl refl) told in
         let still = append-first n.sockets (new ∷ []) k socket at in
-        let queued = offered-queued w n new k socket now refl (number-unnamed (length n.sockets + 1)) at told.queued in
+        let queued = offered-queued w n new k socket now refl (number-unnamed (length n.sockets + 1) (omega (arith, few))) at told.queued in
         let says = none-says socket.name _ _ entries (offer-gives (state_of w socket.history) (length n.sockets + 1)) refl in
         let two = event-told more entries one k socket offer still entries says queued in
         let below = slice_get_within n.sockets k socket at in
@@ -731,16 +771,16 @@ module _ {C : Type 0} (w : Ways C) where
     offered-told : (n : Network C) (entries : List Entry) (k : ℕ) (listener socket : ScriptSocket C) (shake : Shake) → slice_get n.sockets k ≡ Some socket
         → IsTold n entries → IsTold (offered w n now k listener datagram shake).network entries
     offered-told n entries k listener socket shake at told =
-        elim (nat_lt (length n.sockets) MOST_SOCKETS) as (λ room. IsTold (
+        elim (nat_lt (length n.sockets) MOST_SOCKETS) as (λ room. nat_lt (length n.sockets) MOST_SOCKETS ≡ room → IsTold (
         if room
         then and_then
         (event_there w (with_socket n (made_for w n listener datagram.from shake)) k (event now (Offer (length n.sockets + 1))))
         (λ (m : Network C). event_there w m (length n.sockets) arrival)
         else event_there w n k (event now Withdraw)).network entries) [
-          | true ↦ connected-told n entries k listener socket shake at told
-          | false ↦ rw (there n k socket (event now Withdraw) at) (silent-told n entries told k socket (event now Withdraw) at
+          | true ↦ λ test. connected-told n entries k listener socket shake (omega (arith, ltb-true (length n.sockets) MOST_SOCKETS test)) at told
+          | false ↦ λ test. rw (there n k socket (event now Withdraw) at) (silent-told n entries told k socket (event now Withdraw) at
               (withdraw-gives (state_of w socket.history) now) refl (λ id is. absurd (cc)))
-        ]
+        ] refl
 
     followed-told : (n : Network C) (entries : List Entry) (k : ℕ) (listener socket : ScriptSocket C) (text : List ℕ) (shake : Option Shake) (reply : Reply)
         → slice_get n.sockets k ≡ Some socket → IsTold n entries
@@ -790,9 +830,6 @@ module _ {C : Type 0} (w : Ways C) where
       let rest = unnamed-says name entries unnamed in
       let none = unnamed-adds name (read_line e.line) e.answer (λ line is. (line_names e.line).given line is) unnamed in
       record { received = rw (none.0, rest.received) refl; sent = rw (none.1, rest.sent) refl }
-
-  true-false : true ≡ false → ⊥
-  true-false is = cc
 
   -- two words that aren't one
   apart-words : (a b : List ℕ) → (a ≡ b → ⊥) → is_word a b ≡ false
