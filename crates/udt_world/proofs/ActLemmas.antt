@@ -43,6 +43,11 @@ use Rattle.udt_model.proofs.PeerLemmas.{KeepsPeer}
 use Rattle.udt_model.proofs.PhaseLemmas.{repeats-show}
 use Rattle.udt_world.specs.Wiring.{FitsPhase, IsAdopted, waiting_at}
 
+-- what waits behind the first one waits
+pub still-waits : (ids : List ℕ) (id : ℕ) → Contains (drop 1 ids) id → Contains ids id
+still-waits [] id waits = waits
+still-waits (first ∷ ids) id waits = Contains-append_right (first ∷ []) ids id waits
+
 none-waits : (id : ℕ) → Contains [] id → ⊥
 none-waits id waits = omega (arith, waits.1)
 
@@ -109,13 +114,9 @@ module _ {C : Type 0} where
   accept-turn : (s : State C) (p : Phase) → TurnsTo s Accept p (phase_after_accept p)
   accept-turn s (phase.Listening b) = record {
     closed = λ closed. closed;
-    waits = λ id waits. inl (later b.offered id waits);
+    waits = λ id waits. inl (still-waits b.offered id waits);
     fits = λ fits. fits;
   }
-    where
-      later : (ids : List ℕ) (id : ℕ) → Contains (drop 1 ids) id → Contains ids id
-      later [] id waits = waits
-      later (first ∷ ids) id waits = Contains-append_right (first ∷ []) ids id waits
   accept-turn s _ = same-turn s Accept _
 
   offered-turn : (s : State C) (b : Backlog) (id promised : ℕ) → TurnsTo s (Offer id) (phase.Listening b) (phase.Listening (with_offer b id promised))

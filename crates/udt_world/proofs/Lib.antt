@@ -7,6 +7,7 @@ pub mod ToldLemmas
 pub mod MovedLemmas
 pub mod WiredLemmas
 pub mod AlikeLemmas
+pub mod RenamedLemmas
 pub mod PlaceLemmas
 pub mod ClosedLemmas
 pub mod HostLemmas
@@ -28,3 +29,9 @@ pub mod EmptyLemmas
 pub mod AddedLemmas
 pub mod GivenLemmas
 pub mod DatagramLemmas
+pub mod AcceptLemmas
+pub mod OpeningLemmas
+pub mod NewLemmas
+pub mod EndpointLemmas
+pub mod UnderLemmas
+pub mod HeardLemmas

@@ -1,20 +1,22 @@
 // Datagrams that arrive: where each goes, and the sockets that are made for requests.
 
-ghost use Rattle.std.specs.Prelude.{◌≡◌, ℕ, ◌<◌, ◌^◌, true, take, Some, slice_get, vec_len, IfOk, OnOk, OnErr};
+ghost use Rattle.std.specs.Prelude.{◌≡◌, ℕ, ◌<◌, ◌^◌, true, take, Some, None, slice_get, vec_len, IfOk, OnOk, OnErr};
 ghost use Rattle.std.specs.Option.{ForSome};
+ghost use Rattle.udt_model.specs.declared.routes.Routed.TheVariants as routing;
 ghost use Rattle.udt_model.specs.Connections.{config_of};
 ghost use Rattle.udt_model.specs.Events.{Arrive};
 ghost use Rattle.udt_model.specs.Handshakes as model;
+ghost use Rattle.udt_model.specs.History.{state_of};
 ghost use Rattle.udt_model.specs.Lines.{DeliverLine};
 ghost use Rattle.udt_model.specs.Network as network;
 ghost use Rattle.udt_model.specs.Opening.{opening};
 ghost use Rattle.udt_model.specs.Routes as routes;
-ghost use Rattle.udt_model.specs.Script.{arrived, delivery, on_line};
+ghost use Rattle.udt_model.specs.Script.{arrived, delivery, offered, on_line};
 ghost use Rattle.udt_script.specs.CodeLines.{datagram_of};
 ghost use Rattle.udt_world.specs.declared.hosts.Endpoint.{Endpoint};
-ghost use Rattle.udt_world.specs.Done.{DoesLine, IsRoute};
-ghost use Rattle.udt_world.specs.Views.{view_of, Shows};
-ghost use Rattle.udt_world.specs.Wiring.{sights_of, IsEndpoint, IsWired, MayHappen};
+ghost use Rattle.udt_world.specs.Done.{DoesLine, IsRoute, IsRoutedAs};
+ghost use Rattle.udt_world.specs.Views.{view_of, Shows, Sight};
+ghost use Rattle.udt_world.specs.Wiring.{adopts, first_with, seen_at, sights_of, IsEndpoint, IsWired, MayHappen};
 
 use crate::network::{Act, Network};
 use crate::opening::{named, opened};
@@ -35,7 +37,10 @@ pub enum Route {
 }
 
 // Where a datagram goes in the network that goes so at its host.
-fn route_by(routed: Routed) -> Route {
+fn route_by(routed: Routed) -> Route
+    requires { (id : ℕ) → routed ≡ routing.ToSocket id → 0 < id }
+    ensures { IsRoutedAs routed result }
+{
     match routed {
         Routed::ToSocket(id) => Route::To(id as usize - 1),
         Routed::Short => Route::Nowhere(b"short"),
@@ -66,9 +71,11 @@ impl<C: Control> Network<C> {
     // Where bytes go that come from this address, by what the endpoint at this place knows.
     fn destination(&self, endpoint: usize, from: Addr, bytes: &[u8]) -> Routed
         requires { endpoint < vec_len self.now.endpoints }
-        ensures { (n : network.Network C) (known : Endpoint) → Shows C.ways n (view_of self.now) → IsWired self.now
+        ensures value { (n : network.Network C) (known : Endpoint) → Shows C.ways n (view_of self.now) → IsWired self.now
             → slice_get self.now.endpoints.items endpoint ≡ Some known
             → result ≡ routes.route (network.known_at C.ways n.sockets known.addr) from bytes.now }
+        ensures seen { (known : Endpoint) → IsWired self.now → slice_get self.now.endpoints.items endpoint ≡ Some known
+            → result ≡ routes.route (seen_at (sights_of self.now) known.addr) from bytes.now }
     {
         self.endpoints[endpoint].routes.destination_of(from, bytes)
     }
@@ -153,7 +160,20 @@ impl<C: Control + Drop> Network<C> {
         datagram: &ScriptDatagram,
         shake: Shake,
         out: &mut Vec<u8>,
-    ) -> Result<(), AllocError> {
+    ) -> Result<(), AllocError>
+        requires place { place < vec_len self.old.sockets }
+        requires wired { IsWired self.old }
+        requires isn { shake.isn < 2 ^ 31 }
+        requires unadopted { (s : Sight C) → slice_get (sights_of self.old) place ≡ Some s
+            → first_with (adopts s.host datagram.now.from shake.id) (sights_of self.old) ≡ None }
+        ensures done { OnOk result ((n : network.Network C) (listener : network.ScriptSocket C) (s : Sight C)
+            → Shows C.ways n (view_of self.old) → slice_get (sights_of self.old) place ≡ Some s
+            → listener.host ≡ s.host → config_of (state_of C.ways listener.history) ≡ config_of s.state
+            → DoesLine C.ways n (Some (offered C.ways n now place listener (datagram_of datagram.now) shake)) true
+            (view_of self.new) out.old.items out.new.items) }
+        ensures wired { OnOk result (IsWired self.new) }
+        ensures err { OnErr result (take (vec_len out.old) out.new.items ≡ out.old.items) }
+    {
         if !self.has_room(1) {
             self.event(place, now, &Act::Withdraw, out)?;
             return Ok(());
