@@ -22,7 +22,7 @@ get-other [] x (suc k) apart = refl
 get-other (y ∷ xs) x zero apart = refl
 get-other (y ∷ xs) x (suc k) apart = get-other xs x k (λ e. apart (ap suc e))
 
-get-end : {A : Type 0} (xs : List A) (x : A) → slice_get (xs ++ x ∷ []) (length xs) ≡ Some x
+pub get-end : {A : Type 0} (xs : List A) (x : A) → slice_get (xs ++ x ∷ []) (length xs) ≡ Some x
 get-end [] x = refl
 get-end (y ∷ xs) x = get-end xs x
 

@@ -27,6 +27,7 @@ pub mod NameLemmas
 pub mod PushLemmas
 pub mod EmptyLemmas
 pub mod AddedLemmas
+pub mod AddLemmas
 pub mod GivenLemmas
 pub mod DatagramLemmas
 pub mod AcceptLemmas

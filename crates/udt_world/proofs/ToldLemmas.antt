@@ -245,7 +245,7 @@ or_then-none : {A : Type 0} (o : Option A) → or_then o None ≡ o
 or_then-none None = refl
 or_then-none (Some x) = refl
 
-and-false : (b : Bool) → (b && false) ≡ false
+pub and-false : (b : Bool) → (b && false) ≡ false
 and-false true = refl
 and-false false = refl
 
