@@ -28,3 +28,4 @@ pub mod GivenLemmas
 pub mod DatagramLemmas
 pub mod AcceptLemmas
 pub mod HeardLemmas
+pub mod NumberLemmas
