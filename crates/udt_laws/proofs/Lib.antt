@@ -7,3 +7,4 @@ pub mod acked_has_arrived
 pub mod pairs
 pub mod laid_messages
 pub mod scripts
+pub mod honest

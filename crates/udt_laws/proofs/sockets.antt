@@ -2,6 +2,7 @@
 pub mod Begins
 pub mod Opened
 pub mod SuitedPeers
+pub mod IdleFronts
 pub mod ConnectedParts
 pub mod WasSaid
 pub mod OneSocket

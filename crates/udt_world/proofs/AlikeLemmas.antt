@@ -1,6 +1,7 @@
--- A network stays wired where a socket takes or gives bytes, or a connection that waits: what an endpoint may know of it stays.
+-- A network stays wired where a socket becomes one of which an endpoint knows the same.
 use Rattle.std.proofs.Common.{◌≡◌, ℕ, zero, suc, ◌+◌, ◌≤◌, ◌<◌, ◌&&◌, ◌||◌, Bool, List, [], ◌∷◌, Some, None, Option, is_some, length, map, refl, ap, ◌∙◌, sym, subst, arith, inl, inr}
-use Rattle.std.specs.Prelude.{slice_get, slice_set, vec_len}
+use Rattle.std.specs.Global.{Global}
+use Rattle.std.specs.Prelude.{slice_get, slice_set, vec_len, Vec}
 use Rattle.std.specs.List.{Contains}
 use Rattle.std.proofs.lemmas.Bool.{cases_eq}
 use Rattle.std.proofs.lemmas.List.{length-set}
@@ -9,12 +10,11 @@ use Rattle.udt_model.specs.declared.limits.TheConstants.{MOST_SOCKETS}
 use Rattle.udt_model.specs.declared.packets.Kind.{Kind}
 use Rattle.udt_model.specs.declared.packets.Kind.TheVariants as kind
 use Rattle.udt_model.specs.Calls.{send_in, send_as, recv_in, recv_as}
-use Rattle.udt_model.specs.declared.answers.Heard.{Heard}
 use Rattle.udt_model.specs.declared.answers.Origin.{Origin}
 use Rattle.udt_model.specs.declared.answers.Peer.{Peer}
 use Rattle.udt_model.specs.Connections.{phase_after_accept}
-use Rattle.udt_model.specs.Events.{Accept, Arrive, DidHear, Event, Recv, Reply, Send, at_moment, event}
-use Rattle.udt_model.specs.Network.{first_met, is_listening, meets_by}
+use Rattle.udt_model.specs.Events.{Accept, Event, Recv, Reply, Send, at_moment, event}
+use Rattle.udt_model.specs.Network.{address_of_host, first_met, is_listening, meets_by}
 use Rattle.udt_model.specs.Phases.{Phase, Link, Stands, Lost, Absent, is_closed, link_of}
 use Rattle.udt_model.specs.Phases as phase
 use Rattle.udt_model.specs.Rate.{Ways}
@@ -25,9 +25,10 @@ use Rattle.udt_model.specs.Words.{is_word}
 use Rattle.udt_routes.specs.Tables.{Table}
 use Rattle.udt_laws.proofs.scripts.ReplacedOne.{found-once, set-same}
 use Rattle.udt_world.specs.declared.network.Network.{Network}
+use Rattle.udt_world.specs.declared.network.ScriptHost.{ScriptHost}
 use Rattle.udt_world.specs.declared.network.ScriptSocket.{ScriptSocket}
-use Rattle.udt_world.specs.Views.{Sight, after_event, sight_of}
-use Rattle.udt_world.specs.Wiring.{FitsPhase, HasAddress, IsGiven, IsWired, Knows, adopts, is_any, is_here, listens, meets, one_if, peer_in, place_seen, sight_with, sights_of, waiting_at}
+use Rattle.udt_world.specs.Views.{Sight, after_event, host_of, sight_of}
+use Rattle.udt_world.specs.Wiring.{FitsPhase, HasAddress, IsGiven, IsHalf, IsWired, Knows, adopts, is_any, is_here, listens, meets, one_if, peer_in, place_seen, place_under, sight_with, sights_of, waiting_at}
 use Rattle.udt_world.proofs.ActLemmas.{still-waits}
 use Rattle.udt_world.proofs.FirstLemmas.{Only, first-set, only-set, position-set, replaced-cases, sum-set, with-place, with-set}
 use Rattle.udt_world.proofs.WiredLemmas.{mapped, sight-at}
@@ -109,25 +110,29 @@ module _ {C : Type 0} where
   unfolding step
   recv-keeps w s now room = look-on s now _ (recv_as-look (at_moment s now) room s.kind)
 
-module _ {C : Type 0} (sights : List (Sight C)) (place : ℕ) (s : Sight C) (after : State C)
-    (found : slice_get sights place ≡ Some s) (keeps : StaysKnown s.state after) where
-  abbrev next : Sight C
-  next = record s { state = after }
+-- two sights of which an endpoint knows the same
+pub record IsAlike {C : Type 0} (s t : Sight C) : Type 0 where
+  pub host : t.host ≡ s.host
+  pub listened : t.listened ≡ s.listened
+  pub met : t.met ≡ s.met
+  pub look : StaysKnown s.state t.state
 
+module _ {C : Type 0} (sights : List (Sight C)) (place : ℕ) (s next : Sight C) (found : slice_get sights place ≡ Some s)
+    (alike : IsAlike s next) where
   here-same : (host : Addr) → is_here host next ≡ is_here host s
-  here-same host = rw keeps.closed refl
+  here-same host = rw (alike.host, alike.look.closed) refl
 
   peer-same : peer_in next ≡ peer_in s
-  peer-same = rw (keeps.origin, keeps.peer) refl
+  peer-same = rw (alike.look.origin, alike.look.peer) refl
 
   adopts-same : (host addr : Addr) (id : ℕ) → adopts host addr id next ≡ adopts host addr id s
-  adopts-same host addr id = rw (keeps.origin, keeps.peer) refl
+  adopts-same host addr id = rw (alike.host, alike.look.origin, alike.look.peer) refl
 
   listens-same : (host : Addr) → listens host next ≡ listens host s
-  listens-same host = rw keeps.closed refl
+  listens-same host = rw (alike.host, alike.look.closed, alike.listened) refl
 
   meets-same : (host addr : Addr) → meets host addr next ≡ meets host addr s
-  meets-same host addr = rw keeps.closed refl
+  meets-same host addr = rw (alike.host, alike.look.closed, alike.met) refl
 
   only-alike : (p : Sight C → Bool) → p next ≡ p s → Only p sights → Only p (slice_set sights place next)
   only-alike p same only = only-set p sights place s next found only (λ passes. inl (sym same ∙ passes))
@@ -143,9 +148,11 @@ module _ {C : Type 0} (sights : List (Sight C)) (place : ℕ) (s : Sight C) (aft
             ∙ ap (is_any (is_here host)) (with-place sights place ∙ found))))
         | inr differs ↦ ap (is_any (is_here host)) (with-set sights place next id differs)
       ]);
-      adopter = λ addr id. knows.same.adopter addr id ∙ sym (first-set (adopts host addr id) sights place s next found (adopts-same host addr id));
+      adopter = λ addr id. knows.same.adopter addr id
+          ∙ sym (first-set (adopts host addr id) sights place s next found (adopts-same host addr id));
       listener = knows.same.listener ∙ sym (first-set (listens host) sights place s next found (listens-same host));
-      meeter = λ addr. knows.same.meeter addr ∙ sym (first-set (meets host addr) sights place s next found (meets-same host addr));
+      meeter = λ addr. knows.same.meeter addr
+          ∙ sym (first-set (meets host addr) sights place s next found (meets-same host addr));
     };
     adopted_once = knows.adopted_once;
     met_once = knows.met_once;
@@ -154,82 +161,124 @@ module _ {C : Type 0} (sights : List (Sight C)) (place : ℕ) (s : Sight C) (aft
     ids = knows.ids;
     live = knows.live;
     enrolled = omega (arith, knows.enrolled, length-set sights place next);
-    adoptions =
-        omega (arith, knows.adoptions, sum-set (λ (x : Sight C). one_if (is_some (peer_in x))) sights place s next found, ap (λ (o : Option PeerPair). one_if (is_some o)) peer-same);
-    meetings = omega (arith, knows.meetings, sum-set (λ (x : Sight C). one_if (is_some x.met)) sights place s next found);
+    adoptions = omega (arith, knows.adoptions, sum-set (λ (x : Sight C). one_if (is_some (peer_in x))) sights place s next found,
+        ap (λ (o : Option PeerPair). one_if (is_some o)) peer-same);
+    meetings = omega (arith, knows.meetings, sum-set (λ (x : Sight C). one_if (is_some x.met)) sights place s next found,
+        ap (λ (o : Option Addr). one_if (is_some o)) alike.met);
   }
 
-module _ {C : Type 0} (old new : Network C) (place : ℕ) (socket : ScriptSocket C) (after : State C) (wired : IsWired old)
-    (found : slice_get old.sockets.items place ≡ Some socket) (keeps : StaysKnown socket.socket after)
-    (sockets_are : new.sockets.items ≡ slice_set old.sockets.items place (record socket { socket = after }))
-    (sights_are : sights_of new ≡ slice_set (sights_of old) place (record (sight_of socket) { state = after }))
-    (endpoints_are : new.endpoints.items ≡ old.endpoints.items) (names_are : new.names ≡ old.names)
+-- one socket became another one of which an endpoint knows the same
+module _ {C : Type 0} (old new : Network C) (place : ℕ) (socket later : ScriptSocket C) (wired : IsWired old)
+    (found : slice_get old.sockets.items place ≡ Some socket) (alike : IsAlike (sight_of socket) (sight_of later))
+    (stays : later.endpoint ≡ socket.endpoint)
+    (sockets_are : new.sockets.items ≡ slice_set old.sockets.items place later)
+    (sights_are : sights_of new ≡ slice_set (sights_of old) place (sight_of later))
+    (endpoints_are : new.endpoints.items ≡ old.endpoints.items) (hosts_are : new.hosts ≡ old.hosts)
     (count : vec_len new.sockets ≡ vec_len old.sockets) where
-  abbrev later : Sight C
-  later = record (sight_of socket) { state = after }
-
   seen : slice_get (sights_of old) place ≡ Some (sight_of socket)
   seen = sight-at old place socket found
 
-  each : {P : Type 0} (p : ℕ) (x : Sight C) → slice_get (sights_of new) p ≡ Some x → (p ≡ place → x ≡ later → P)
+  pub each-after : {P : Type 0} (p : ℕ) (x : Sight C) → slice_get (sights_of new) p ≡ Some x → (p ≡ place → x ≡ sight_of later → P)
       → ((p ≡ place → ⊥) → slice_get (sights_of old) p ≡ Some x → P) → P
-  each p x at =
-      replaced-cases (sights_of old) place (sight_of socket) later seen p x (ap (λ (l : List (Sight C)). slice_get l p) (sym sights_are) ∙ at)
+  each-after p x at =
+      replaced-cases (sights_of old) place (sight_of socket) (sight_of later) seen p x
+      (ap (λ (l : List (Sight C)). slice_get l p) (sym sights_are) ∙ at)
 
   count_same : length (sights_of new) ≡ length (sights_of old)
-  count_same = ap length sights_are ∙ length-set (sights_of old) place later
-
-  seen_same : (name : List ℕ) → place_seen (sights_of new) name ≡ place_seen (sights_of old) name
-  seen_same name =
-      ap (λ (l : List (Sight C)). place_seen l name) sights_are
-      ∙ position-set (λ (x : Sight C). is_word x.name name) (sights_of old) place (sight_of socket) later seen refl
+  count_same = ap length sights_are ∙ length-set (sights_of old) place (sight_of later)
 
   stood : (p : ℕ) (x : ScriptSocket C) → slice_get new.sockets.items p ≡ Some x → HasAddress old.endpoints.items x.endpoint x.host
   stood p x at =
-      replaced-cases old.sockets.items place socket (record socket { socket = after }) found p x
+      replaced-cases old.sockets.items place socket later found p x
       (ap (λ (l : List (ScriptSocket C)). slice_get l p) (sym sockets_are) ∙ at)
-      (λ is x_is. subst (λ (y : ScriptSocket C). HasAddress old.endpoints.items y.endpoint y.host) (sym x_is) (wired.stands place socket found))
+      (λ is x_is. subst (λ (y : ScriptSocket C). HasAddress old.endpoints.items y.endpoint y.host) (sym x_is)
+      (rw (stays, alike.host) (wired.stands place socket found)))
       (λ apart before. wired.stands p x before)
 
-  -- the sockets and the endpoints fit together still
-  pub alike-wired : IsWired new
-  alike-wired = record {
+  -- so the sockets and the endpoints fit together still, where the names do
+  pub placed-wired : ((name : List ℕ) → place_under new name ≡ place_seen (sights_of new) name)
+      → ((p : ℕ) (s : Sight C) → slice_get (sights_of new) p ≡ Some s → place_seen (sights_of new) s.name ≡ Some p)
+      → ((p : ℕ) (s : Sight C) → slice_get (sights_of new) p ≡ Some s → IsGiven p s.name)
+      → IsWired new
+  placed-wired names called given = record {
     few = subst (λ (n : ℕ). n ≤ MOST_SOCKETS) (sym count) wired.few;
     stands = λ p x at. rw endpoints_are (stood p x at);
     apart = λ i j e f at_i at_j same. wired.apart i j e f (rw endpoints_are at at_i) (rw endpoints_are at at_j) same;
     knows = λ p e at. subst (λ (l : List (Sight C)). Knows e.routes l e.addr) (sym sights_are)
-        (alike-knows (sights_of old) place (sight_of socket) after seen keeps e.routes e.addr (wired.knows p e (rw endpoints_are at at)));
-    names = λ name. rw names_are (wired.names name) ∙ sym (seen_same name);
-    called = λ p x at. seen_same x.name ∙ each p x at
-        (λ is x_is. ap (λ (y : Sight C). place_seen (sights_of old) y.name) x_is
-        ∙ (wired.called place (sight_of socket) seen ∙ ap Some (sym is)))
-        (λ apart before. wired.called p x before);
-    given = λ p x at. each p x at
-        (λ is x_is. subst (λ (y : Sight C). IsGiven p y.name) (sym x_is)
-        (subst (λ (q : ℕ). IsGiven q socket.name.items) (sym is) (wired.given place (sight_of socket) seen)))
-        (λ apart before. wired.given p x before);
-    owns = λ p x at. each p x at
+        (alike-knows (sights_of old) place (sight_of socket) (sight_of later) seen alike e.routes e.addr
+        (wired.knows p e (rw endpoints_are at at)));
+    names = names;
+    called = called;
+    given = given;
+    owns = λ p x at. each-after p x at
         (λ is x_is. ap (λ (y : Sight C). y.state.own) x_is
-        ∙ (keeps.own ∙ (wired.owns place (sight_of socket) seen ∙ ap (λ (q : ℕ). q + 1) (sym is))))
+        ∙ (alike.look.own ∙ (wired.owns place (sight_of socket) seen ∙ ap (λ (q : ℕ). q + 1) (sym is))))
         (λ apart before. wired.owns p x before);
-    waits = λ p id x at waits. subst (λ (n : ℕ). (0 < id) × (id ≤ n)) (sym count_same) (each p x at
+    waits = λ p id x at waits. subst (λ (n : ℕ). (0 < id) × (id ≤ n)) (sym count_same) (each-after p x at
         (λ is x_is. wired.waits place id (sight_of socket) seen
-        (keeps.waits id (subst (λ (y : Sight C). Contains (waiting_at y.state.phase) id) x_is waits)))
+        (alike.look.waits id (subst (λ (y : Sight C). Contains (waiting_at y.state.phase) id) x_is waits)))
         (λ apart before. wired.waits p id x before waits));
-    peers = λ p x at. each p x at
+    peers = λ p x at. each-after p x at
         (λ is x_is. subst (λ (y : Sight C). FitsPhase y.state.phase y.state.origin y.state.peer) (sym x_is)
-        (keeps.fits (wired.peers place (sight_of socket) seen)))
+        (alike.look.fits (wired.peers place (sight_of socket) seen)))
         (λ apart before. wired.peers p x before);
+    halves = λ p x at. each-after p x at
+        (λ is x_is. subst (λ (y : Sight C). IsHalf p y.host (peer_in y)) (sym x_is)
+        (rw (alike.host, alike.look.origin, alike.look.peer)
+        (subst (λ (q : ℕ). IsHalf q socket.host (peer_in (sight_of socket))) (sym is) (wired.halves place (sight_of socket) seen))))
+        (λ apart before. wired.halves p x before);
+    free = λ name addr named. wired.free name addr
+        (ap (λ (v : Vec ScriptHost Global). address_of_host name (map host_of v.items)) (sym hosts_are) ∙ named);
     listens_once = λ host. rw sights_are
-        (only-alike (sights_of old) place (sight_of socket) after seen keeps (listens host)
-        (listens-same (sights_of old) place (sight_of socket) after seen keeps host) (wired.listens_once host));
+        (only-alike (sights_of old) place (sight_of socket) (sight_of later) seen alike (listens host)
+        (listens-same (sights_of old) place (sight_of socket) (sight_of later) seen alike host) (wired.listens_once host));
     meets_once = λ host addr. rw sights_are
-        (only-alike (sights_of old) place (sight_of socket) after seen keeps (meets host addr)
-        (meets-same (sights_of old) place (sight_of socket) after seen keeps host addr) (wired.meets_once host addr));
+        (only-alike (sights_of old) place (sight_of socket) (sight_of later) seen alike (meets host addr)
+        (meets-same (sights_of old) place (sight_of socket) (sight_of later) seen alike host addr) (wired.meets_once host addr));
     adopts_once = λ host addr id. rw sights_are
-        (only-alike (sights_of old) place (sight_of socket) after seen keeps (adopts host addr id)
-        (adopts-same (sights_of old) place (sight_of socket) after seen keeps host addr id) (wired.adopts_once host addr id));
+        (only-alike (sights_of old) place (sight_of socket) (sight_of later) seen alike (adopts host addr id)
+        (adopts-same (sights_of old) place (sight_of socket) (sight_of later) seen alike host addr id)
+        (wired.adopts_once host addr id));
   }
+
+-- a socket that goes on to a state that looks alike
+module _ {C : Type 0} (old new : Network C) (place : ℕ) (socket : ScriptSocket C) (after : State C) (wired : IsWired old)
+    (found : slice_get old.sockets.items place ≡ Some socket) (keeps : StaysKnown socket.socket after)
+    (sockets_are : new.sockets.items ≡ slice_set old.sockets.items place (record socket { socket = after }))
+    (sights_are : sights_of new ≡ slice_set (sights_of old) place (record (sight_of socket) { state = after }))
+    (endpoints_are : new.endpoints.items ≡ old.endpoints.items) (hosts_are : new.hosts ≡ old.hosts)
+    (names_are : new.names ≡ old.names)
+    (count : vec_len new.sockets ≡ vec_len old.sockets) where
+  abbrev goes_on : ScriptSocket C
+  goes_on = record socket { socket = after }
+
+  goes-alike : IsAlike (sight_of socket) (sight_of goes_on)
+  goes-alike = record { host = refl; listened = refl; met = refl; look = keeps }
+
+  seen_same : (name : List ℕ) → place_seen (sights_of new) name ≡ place_seen (sights_of old) name
+  seen_same name =
+      ap (λ (l : List (Sight C)). place_seen l name) sights_are
+      ∙ position-set (λ (x : Sight C). is_word x.name name) (sights_of old) place (sight_of socket) (sight_of goes_on)
+      (sight-at old place socket found) refl
+
+  each-goes : {P : Type 0} (p : ℕ) (x : Sight C) → slice_get (sights_of new) p ≡ Some x → (p ≡ place → x ≡ sight_of goes_on → P)
+      → ((p ≡ place → ⊥) → slice_get (sights_of old) p ≡ Some x → P) → P
+  each-goes =
+      each-after old new place socket goes_on wired found goes-alike refl sockets_are sights_are endpoints_are hosts_are count
+
+  -- the sockets and the endpoints fit together still
+  pub alike-wired : IsWired new
+  alike-wired =
+      placed-wired old new place socket goes_on wired found goes-alike refl sockets_are sights_are endpoints_are hosts_are count
+      (λ name. rw names_are (wired.names name) ∙ sym (seen_same name))
+      (λ p x at. seen_same x.name ∙ each-goes p x at
+      (λ is x_is. ap (λ (y : Sight C). place_seen (sights_of old) y.name) x_is
+      ∙ (wired.called place (sight_of socket) (sight-at old place socket found) ∙ ap Some (sym is)))
+      (λ apart before. wired.called p x before))
+      (λ p x at. each-goes p x at
+      (λ is x_is. subst (λ (y : Sight C). IsGiven p y.name) (sym x_is)
+      (subst (λ (q : ℕ). IsGiven q socket.name.items) (sym is) (wired.given place (sight_of socket) (sight-at old place socket found))))
+      (λ apart before. wired.given p x before))
 
 or-false : (b : Bool) → (b || Bool.false) ≡ b
 or-false Bool.true = refl
@@ -239,22 +288,16 @@ first-none : (o : Option Addr) → first_met o None ≡ o
 first-none None = refl
 first-none (Some to) = refl
 
--- an event that begins neither to listen nor to meet anybody changes no more than the state
-pub quiet-same : {C : Type 0} (w : Ways C) (s : Sight C) (happens : Event) (after : State C) (reply : Reply)
-    → after ≡ (step w s.state happens).after → reply ≡ (step w s.state happens).reply
-    → is_listening reply ≡ Bool.false → meets_by happens.act reply ≡ None → record s { state = after } ≡ after_event w s happens
-quiet-same w s happens after reply is answers quiet alone =
-    let listened : (s.listened || is_listening (step w s.state happens).reply) ≡ s.listened =
-    ap (λ (r : Reply). s.listened || is_listening r) (sym answers) ∙ (ap (λ (b : Bool). s.listened || b) quiet ∙ or-false s.listened) in
-    let met : first_met s.met (meets_by happens.act (step w s.state happens).reply) ≡ s.met =
-    ap (λ (r : Reply). first_met s.met (meets_by happens.act r)) (sym answers) ∙ (ap (first_met s.met) alone ∙ first-none s.met) in
+-- a socket that answers so, of which the answer says that it begins neither to listen nor to meet anybody
+pub quiet-same : {C : Type 0} (w : Ways C) (s : Sight C) (e : Event) (after : State C) (reply : Reply)
+    → after ≡ (step w s.state e).after → reply ≡ (step w s.state e).reply → is_listening reply ≡ Bool.false → meets_by e.act reply ≡ None
+    → record s { state = after } ≡ after_event w s e
+quiet-same w s e after reply is answers listens meets =
+    let listened : (s.listened || is_listening (step w s.state e).reply) ≡ s.listened =
+    ap (λ (r : Reply). s.listened || is_listening r) (sym answers) ∙ (ap (λ (b : Bool). s.listened || b) listens ∙ or-false s.listened) in
+    let met : first_met s.met (meets_by e.act (step w s.state e).reply) ≡ s.met =
+    ap (λ (r : Reply). first_met s.met (meets_by e.act r)) (sym answers) ∙ (ap (first_met s.met) meets ∙ first-none s.met) in
     rw (listened, met, is) refl
-
--- as one who hears a datagram
-pub heard-same : {C : Type 0} (w : Ways C) (s : Sight C) (now : ℕ) (from : Addr) (bytes : List ℕ) (after : State C) (heard : Heard)
-    → after ≡ (step w s.state (event now (Arrive from bytes))).after → DidHear heard ≡ (step w s.state (event now (Arrive from bytes))).reply
-    → record s { state = after } ≡ after_event w s (event now (Arrive from bytes))
-heard-same w s now from bytes after heard is answers = quiet-same w s (event now (Arrive from bytes)) after (DidHear heard) is answers refl refl
 
 -- a place in a list has an element
 pub there-is : {X : Type 0} (xs : List X) (i : ℕ) → i < length xs → (x : X) × (slice_get xs i ≡ Some x)

@@ -7,6 +7,7 @@ pub mod ToldLemmas
 pub mod MovedLemmas
 pub mod WiredLemmas
 pub mod AlikeLemmas
+pub mod RenamedLemmas
 pub mod PlaceLemmas
 pub mod ClosedLemmas
 pub mod HostLemmas
@@ -16,10 +17,12 @@ pub mod RouteLemmas
 pub mod LineLemmas
 pub mod ArriveLemmas
 pub mod MessageLemmas
+pub mod QueueLemmas
 pub mod TranscriptLemmas
 pub mod WorldLemmas
 pub mod CountedLemmas
 pub mod RunLemmas
+pub mod ScriptLaws
 pub mod NameLemmas
 pub mod PushLemmas
 pub mod EmptyLemmas
@@ -27,5 +30,9 @@ pub mod AddedLemmas
 pub mod GivenLemmas
 pub mod DatagramLemmas
 pub mod AcceptLemmas
+pub mod OpeningLemmas
+pub mod NewLemmas
+pub mod EndpointLemmas
+pub mod UnderLemmas
 pub mod HeardLemmas
 pub mod NumberLemmas

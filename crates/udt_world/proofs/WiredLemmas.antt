@@ -10,6 +10,7 @@ use Rattle.std.proofs.lemmas.Option.{slice_get-map, slice_get_within}
 use Rattle.udt_model.specs.declared.addresses.Addr.{Addr}
 use Rattle.udt_model.specs.declared.limits.TheConstants.{MOST_SOCKETS}
 use Rattle.udt_model.specs.Events.{Act, Offer, event, at_moment}
+use Rattle.udt_model.specs.Network.{address_of_host}
 use Rattle.udt_model.specs.Rate.{Ways}
 use Rattle.udt_model.specs.Records.{PeerPair}
 use Rattle.udt_model.specs.Step.{step}
@@ -19,9 +20,10 @@ use Rattle.udt_laws.proofs.scripts.ReplacedOne.{set-same, set-other, found-once}
 use Rattle.udt_world.specs.declared.hosts.TheConstants.{MOST_ENROLLED}
 use Rattle.udt_world.specs.declared.hosts.Endpoint.{Endpoint}
 use Rattle.udt_world.specs.declared.network.Network.{Network}
+use Rattle.udt_world.specs.declared.network.ScriptHost.{ScriptHost}
 use Rattle.udt_world.specs.declared.network.ScriptSocket.{ScriptSocket}
-use Rattle.udt_world.specs.Views.{Sight, after_event, sight_of}
-use Rattle.udt_world.specs.Wiring.{FitsPhase, HasAddress, IsGiven, IsWired, KeepsAddresses, KeepsPlaces, Knows, MayHappen, one_if, pair_in, peer_in, place_seen, place_under, sights_of, waiting_at, with_told}
+use Rattle.udt_world.specs.Views.{Sight, after_event, host_of, sight_of}
+use Rattle.udt_world.specs.Wiring.{FitsPhase, HasAddress, IsGiven, IsHalf, IsWired, KeepsAddresses, KeepsPlaces, Knows, MayHappen, one_if, pair_in, peer_in, place_seen, place_under, sights_of, waiting_at, with_told}
 use Rattle.udt_world.proofs.ActLemmas.{Acts, step-acts}
 use Rattle.udt_world.proofs.FirstLemmas.{position-set, replaced-cases, sum-below}
 use Rattle.udt_world.proofs.FollowLemmas.{AreOnce, Follows, MayFollow, once-kept}
@@ -47,7 +49,8 @@ module _ {C : Type 0} (w : Ways C) (old new : Network C) (place now : ℕ) (act 
     (wired : IsWired old) (may : MayHappen (sights_of old) place act)
     (found : slice_get (sights_of old) place ≡ Some s)
     (sights_are : sights_of new ≡ slice_set (sights_of old) place (after_event w s (event now act)))
-    (names_are : new.names ≡ old.names) (count : vec_len new.sockets ≡ vec_len old.sockets)
+    (hosts_are : new.hosts ≡ old.hosts) (names_are : new.names ≡ old.names)
+    (count : vec_len new.sockets ≡ vec_len old.sockets)
     (ends : (p : ℕ) (a b : ScriptSocket C) → slice_get old.sockets.items p ≡ Some a → slice_get new.sockets.items p ≡ Some b
     → b.endpoint ≡ a.endpoint)
     (told : (b : ScriptSocket C) (e : Endpoint) → slice_get new.sockets.items place ≡ Some b
@@ -172,6 +175,13 @@ module _ {C : Type 0} (w : Ways C) (old new : Network C) (place now : ℕ) (act 
       (λ same. apart (wired.apart p there.0.endpoint e home.endpoint before home.found (sym same ∙ sym at_home)))
       (wired.knows p e before) follows))
 
+  -- the half of a pair is one still
+  half_still : IsHalf place next.host (peer_in next)
+  half_still = record {
+    first = λ stands. follows.peer _ ((wired.halves place s found).first (sym follows.host ∙ stands));
+    second = λ stands. follows.peer _ ((wired.halves place s found).second (sym follows.host ∙ stands));
+  }
+
   -- the sockets and the endpoints fit together still
   pub event-wired : IsWired new
   event-wired = record {
@@ -204,6 +214,12 @@ module _ {C : Type 0} (w : Ways C) (old new : Network C) (place now : ℕ) (act 
         (λ is x_is. subst (λ (y : Sight C). FitsPhase y.state.phase y.state.origin y.state.peer) (sym x_is)
         (acts.fits (wired.peers place s found)))
         (λ apart before. wired.peers p x before);
+    halves = λ p x at. each p x at
+        (λ is x_is. subst (λ (y : Sight C). IsHalf p y.host (peer_in y)) (sym x_is)
+        (subst (λ (q : ℕ). IsHalf q next.host (peer_in next)) (sym is) half_still))
+        (λ apart before. wired.halves p x before);
+    free = λ name addr named. wired.free name addr
+        (ap (λ (v : Vec ScriptHost Global). address_of_host name (map host_of v.items)) (sym hosts_are) ∙ named);
     listens_once = still_once.listener;
     meets_once = still_once.meeter;
     adopts_once = still_once.adopter;
@@ -285,6 +301,9 @@ module _ {C : Type 0} (w : Ways C) (old mid : Network C) (place now : ℕ) (act 
         (ap (λ (v : Vec Endpoint Global). slice_get v.items b.endpoint) keeps.endpoints ∙ at_e)
         ∙ ap (λ (v : Vec Endpoint Global). slice_set v.items b.endpoint (record e { routes = with_told e.routes (place + 1) (sight_of b) })) keeps.endpoints
 
+    new_hosts : new.hosts ≡ old.hosts
+    new_hosts = ap (λ (n : Network C). n.hosts) kept ∙ keeps.hosts
+
     new_names : new.names ≡ old.names
     new_names = ap (λ (n : Network C). n.names) kept ∙ keeps.names
 
@@ -292,7 +311,7 @@ module _ {C : Type 0} (w : Ways C) (old mid : Network C) (place now : ℕ) (act 
     new_count = ap (λ (v : Vec (ScriptSocket C) Global). vec_len v) new_sockets ∙ keeps.count
 
     pub entered-wired : IsWired new
-    entered-wired = event-wired w old new place now act s wired may found new_sights new_names new_count new_ends new_told
+    entered-wired = event-wired w old new place now act s wired may found new_sights new_hosts new_names new_count new_ends new_told
 
     pub entered-stands : KeepsAddresses old new
-    entered-stands = event-stands w old new place now act s wired may found new_sights new_names new_count new_ends new_told
+    entered-stands = event-stands w old new place now act s wired may found new_sights new_hosts new_names new_count new_ends new_told

@@ -9,20 +9,16 @@ use Rattle.udt_model.specs.Rate.{Ways}
 use Rattle.udt_model.specs.Script.{Printed, on_line, left_by, network_after, played_line, printed_after, fits_after, size_of}
 use Rattle.udt_world.specs.declared.world.World.TheInside.{Inside}
 use Rattle.udt_world.specs.Views.{View, Shows}
-use Rattle.udt_world.specs.InStep.{AreAllInStep, AllShowMessages}
+use Rattle.udt_world.specs.InStep.{AllAdoptBack, AreAllInStep, AllShowMessages}
 use Rattle.udt_world.specs.Worlds.{lines_in, lines_of, IsWorld}
 use Rattle.udt_world.specs.Done.{DoesLine}
 use Rattle.udt_world.specs.Kept.{kept_lines}
 use Rattle.udt_world.specs.ScriptLines.{Accepts, Refuses}
-use Rattle.udt_laws.proofs.scripts.ScriptsInStep.{script_prefix, script_messages, lines-within}
 use Rattle.udt_world.proofs.LineLemmas.{one_more}
+use Rattle.udt_world.proofs.ScriptLaws.{script_adoption, script_prefix, script_messages}
 
 size-more : (lines : List (List ℕ)) (line : List ℕ) → size_of (lines ++ line ∷ []) ≡ size_of lines + (length line + 1)
 size-more lines line = let last : size_of (line ∷ []) ≡ length line + 1 = omega arith in sum_by-append (λ (l : List ℕ). length l + 1) lines (line ∷ []) ∙ ap (λ n. size_of lines + n) last
-
--- the lines of a script are few enough
-pub few_lines : (lines : List (List ℕ)) → size_of lines ≤ LONGEST_SCRIPT + 1 → length lines < 2 ^ 30
-few_lines lines small = omega (arith, lines-within lines, small)
 
 -- what follows of an answer
 pub if_ok_weaker : {T E : Type 0} {P Q : T → Type 0} (r : Result T E) → ((x : T) → P x → Q x) → IfOk r P → IfOk r Q
@@ -102,20 +98,29 @@ module _ {C : Type 0} (w : Ways C) where
       kept (printed-fits lines line fits) refl (does (network_after w lines) shows)
   refused true lines new_lines line old new before after is shows fits kept does = absurd (cc)
 
-  -- ---- in step
+  -- ---- what the sockets keep
 
-  pub steps_few : (lost : Bool) (lines : List (List ℕ)) → (lost ≡ false → length lines < 2 ^ 30) → AreAllInStep w (if lost then None else Some lines)
-  steps_few true lines few = tt
-  steps_few false lines few = λ place peer_place socket peer emitted. script_prefix w lines place peer_place socket peer (few refl) emitted
+  pub adopts_small : (lost : Bool) (lines : List (List ℕ)) → (lost ≡ false → size_of lines < 2 ^ 30) → AllAdoptBack w (if lost then None else Some lines)
+  adopts_small true lines small = tt
+  adopts_small false lines small = λ place socket peer emitted. script_adoption w lines place socket peer (small refl) emitted
 
-  pub steps : (world : Inside C) → IsWorld w world → AreAllInStep w (lines_of world)
-  steps world is = steps_few world.lost (lines_in world) (λ kept. few_lines (lines_in world) (omega (arith, is.size_is kept, is.bound)))
-
-  -- ---- messages
+  pub steps_small : (lost : Bool) (lines : List (List ℕ)) → (lost ≡ false → size_of lines < 2 ^ 30) → AreAllInStep w (if lost then None else Some lines)
+  steps_small true lines small = tt
+  steps_small false lines small = λ place peer_place socket peer emitted. script_prefix w lines place peer_place socket peer (small refl) emitted
 
   pub shows_small : (lost : Bool) (lines : List (List ℕ)) → (lost ≡ false → size_of lines < 2 ^ 30) → AllShowMessages w (if lost then None else Some lines)
   shows_small true lines small = tt
   shows_small false lines small = λ place peer_place socket peer emitted. script_messages w lines place peer_place socket peer (small refl) emitted
 
+  -- the lines of a world are of few bytes
+  pub small_world : (world : Inside C) → IsWorld w world → world.lost ≡ false → size_of (lines_in world) < 2 ^ 30
+  small_world world is kept = omega (arith, is.size_is kept, is.bound)
+
+  pub adopts : (world : Inside C) → IsWorld w world → AllAdoptBack w (lines_of world)
+  adopts world is = adopts_small world.lost (lines_in world) (small_world world is)
+
+  pub steps : (world : Inside C) → IsWorld w world → AreAllInStep w (lines_of world)
+  steps world is = steps_small world.lost (lines_in world) (small_world world is)
+
   pub shows : (world : Inside C) → IsWorld w world → AllShowMessages w (lines_of world)
-  shows world is = shows_small world.lost (lines_in world) (λ kept. omega (arith, is.size_is kept, is.bound))
+  shows world is = shows_small world.lost (lines_in world) (small_world world is)

@@ -11,7 +11,7 @@ use Rattle.udt_model.specs.declared.limits.TheConstants.{MOST_SOCKETS}
 use Rattle.udt_model.specs.declared.packets.Shake.{Shake}
 use Rattle.udt_model.specs.Addresses.{same_addr}
 use Rattle.udt_model.specs.Events.{Act, Listen, Meet, Offer, Arrive}
-use Rattle.udt_model.specs.Network.{is_host, is_met, is_pair}
+use Rattle.udt_model.specs.Network.{address_of_host, first_host, second_host, is_host, is_met, is_pair}
 use Rattle.udt_model.specs.Phases.{Phase, Opened, Listening, Connecting, Meeting, is_closed}
 use Rattle.udt_model.specs.Records.{PeerPair, peer_by}
 use Rattle.udt_model.specs.Routes.{Known, handshake_in}
@@ -140,6 +140,16 @@ module _ {R : Type 0} where
 
 -- ---- the sockets and the endpoints fit together
 
+-- a socket at the first host of pairs has the one after it as its peer, and one at the second the one before it
+pub record IsHalf (place : ℕ) (host : Addr) (peer : Option PeerPair) : Type 0 where
+  pub first : host ≡ first_host → peer ≡ Some (record { addr = second_host; id = place + 2 })
+  pub second : host ≡ second_host → peer ≡ Some (record { addr = first_host; id = place })
+
+-- an address is that of neither of these hosts
+pub record IsFree (addr : Addr) : Type 0 where
+  pub first : addr ≡ first_host → ⊥
+  pub second : addr ≡ second_host → ⊥
+
 -- the endpoint at this place has this address
 pub record HasAddress (endpoints : List Endpoint) (place : ℕ) (addr : Addr) : Type 0 where
   pub endpoint : Endpoint
@@ -203,6 +213,9 @@ module _ {C : Type 0} where
     -- a socket has the peer that fits its phase
     pub peers : (place : ℕ) (s : Sight C) → slice_get (sights_of network) place ≡ Some s
         → FitsPhase s.state.phase s.state.origin s.state.peer
+    -- at the hosts of pairs stand pairs alone, and no line names these hosts
+    pub halves : (place : ℕ) (s : Sight C) → slice_get (sights_of network) place ≡ Some s → IsHalf place s.host (peer_in s)
+    pub free : (name : List ℕ) (addr : Addr) → address_of_host name (map host_of network.hosts.items) ≡ Some addr → IsFree addr
     -- at most one socket of a host listens, one meets an address, and one has adopted a pair
     pub listens_once : (host : Addr) (i j : ℕ) (s t : Sight C) → slice_get (sights_of network) i ≡ Some s
         → slice_get (sights_of network) j ≡ Some t → listens host s ≡ Bool.true → listens host t ≡ Bool.true → i ≡ j
@@ -218,7 +231,7 @@ module _ {C : Type 0} where
   IsUnadopted sights host (Some peer) = first_with (adopts host peer.addr peer.id) sights ≡ None
 
   -- a socket may be added: it is as one that is opened, with its endpoint, the next ID, a new name, and a peer that none
-  -- of the others at its host has adopted
+  -- of the others at its host has adopted. At the hosts of pairs it is the half of a pair
   pub record IsNew (network : Network C) (socket : ScriptSocket C) : Type 0 where
     pub room : vec_len network.sockets < MOST_SOCKETS
     pub stands : HasAddress network.endpoints.items socket.endpoint socket.host
@@ -231,6 +244,7 @@ module _ {C : Type 0} where
     pub met : socket.met ≡ None
     pub peer : IsUnadopted (sights_of network) socket.host (peer_in (sight_of socket))
     pub fits : FitsPhase socket.socket.phase socket.socket.origin socket.socket.peer
+    pub half : IsHalf (vec_len network.sockets) socket.host (peer_in (sight_of socket))
 
   -- what an act may need so that the sockets and the endpoints fit together after it: one that listens finds no listener at
   -- its host; one that meets an address finds none that meets it, and meets none yet; a connection that is offered is a
@@ -250,9 +264,10 @@ module _ {C : Type 0} where
   KeepsAddresses old new =
       (place : ℕ) (addr : Addr) → HasAddress old.endpoints.items place addr → HasAddress new.endpoints.items place addr
 
-  -- nothing changed but what is seen of the sockets and the datagrams: the endpoints and the names are as they were, and each
-  -- socket has the endpoint that it had
+  -- nothing changed but what is seen of the sockets and the datagrams: the hosts, the endpoints and the names are as they were,
+  -- and each socket has the endpoint that it had
   pub record KeepsPlaces (old new : Network C) : Type 0 where
+    pub hosts : new.hosts ≡ old.hosts
     pub endpoints : new.endpoints ≡ old.endpoints
     pub names : new.names ≡ old.names
     pub count : vec_len new.sockets ≡ vec_len old.sockets

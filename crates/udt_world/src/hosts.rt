@@ -1,6 +1,6 @@
 // The hosts of a script, and what the endpoint at each knows of the sockets there.
 
-ghost use Rattle.std.specs.Prelude.{◌≡◌, ◌<◌, ◌+◌, ◌^◌, length, map, position, take, slice_get, slice_set, vec_len, Some, None, false, IfSome, IfOk, OnOk, OnErr};
+ghost use Rattle.std.specs.Prelude.{◌≡◌, ◌<◌, ◌+◌, ◌^◌, length, map, position, take, slice_get, slice_set, vec_len, false, true, Some, None, IfSome, IfOk, OnOk, OnErr};
 ghost use Rattle.udt_model.specs.Lines.{HostLine};
 ghost use Rattle.udt_model.specs.Script.{may_host, on_line};
 ghost use Rattle.udt_model.specs.Addresses.{same_addr};
@@ -10,8 +10,8 @@ ghost use Rattle.udt_routes.specs.Pairs.{pair_of};
 ghost use Rattle.udt_routes.specs.Tables.{empty_table};
 ghost use Rattle.udt_world.specs.Done.{DoesLine};
 ghost use Rattle.udt_world.specs.Views.{host_of, sight_of, view_of, Shows};
-ghost use Rattle.udt_world.specs.Wiring.{place_seen, sights_of, with_listener, with_met, with_pair, with_told};
-ghost use Rattle.udt_world.specs.Wiring.{HasAddress, IsEndpoint, IsWired, KeepsAddresses};
+ghost use Rattle.udt_world.specs.Wiring.{with_listener, with_met, with_pair, with_told};
+ghost use Rattle.udt_world.specs.Wiring.{place_seen, sights_of, HasAddress, IsEndpoint, IsWired, KeepsAddresses};
 
 use crate::network::{Network, ScriptHost, ScriptSocket};
 use std::alloc::{AllocError, Global};
@@ -154,9 +154,19 @@ impl<C: Control> Network<C> {
     // The name and the address of a host are new, and there is room for it.
     fn may_host(&self, name: &[u8], addr: Addr) -> bool
         requires { IsWired self.now }
-        ensures { (n : model.Network C) → Shows C.ways n (view_of self.now) → result ≡ may_host n name.now addr }
+        ensures may { (n : model.Network C) → Shows C.ways n (view_of self.now) → result ≡ may_host n name.now addr }
+        ensures free { result ≡ true → model.is_host (map host_of self.now.hosts.items) addr ≡ false }
     {
         (self.hosts.len() as u64) < MOST_HOSTS && !self.is_taken(name) && !self.is_host(addr)
+    }
+
+    // The place of the endpoint with this address.
+    fn place_of_endpoint(&self, addr: Addr) -> Option<usize>
+        ensures { result ≡ position (λ endpoint. same_addr addr endpoint.addr) self.now.endpoints.items }
+    {
+        self.endpoints
+            .iter()
+            .position(|endpoint| addr.is_same(endpoint.addr))
     }
 
     /// The place of the endpoint at this address, where a host has it. It is made where it is first
@@ -182,11 +192,7 @@ impl<C: Control> Network<C> {
         ensures kept { self.new ≡ record self.old { endpoints = self.new.endpoints } }
         ensures stands { OnOk result (KeepsAddresses self.old self.new) }
     {
-        match self
-            .endpoints
-            .iter()
-            .position(|endpoint| addr.is_same(endpoint.addr))
-        {
+        match self.place_of_endpoint(addr) {
             Some(place) => Ok(place),
             None => {
                 let endpoint = new_endpoint(self.alloc, addr)?;

@@ -1,16 +1,16 @@
 // New sockets: a pair, each the other's peer, and one without a connection.
 
-ghost use Rattle.std.specs.Prelude.{◌≡◌, ◌+◌, ◌<◌, ◌≤◌, ◌↔◌, ◌++◌, ◌∷◌, [], IsTrue, true, Ok, IfOk, IfSome, OnOk, OnErr, take, vec_len};
+ghost use Rattle.std.specs.Prelude.{◌≡◌, ◌+◌, ◌<◌, ◌≤◌, ◌↔◌, ◌++◌, ◌∷◌, [], IsTrue, false, true, None, Ok, IfOk, IfSome, OnOk, OnErr, take, vec_len};
 ghost use Rattle.udt_model.specs.declared.limits.TheConstants.{MOST_SOCKETS};
 ghost use Rattle.udt_model.specs.Lines.{OpenLine, PairLine};
 ghost use Rattle.udt_model.specs.Network as network;
 ghost use Rattle.udt_model.specs.Opening as model;
 ghost use Rattle.udt_model.specs.Script.{may_pair, on_line, open_config, pair_config, peer_of};
-ghost use Rattle.udt_model.specs.Words.{is_name};
+ghost use Rattle.udt_model.specs.Words.{is_name, is_word};
 ghost use Rattle.udt_script.specs.CodeLines.{opening_of, pairing_of, IsOpenable, IsPairable};
 ghost use Rattle.udt_world.specs.Done.{DoesLine};
 ghost use Rattle.udt_world.specs.Views.{sight_of, view_of, Shows};
-ghost use Rattle.udt_world.specs.Wiring.{new_sight, sights_of, IsNew, IsWired, KeepsAddresses};
+ghost use Rattle.udt_world.specs.Wiring.{new_sight, place_seen, sights_of, IsNew, IsWired, KeepsAddresses};
 
 use crate::hosts::{FIRST_HOST, SECOND_HOST};
 use crate::network::{Network, ScriptSocket};
@@ -147,8 +147,12 @@ impl<C: Control + Drop> Network<C> {
     // Both names are new, and there is room for two sockets.
     fn may_pair(&self, pairing: &Pairing) -> bool
         requires { IsWired self.now }
-        ensures { (n : network.Network C) → Shows C.ways n (view_of self.now)
+        ensures may { (n : network.Network C) → Shows C.ways n (view_of self.now)
             → result ≡ may_pair n (pairing_of pairing.now) }
+        ensures room { result ≡ true → vec_len self.now.sockets + 2 ≤ MOST_SOCKETS }
+        ensures apart { result ≡ true → is_word pairing.now.a.now pairing.now.b.now ≡ false }
+        ensures first { result ≡ true → place_seen (sights_of self.now) pairing.now.a.now ≡ None }
+        ensures second { result ≡ true → place_seen (sights_of self.now) pairing.now.b.now ≡ None }
     {
         self.has_room(2)
             && pairing.a != pairing.b

@@ -95,7 +95,7 @@ module _ {C : Type 0} (w : Ways C) where
   }
 
   -- a history knows of no offset when it begins
-  begins-covers : (P : ℕ → Type 0) (h : History C) → Begins w h → Covers P (start_of h) h.opening.receiving
+  pub begins-covers : (P : ℕ → Type 0) (h : History C) → Begins w h → Covers P (start_of h) h.opening.receiving
   begins-covers P h begins = record {
     begun = omega (arith, begins_base w h begins);
     there = λ n low high none. absurd (omega (arith, low, high, begins_top w h begins));

@@ -12,10 +12,12 @@ use Rattle.udt_model.specs.Records.{Enrolled, EndpointRecord, StandsAt, own_peer
 use Rattle.udt_model.specs.State.{State}
 use Rattle.udt_model.specs.Wire.{read}
 use Rattle.udt_laws.proofs.adoption.NamesBack.{mate_of, request-begins, request-peer, asks-not_begun, peer-is}
-use Rattle.udt_laws.proofs.adoption.PeersMeet.{names-has, names-so, Connects, ByHandshake, ForRequest, AsPair, stands-socket, met_kind, introduced_by, requested_by}
+use Rattle.udt_laws.proofs.adoption.PeersMeet.{names-has, names-so, Connects, ByHandshake, ForRequest, AsPair, stands-socket}
+use Rattle.udt_laws.proofs.adoption.PeersMeet.{met_kind, introduced_by, requested_by}
 use Rattle.udt_model.proofs.SettlingLemmas.{IsConnectedAt}
 use Rattle.udt_laws.proofs.sockets.Begins.{Begins, last_peer}
-use Rattle.udt_laws.proofs.sockets.ConnectedParts.{ConnectedPart, begins-part, connected_part, opened_start, socket-own, part-emitted}
+use Rattle.udt_laws.proofs.sockets.ConnectedParts.{ConnectedPart, begins-part, connected_part, opened_start, socket-own}
+use Rattle.udt_laws.proofs.sockets.ConnectedParts.{part-emitted}
 use Rattle.udt_laws.proofs.sockets.OneSocket.{ComesNear, from-sender}
 use Rattle.udt_laws.proofs.sockets.Opened.{AreConnected, opened_start as opening_start}
 use Rattle.udt_laws.proofs.sockets.WasSaid.{AllSaid}
@@ -114,6 +116,17 @@ module _ {C : Type 0} (w : Ways C) where
       request-start : (socket : Enrolled C) (config : Config) (peer : Peer) (now : ℕ)
           → socket.history.opening ≡ opening w socket.own config peer now 0 → start_of socket.history ≡ 0
       request-start socket config peer now opens = opening_start w socket.own config peer now 0 socket.history opens
+
+      -- a connected socket whose peer begins at 0 does so too
+      pub starts-as_peer : (addr : Addr) (socket : Enrolled C) (here : StandsAt net addr socket) (at : Addr) (other : Enrolled C)
+          → StandsAt net at other → own_peer w socket.history ≡ Some (record { addr = at; id = other.own })
+          → start_of other.history ≡ 0 → Connects w net here.endpoint socket → start_of socket.history ≡ 0
+      starts-as_peer addr socket here at other there names zero (ByHandshake isn config now in_range opens connected_at) =
+          handshake-start addr socket here isn config now in_range opens
+      starts-as_peer addr socket here at other there names zero (ForRequest config peer now in_range opens request) =
+          request-start socket config peer now opens
+      starts-as_peer addr socket here at other there names zero (AsPair paired) =
+          sym (pair-begin addr socket here at other there names paired).start ∙ zero
 
       module _ (addr : Addr) (socket : Enrolled C) (here : StandsAt net addr socket) (at : Addr) (other : Enrolled C)
           (there : StandsAt net at other)

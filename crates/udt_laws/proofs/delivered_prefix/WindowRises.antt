@@ -47,7 +47,7 @@ module _ (low high : ℕ) where
   put-below b offset top flags bytes placing.Above is less below = below
   put-below b offset top flags bytes placing.Double is less below = below
 
-  put-base : (b : ReceiveBlocks) (block : PlacedBlock) (p : Placed) → (after_placing_of b block p).base ≡ b.base
+  pub put-base : (b : ReceiveBlocks) (block : PlacedBlock) (p : Placed) → (after_placing_of b block p).base ≡ b.base
   put-base b block placing.New = refl
   put-base b block placing.Below = refl
   put-base b block placing.Above = refl

@@ -44,7 +44,7 @@ stands-close low limit top offset few stands from to =
     (omega (arith, stands.not_below, few, to), omega (arith, stands.not_above, few, from))
 
 -- both ends that are named
-either-named : (first last offset : ℕ) (offsets : List ℕ) → offsets ≡ first ∷ last ∷ [] → Contains offsets offset → first ≤ last
+pub either-named : (first last offset : ℕ) (offsets : List ℕ) → offsets ≡ first ∷ last ∷ [] → Contains offsets offset → first ≤ last
     → (first ≤ offset) × (offset ≤ last)
 either-named first last offset offsets names named order =
     elim (contained-cases first (last ∷ []) offset (subst (λ (l : List ℕ). Contains l offset) names named)) [
@@ -132,7 +132,7 @@ module _ {C : Type 0} (w : Ways C) where
         )
 
   -- no message ends past as many offsets as bytes were accepted
-  laid-within : (h : History C) → Begins w h → (sends : SendsMessages w h) → (laid : LaidMessage)
+  pub laid-within : (h : History C) → Begins w h → (sends : SendsMessages w h) → (laid : LaidMessage)
       → Contains sends.laid laid → laid.message.last < start_of h + length (accepted h)
   laid-within h begins sends laid among =
       let cut = last-cut w h begins in

@@ -34,7 +34,7 @@ use Rattle.udt_laws.proofs.laid_messages.SentMessages.{payload_of, SendsMessages
 use Rattle.udt_laws.proofs.laid_messages.ShowsAsked.{shows-asked}
 
 -- a number that is that of an offset close to where it is read is read as this offset
-reads-offset : (isn said_isn top number offset found : ℕ) → said_isn ≡ isn → number ≡ sequence_number said_isn offset → IsClose offset top
+pub reads-offset : (isn said_isn top number offset found : ℕ) → said_isn ≡ isn → number ≡ sequence_number said_isn offset → IsClose offset top
     → near isn top number ≡ Some found → offset ≡ found
 reads-offset isn said_isn top number offset found same said close is_near =
     let carries : sequence_number isn offset ≡ number = ap (λ (n : ℕ). sequence_number n offset) (sym same) ∙ sym said in

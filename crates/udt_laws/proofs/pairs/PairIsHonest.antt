@@ -52,21 +52,21 @@ datagram_from addr bytes = record { addr = addr; bytes = bytes }
 datagram_from-same : (a b : Addr) (m n : List ℕ) → a ≡ b → m ≡ n → datagram_from a m ≡ datagram_from b n
 datagram_from-same a b m n addr bytes = cc
 
-datagram-is : (datagram : Datagram) (addr : Addr) (bytes : List ℕ) → datagram.addr ≡ addr → datagram.bytes ≡ bytes
+pub datagram-is : (datagram : Datagram) (addr : Addr) (bytes : List ℕ) → datagram.addr ≡ addr → datagram.bytes ≡ bytes
     → datagram ≡ record { addr = addr; bytes = bytes }
 unfolding datagram_from
 datagram-is datagram addr bytes addr_is bytes_are = datagram_from-same datagram.addr addr datagram.bytes bytes addr_is bytes_are
 
 -- no offset is among none
-none-named : (offset : ℕ) → Contains [] offset → ⊥
+pub none-named : (offset : ℕ) → Contains [] offset → ⊥
 none-named offset named = omega (arith, named.1)
 
 -- two offsets between these are close
-both-close : (low high offset other : ℕ) → high < low + 2 ^ 30 → low ≤ offset → offset ≤ high → low ≤ other → other ≤ high → IsClose offset other
+pub both-close : (low high offset other : ℕ) → high < low + 2 ^ 30 → low ≤ offset → offset ≤ high → low ≤ other → other ≤ high → IsClose offset other
 both-close low high offset other few a b c d = (omega arith, omega arith)
 
 -- two offsets of a gap
-two-named : (low high : ℕ) (ends : ℕ × ℕ) (offset : ℕ) → (low ≤ ends.0) × (ends.0 ≤ ends.1) × (ends.1 ≤ high) → Contains (ends.0 ∷ ends.1 ∷ []) offset
+pub two-named : (low high : ℕ) (ends : ℕ × ℕ) (offset : ℕ) → (low ≤ ends.0) × (ends.0 ≤ ends.1) × (ends.1 ≤ high) → Contains (ends.0 ∷ ends.1 ∷ []) offset
     → (low ≤ offset) × (offset ≤ high)
 two-named low high ends offset at named = elim (Contains-push_cases (ends.0 ∷ []) ends.1 offset named) [
   | inl first ↦ elim (Contains-push_cases [] ends.0 offset first) [

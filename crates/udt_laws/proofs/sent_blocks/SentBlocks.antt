@@ -208,7 +208,7 @@ module _ {C : Type 0} (w : Ways C) where
         → blocks_by w h.opening h.items ≡ blocks_by w h.opening front ++ blocks_by w (after_items w h.opening front) rest
     blocks-longer front rest joined = ap (blocks_by w h.opening) joined ∙ blocks_by-append w h.opening front rest
 
-    carries-block : (emission : Emission) (number : ℕ) (flags : Flags) (stamp dest : ℕ) (payload : List ℕ) → Contains (emitted w h) emission
+    pub carries-block : (emission : Emission) (number : ℕ) (flags : Flags) (stamp dest : ℕ) (payload : List ℕ) → Contains (emitted w h) emission
         → read emission.datagram.bytes ≡ Ok (Block number flags stamp dest payload)
         → CarriesBlock w h (blocks_by w h.opening h.items) emission number dest payload
     carries-block emission number flags stamp dest payload among reads =

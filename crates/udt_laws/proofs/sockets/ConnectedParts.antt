@@ -1,7 +1,8 @@
 -- The history of a socket since it was connected, which begins as connected: all of it, where the socket was opened
 -- so, and else what follows the handshake that connected it. Before, nothing is taken or given, and no more than
 -- handshakes are emitted.
-use Rattle.std.proofs.Common.{◌≡◌, ℕ, ◌^◌, ◌<◌, ◌≤◌, true, false, List, length, Ok, refl, ap, ◌∙◌, sym, subst, inl, inr, ◌⊎◌, arith}
+use Rattle.std.proofs.Common.{◌≡◌, ℕ, ◌^◌, ◌<◌, ◌≤◌, true, false, List, ◌∷◌, ◌++◌, length, Ok, refl, ap, ◌∙◌, sym, subst, inl}
+use Rattle.std.proofs.Common.{inr, ◌⊎◌, arith}
 use Rattle.std.specs.List.{Contains}
 use Rattle.udt_model.specs.declared.answers.Heard.TheVariants as heard
 use Rattle.udt_model.specs.declared.answers.Origin.{Origin}
@@ -10,7 +11,8 @@ use Rattle.udt_model.specs.declared.packets.Config.{Config}
 use Rattle.udt_model.specs.Counted.{on_control}
 use Rattle.udt_model.specs.Emissions.{emitted}
 use Rattle.udt_model.specs.Events.{Outcome, at_moment}
-use Rattle.udt_model.specs.History.{History, after_items, state_of, start_of, IsLegal, acked, arrived, gapless, placed_offsets}
+use Rattle.udt_model.specs.History.{Item, History, after_items, state_of, start_of, IsLegal, acked, arrived, gapless}
+use Rattle.udt_model.specs.History.{placed_offsets}
 use Rattle.udt_model.specs.Opening.{connected, opened, opening, IsOpened, IsOpening}
 use Rattle.udt_model.specs.Rate.{Ways}
 use Rattle.udt_model.specs.Records.{Way, Opened, Paired, PairedAt, IsWay, opened_by, Enrolled, IsSocket, peer_by, own_peer}
@@ -19,6 +21,7 @@ use Rattle.udt_model.specs.State.{State, Emission}
 use Rattle.udt_model.specs.Step.{step}
 use Rattle.udt_model.specs.Wire.{Packet, is_handshake, read}
 use Rattle.udt_model.proofs.ConnectedBy.{opened-met}
+use Rattle.udt_model.proofs.HistoryLemmas.{after_items-append}
 use Rattle.udt_model.proofs.PeerLemmas.{IsKnown, has_peer, way-known, items-known}
 use Rattle.udt_model.proofs.SettlingLemmas.{IsHandshake, AreQuiet, GoesOnAs, goes_on, IsConnectedAt, items-begin, opened-unlinked}
 use Rattle.udt_model.proofs.ShakeLemmas.{peer-fits, way-own}
@@ -26,6 +29,7 @@ use Rattle.udt_model.proofs.SpellingLemmas.{read-shake_spelling}
 use Rattle.udt_model.proofs.StepLemmas.{KeepsName, same_name, step-keeps_name, after_items-keeps_name}
 use Rattle.udt_model.proofs.UnlinkedLemmas.{IsUnlinked}
 use Rattle.udt_laws.proofs.sockets.Begins.{Begins}
+use Rattle.udt_laws.proofs.sockets.IdleFronts.{AreIdle, front-idle, unlinked-uncontrolled, Within, Beyond, splits-meet}
 use Rattle.udt_laws.proofs.sockets.Opened.{opening-begins}
 use Rattle.udt_laws.proofs.sockets.SuitedPeers.{AgreesIn, items-agree, unlinked-some, IsSuited, links-suited}
 
@@ -41,13 +45,23 @@ emitted-handshake emission packet is reads =
 module _ {C : Type 0} (w : Ways C) where
   -- ---- since a socket was connected
 
-  -- the part of a history since the socket was connected
+  -- a state to which the first items of a history lead
+  pub record IsFrontOf (part : History C) (s : State C) : Type 0 where
+    pub front : List Item
+    pub rest : List Item
+    pub joined : part.items ≡ front ++ rest
+    pub leads : s ≡ after_items w part.opening front
+
+  -- the part of a history since the socket was connected. The first items of the history lead to idle halves, or to where
+  -- the first ones of the part do
   pub record ConnectedPart (h : History C) : Type 0 where
     pub part : History C
     pub begins : Begins w part
     pub goes_on : GoesOnAs w h.opening h.items part.opening part.items
     pub name : KeepsName h.opening part.opening
     pub same_start : start_of part ≡ start_of h
+    pub fronts : (front rest : List Item) → h.items ≡ front ++ rest
+        → AreIdle w (start_of h) (after_items w h.opening front) ⊎ IsFrontOf part (after_items w h.opening front)
 
   -- a socket that was never connected
   pub record NeverConnected (h : History C) : Type 0 where
@@ -66,6 +80,7 @@ module _ {C : Type 0} (w : Ways C) where
     goes_on = goes_on w h.opening h.items begins.legal;
     name = same_name h.opening;
     same_start = refl;
+    fronts = λ front rest joined. inr (record { front = front; rest = rest; joined = joined; leads = refl });
   }
 
   opening-part : (own : ℕ) (config : Config) (peer : Peer) (now start : ℕ) (h : History C)
@@ -114,6 +129,33 @@ module _ {C : Type 0} (w : Ways C) where
         at.linked.emissions
         (unlinked-some w config 0 t in_range.values.payload at.unlinked) known.knows agrees at.linked.links
 
+    -- what follows the handshake that connects it
+    abbrev since_item : IsConnectedAt w config 0 h.opening h.items → History C
+    since_item at = record { opening = (step w (after_items w h.opening at.front) at.item.event).after; items = at.rest }
+
+    -- before that the halves are idle
+    idle_front : (front rest first : List Item) → IsUnlinked w config 0 (after_items w h.opening first)
+        → first ≡ front ++ rest → AreIdle w (start_of h) (after_items w h.opening front)
+    idle_front front rest first unlinked same =
+        let last = subst (λ (l : List Item). IsUnlinked w config 0 (after_items w h.opening l)) same unlinked in
+        let idle = front-idle w config 0 h.opening front rest begins_unlinked
+        (unlinked-uncontrolled w config 0 (after_items w h.opening (front ++ rest)) last) in
+        subst (λ (n : ℕ). AreIdle w n (after_items w h.opening front)) (sym opened_start) idle
+
+    connected_fronts : (at : IsConnectedAt w config 0 h.opening h.items) (front rest : List Item) → h.items ≡ front ++ rest
+        → AreIdle w (start_of h) (after_items w h.opening front) ⊎ IsFrontOf (since_item at) (after_items w h.opening front)
+    unfolding after_items
+    connected_fronts at front rest joined =
+        elim (splits-meet front rest at.front at.item at.rest (sym joined ∙ at.joined)) [
+          | Within more is ↦ inl (idle_front front more at.front at.unlinked is)
+          | Beyond more is others ↦ inr (record {
+            front = more;
+            rest = rest;
+            joined = others;
+            leads = ap (after_items w h.opening) is ∙ after_items-append w h.opening at.front (at.item ∷ more);
+          })
+        ]
+
     pub connected_part : IsConnectedAt w config 0 h.opening h.items → ConnectedPart h
     connected_part at =
         let t = after_items w h.opening at.front in
@@ -147,6 +189,7 @@ module _ {C : Type 0} (w : Ways C) where
           goes_on = at.goes_on;
           name = name;
           same_start = ap (λ (sending : Sending C). sending.blocks.first) at.fresh.sending ∙ sym opened_start;
+          fronts = connected_fronts at;
         }
 
     opened-parts : NeverConnected h ⊎ ConnectedPart h

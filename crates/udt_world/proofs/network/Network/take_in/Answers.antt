@@ -2,9 +2,10 @@ use Rattle.std.proofs.Common.{◌≡◌, length, map, refl, ap, ◌∙◌, sym, 
 use Rattle.std.specs.Prelude.{slice_set}
 use Rattle.std.proofs.lemmas.List.{map-set}
 use Rattle.std.proofs.lemmas.Option.{same_Some, slice_get-map, slice_get_read}
+use Rattle.udt_model.specs.Events.{Arrive, DidHear, event}
 use Rattle.udt_script.specs.CodeLines.{datagram_of}
 use Rattle.udt_world.specs.Views.{sight_of}
-use Rattle.udt_world.proofs.AlikeLemmas.{ends-kept, heard-same}
+use Rattle.udt_world.proofs.AlikeLemmas.{ends-kept, quiet-same}
 use Rattle.udt_world.proofs.network.Network.take_in.Goals as goal
 
 -- the socket heard the datagram, and what it emitted was kept
@@ -23,8 +24,8 @@ returns-clause-moves g c = λ datagram at.
       found = rw (slice_get-map sight_of network.sockets.items c.args.place, read) refl;
       sockets = map-set sight_of network.sockets.items c.args.place (record socket { socket = c.arrive.new.self })
           ∙ ap (slice_set (map sight_of network.sockets.items) c.args.place)
-          (heard-same g.C.Control.ways (sight_of socket) c.args.now emitted.from emitted.bytes.items c.arrive.new.self c.arrive.result
-          (rw c.deref.ensures.value at c.arrive.ensures.after) (rw c.deref.ensures.value at c.arrive.ensures.reply));
+          (quiet-same g.C.Control.ways (sight_of socket) (event c.args.now (Arrive emitted.from emitted.bytes.items)) c.arrive.new.self
+          (DidHear c.arrive.result) (rw c.deref.ensures.value at c.arrive.ensures.after) (rw c.deref.ensures.value at c.arrive.ensures.reply) refl refl);
       datagrams = rw (c.arrive.ensures.outs, c.deref.ensures.value) at c.in_ok-keep.ensures;
     })
 

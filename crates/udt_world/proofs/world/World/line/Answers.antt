@@ -7,7 +7,7 @@ use Rattle.udt_world.specs.Transcripts.{TellsLine}
 use Rattle.udt_world.specs.Views.{view_of}
 use Rattle.udt_world.specs.Worlds.{lines_in}
 use Rattle.udt_world.proofs.TranscriptLemmas.{accepted-more, tells}
-use Rattle.udt_world.proofs.WorldLemmas.{printed-none, accepted, refused, Accepted, Refused, steps_few, steps, few_lines, shows_small, shows}
+use Rattle.udt_world.proofs.WorldLemmas.{printed-none, accepted, refused, Accepted, Refused, adopts, adopts_small, steps, steps_small, shows, shows_small, small_world}
 use Rattle.udt_world.proofs.world.World.line.Goals as goal
 
 -- the line doesn't fit
@@ -19,6 +19,9 @@ returns-then-not-fits-clause-answer g c =
     let refuses : Refuses (printed_after g.C.Control.ways (lines_in c.self.inside) c.args.line.now) (lines_in c.self.inside) (Some (lines_in c.self.inside)) c.args.out.now.items c.args.out.now.items =
     record { refused = printed-none g.C.Control.ways (lines_in c.self.inside) c.args.line.now not_in; same = refl; output = refl } in
     rw (sym here) refuses
+
+pub returns-then-not-fits-clause-adoption : goal.returns-then-not-fits-clause-adoption
+returns-then-not-fits-clause-adoption g c = rw (sym c.self.view_is) (adopts g.C.Control.ways c.self.inside c.self.invariant)
 
 pub returns-then-not-fits-clause-in_step : goal.returns-then-not-fits-clause-in_step
 returns-then-not-fits-clause-in_step g c = rw (sym c.self.view_is) (steps g.C.Control.ways c.self.inside c.self.invariant)
@@ -42,6 +45,7 @@ invariant_of-self g c =
     let kept = same_Some _ _ more.answer.kept in
     record {
       shown = λ _. more.shown;
+      wired = λ _. c.in-Ok-true.ensures.wired;
       size_is = λ _. omega (arith, size, more.size);
       bound = omega (arith, c.fits.ensures.bound c.if-not-fits.false);
       accepted = λ _. rw kept (accepted-more g.C.Control.ways [] (lines_in c.self.inside) c.args.line.now more.answer.text (c.self.invariant.accepted c.if-self.false) more.answer.printed);
@@ -51,6 +55,9 @@ pub returns-in-Ok-true-clause-answer : goal.returns-in-Ok-true-clause-answer
 returns-in-Ok-true-clause-answer g c =
     let here : Some (lines_in c.self.inside) ≡ c.args.self.now = rw c.if-self.false at c.self.view_is in
     rw (sym here, c.if-self.false) (was_accepted g c).answer
+
+pub returns-in-Ok-true-clause-adoption : goal.returns-in-Ok-true-clause-adoption
+returns-in-Ok-true-clause-adoption g c = adopts g.C.Control.ways _ (invariant_of-self g c)
 
 pub returns-in-Ok-true-clause-in_step : goal.returns-in-Ok-true-clause-in_step
 returns-in-Ok-true-clause-in_step g c = steps g.C.Control.ways _ (invariant_of-self g c)
@@ -64,8 +71,8 @@ returns-in-Ok-true-clause-prefix g c =
     let size = c.self.invariant.size_is c.if-self.false in
     let more = was_accepted g c in
     let kept = same_Some _ _ more.answer.kept in
-    let small : size_of (map items_of c.keep_line.new.lines.items) ≤ 67108865 = omega (arith, size, more.size, c.fits.ensures.bound c.if-not-fits.false) in
-    let few : length (lines_in c.self.inside ++ c.args.line.now ∷ []) < 1073741824 = rw kept at (few_lines (map items_of c.keep_line.new.lines.items) small) in
+    let small : size_of (map items_of c.keep_line.new.lines.items) < 1073741824 = omega (arith, size, more.size, c.fits.ensures.bound c.if-not-fits.false) in
+    let few : size_of (lines_in c.self.inside ++ c.args.line.now ∷ []) < 1073741824 = rw kept at small in
     let told : TellsLine g.C.Control.ways (lines_in c.self.inside) c.args.line.now c.args.out.now.items c.keep_line.new.out.items =
     tells g.C.Control.ways (lines_in c.self.inside) c.args.line.now _ _ _ (c.self.invariant.accepted c.if-self.false) few more.answer in
     rw (sym here) told
@@ -84,10 +91,15 @@ returns-in-Ok-false-clause-answer g c =
     let here : Some (lines_in c.self.inside) ≡ c.args.self.now = rw c.if-self.false at c.self.view_is in
     rw (sym here, c.if-self.false) (was_refused g c).answer
 
+-- and its lines are as few as before
+small_after : (g : _) (c : goal.In-Ok-false g) → c.self.inside.lost ≡ false → size_of (map items_of c.keep_line.new.lines.items) < 1073741824
+small_after g c kept = omega (arith, ap size_of (was_refused g c).same, small_world g.C.Control.ways c.self.inside c.self.invariant kept)
+
+pub returns-in-Ok-false-clause-adoption : goal.returns-in-Ok-false-clause-adoption
+returns-in-Ok-false-clause-adoption g c = adopts_small g.C.Control.ways c.self.inside.lost (map items_of c.keep_line.new.lines.items) (small_after g c)
+
 pub returns-in-Ok-false-clause-in_step : goal.returns-in-Ok-false-clause-in_step
-returns-in-Ok-false-clause-in_step g c = steps_few g.C.Control.ways c.self.inside.lost (map items_of c.keep_line.new.lines.items) (λ kept.
-    few_lines (map items_of c.keep_line.new.lines.items) (omega (arith, ap size_of (was_refused g c).same, c.self.invariant.size_is kept, c.self.invariant.bound)))
+returns-in-Ok-false-clause-in_step g c = steps_small g.C.Control.ways c.self.inside.lost (map items_of c.keep_line.new.lines.items) (small_after g c)
 
 pub returns-in-Ok-false-clause-shown : goal.returns-in-Ok-false-clause-shown
-returns-in-Ok-false-clause-shown g c = shows_small g.C.Control.ways c.self.inside.lost (map items_of c.keep_line.new.lines.items) (λ kept.
-    omega (arith, ap size_of (was_refused g c).same, c.self.invariant.size_is kept, c.self.invariant.bound))
+returns-in-Ok-false-clause-shown g c = shows_small g.C.Control.ways c.self.inside.lost (map items_of c.keep_line.new.lines.items) (small_after g c)
