@@ -28,7 +28,6 @@ pub mod PushLemmas
 pub mod EmptyLemmas
 pub mod AddedLemmas
 pub mod GivenLemmas
-pub mod DatagramLemmas
 pub mod AcceptLemmas
 pub mod OpeningLemmas
 pub mod NewLemmas
