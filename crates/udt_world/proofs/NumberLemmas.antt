@@ -4,7 +4,7 @@ use Rattle.std.specs.Prelude.{decimal, slice_get}
 use Rattle.std.specs.Char.{is_ascii_lowercase}
 use Rattle.std.proofs.lemmas.Bool.{and_parts}
 use Rattle.std.proofs.lemmas.Fmt.{decimal_by_steps, decimal_injective}
-use Rattle.std.proofs.lemmas.List.{get_or-append, length-append, length-map}
+use Rattle.std.proofs.lemmas.List.{get_or_append_left, length-append, length-map}
 use Rattle.std.proofs.lemmas.Option.{slice_get_within}
 use Rattle.udt_model.specs.declared.limits.TheConstants.{MOST_SOCKETS}
 use Rattle.udt_model.specs.Words.{is_name, is_word}
@@ -20,15 +20,15 @@ first-digit n small =
     decimal_by_steps (λ m ds. (0 < length ds) × (get_or ds 0 0 ≤ 57)) (λ m l. (omega arith, omega arith))
     (λ m ds l h. (
       omega (arith, length-append ds ((48 + m % 10) ∷ [])),
-      omega (arith, get_or-append ds ((48 + m % 10) ∷ []) 0 0 h.0, h.1),
+      omega (arith, get_or_append_left ds ((48 + m % 10) ∷ []) 0 0 h.0, h.1),
     )) n small
 
 lower : (c : ℕ) → is_ascii_lowercase c ≡ true → 97 ≤ c
-lower c is = omega (arith, is)
+lower c is = grind (arith, is)
 
 no-digit-first : (word : List ℕ) → 0 < length word → get_or word 0 0 ≤ 57 → is_name word ≡ true → ⊥
 no-digit-first [] some digit is = omega (arith, some)
-no-digit-first (first ∷ others) some digit is = omega (arith, digit, lower first (and_parts _ _ is).0)
+no-digit-first (first ∷ others) some digit is = omega (arith, digit, lower first (and_parts _ _ (and_parts _ _ is).0).0)
 
 no-name : (n : ℕ) → n < 2 ^ 64 → is_name (decimal n) ≡ true → ⊥
 no-name n small is = let first = first-digit n small in no-digit-first (decimal n) first.0 first.1 is

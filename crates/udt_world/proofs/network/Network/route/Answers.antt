@@ -16,7 +16,7 @@ pub route_by-requires : goal.route_by-requires
 route_by-requires g c = λ id is.
     let network = c.args.self.now in
     let known = item_at network.endpoints.items c.in-Some.place
-    (omega (arith, network.endpoints.ok.0, rw c.in-Some.is at c.requires.endpoint)) in
+    (omega (arith, network.endpoints.ok.0, c.requires.endpoint c.in-Some.place c.in-Some.is)) in
     let goes = c.destination.ensures.seen known.0 c.requires.wired known.1 in
     (stands (sights_of network) known.0.addr c.args.from c.args.bytes.now id (sym goes ∙ is)).some
 
@@ -41,7 +41,7 @@ pub returns-in-Some-clause-within : goal.returns-in-Some-clause-within
 returns-in-Some-clause-within g c = λ place is.
     let network = c.args.self.now in
     let known = item_at network.endpoints.items c.in-Some.place
-    (omega (arith, network.endpoints.ok.0, rw c.in-Some.is at c.requires.endpoint)) in
+    (omega (arith, network.endpoints.ok.0, c.requires.endpoint c.in-Some.place c.in-Some.is)) in
     let goes = c.destination.ensures.seen known.0 c.requires.wired known.1 in
     let so = socket-routed c.destination.result c.route_by.result place c.route_by.ensures is in
     let here = stands (sights_of network) known.0.addr c.args.from c.args.bytes.now so.0 (sym goes ∙ so.1) in
@@ -53,7 +53,7 @@ pub returns-in-Some-clause-may : goal.returns-in-Some-clause-may
 returns-in-Some-clause-may g c = λ to place there is.
     let network = c.args.self.now in
     let known = item_at network.endpoints.items c.in-Some.place
-    (omega (arith, network.endpoints.ok.0, rw c.in-Some.is at c.requires.endpoint)) in
+    (omega (arith, network.endpoints.ok.0, c.requires.endpoint c.in-Some.place c.in-Some.is)) in
     let goes = c.destination.ensures.seen known.0 c.requires.wired known.1 in
     let so = socket-routed c.destination.result c.route_by.result place c.route_by.ensures is in
     subst (λ (p : ℕ). MayHappen (sights_of network) p (Arrive c.args.from c.args.bytes.now)) (sym so.2)
