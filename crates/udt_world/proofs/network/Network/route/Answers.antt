@@ -8,7 +8,6 @@ use Rattle.udt_world.specs.Views.{sight_of, view_of}
 use Rattle.udt_world.specs.Wiring.{IsEndpoint, MayHappen, seen_at, sights_of}
 use Rattle.udt_world.proofs.PushLemmas.{item_at}
 use Rattle.udt_world.proofs.RouteLemmas.{may-hear, route_away, route_shown, socket-routed, stands}
-use Rattle.udt_world.proofs.NumberLemmas.{number_free}
 use Rattle.udt_world.proofs.network.Network.route.Goals as goal
 
 -- the ID is that of a socket
