@@ -1,5 +1,5 @@
 -- A listener that promises a place to a request keeps its peer and what it was opened with.
-use Rattle.std.proofs.Common.{◌≡◌, ⊥, Result, Ok, Err, List, ℕ, refl, ap, ◌∙◌, sym}
+use Rattle.std.proofs.Common.{◌≡◌, Result, Ok, Err, List, ℕ, refl, ap, ◌∙◌, sym}
 use Rattle.udt_model.specs.declared.addresses.Addr.{Addr}
 use Rattle.udt_model.specs.declared.answers.Heard.{Heard}
 use Rattle.udt_model.specs.declared.answers.Heard.TheVariants as heard

@@ -29,10 +29,10 @@ pub mod EmptyLemmas
 pub mod AddedLemmas
 pub mod AddLemmas
 pub mod GivenLemmas
-pub mod DatagramLemmas
 pub mod AcceptLemmas
 pub mod OpeningLemmas
 pub mod NewLemmas
 pub mod EndpointLemmas
 pub mod UnderLemmas
 pub mod HeardLemmas
+pub mod NumberLemmas

@@ -118,6 +118,20 @@ module _ {C : Type 0} where
           (hears-new s shake at (ap (λ (b : List ℕ). handshake_in (read b)) text_is ∙ reads) none);
     }
 
+-- a route to a place is one to the ID after it
+pub socket-routed : (routed : Routed) (found : Route) (place : ℕ) → IsRoutedAs routed found → found ≡ goes_to.To place
+    → (id : ℕ) × (routed ≡ routing.ToSocket id) × (place ≡ id - 1)
+socket-routed (routing.ToSocket id) (goes_to.To at) place is same = let it : at ≡ place = cc in (id, refl, sym it ∙ is)
+socket-routed (routing.ToSocket id) (goes_to.Nowhere word) place is same = absurd is
+socket-routed routing.Short (goes_to.To at) place is same = absurd is
+socket-routed routing.Id (goes_to.To at) place is same = absurd is
+socket-routed routing.Shake (goes_to.To at) place is same = absurd is
+socket-routed routing.Stale (goes_to.To at) place is same = absurd is
+socket-routed routing.Short (goes_to.Nowhere word) place is same = absurd (cc)
+socket-routed routing.Id (goes_to.Nowhere word) place is same = absurd (cc)
+socket-routed routing.Shake (goes_to.Nowhere word) place is same = absurd (cc)
+socket-routed routing.Stale (goes_to.Nowhere word) place is same = absurd (cc)
+
 -- ---- in a network that is shown
 
 module _ {C : Type 0} (w : Ways C) (n : model.Network C) (view : View C) (shows : Shows w n view) (from to : Addr)
