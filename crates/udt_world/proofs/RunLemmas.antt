@@ -1,14 +1,13 @@
 -- What the turns of a generated run do.
 use Rattle.std.proofs.Common.{◌≡◌, ℕ, zero, suc, ◌+◌, ◌-◌, ◌≤◌, ◌<◌, Bool, true, false, eqb, ◌*◌, List, [], ◌++◌, length, get_or, inl, inr, ◌⊎◌, Some, refl, ap, ◌∙◌, sym, arith}
-use Rattle.std.specs.Prelude.{slice_get, None, codes, Result, Ok, Err, IfOk, OnOk, nat_lt, ◌%◌, vec_len}
+use Rattle.std.specs.Prelude.{slice_get, codes, option_map, Result, Ok, Err, IfOk, OnOk, nat_lt, ◌%◌, vec_len}
 use Rattle.std.proofs.lemmas.Bool.{le-ltb, lt-ltb, ne_eqb}
 use Rattle.std.proofs.lemmas.List.{append-nil, length-append, length-map, length-take-le, length-set}
 use Rattle.std.proofs.lemmas.Option.{same_Some, slice_get-map, slice_get_cases}
 use Rattle.udt_core.specs.Received.{received_in}
 use Rattle.udt_model.specs.declared.addresses.Addr.{Addr}
 use Rattle.udt_model.specs.declared.answers.Perf.{Perf}
-use Rattle.udt_model.specs.Phases.{Phase}
-use Rattle.udt_model.specs.Phases as phase
+use Rattle.udt_model.specs.Phases.{Link, Stands, Lost, Absent, link_of}
 use Rattle.udt_model.specs.declared.answers.Refusal.{Refusal}
 use Rattle.udt_model.specs.declared.answers.SendNo.{SendNo}
 use Rattle.udt_model.specs.declared.packets.Kind.{Kind}
@@ -24,7 +23,7 @@ use Rattle.udt_model.specs.Opening.{opening}
 use Rattle.udt_model.specs.Rate.{Ways}
 use Rattle.udt_model.specs.Routes.{handshake_in}
 use Rattle.udt_model.specs.Wire.{read}
-use Rattle.udt_model.specs.Script.{Printed, arrived, call_by, event_at, on_line, paired, may_pair}
+use Rattle.udt_model.specs.Script.{Printed, arrived, call_at, call_by, event_at, left_by, on_line, paired, may_pair, with_place}
 use Rattle.udt_model.specs.Lines.{PairLine}
 use Rattle.udt_model.specs.SendHalf.{Sending, acked_of, send_answer}
 use Rattle.udt_model.specs.State.{State}
@@ -40,18 +39,9 @@ use Rattle.udt_world.specs.Runs.{count_in, Counts, IsRun, IsSet}
 use Rattle.udt_world.specs.Views.{Sight, View, Shows, Moves, Answers, sight_of, sight_of_history, view_of}
 use Rattle.udt_world.specs.Wiring.{IsWired, MayHappen}
 use Rattle.udt_world.proofs.ArriveLemmas.{arrive-gives, not_followed, paired-settled, settled-promises}
+use Rattle.udt_world.proofs.CallLemmas.{some_at}
 use Rattle.udt_world.proofs.CountedLemmas.{counted-length}
 use Rattle.udt_world.proofs.EventLemmas.{shown_at, moves_shown, reply_shown, tick_reply}
-
--- what stands at a place of a list
-there_by : {A : Type 0} (xs : List A) (i : ℕ) → i < length xs
-    → ((x : A) × (i < length xs) × (slice_get xs i ≡ Some x) × (get_or xs i x ≡ x)) ⊎ ((length xs ≤ i) × (slice_get xs i ≡ None))
-    → (x : A) × (slice_get xs i ≡ Some x)
-there_by xs i within (inl found) = (found.0, found.2)
-there_by xs i within (inr past) = absurd (omega (arith, within, past.0))
-
-there_at : {A : Type 0} (xs : List A) (i : ℕ) → i < length xs → (x : A) × (slice_get xs i ≡ Some x)
-there_at xs i within = there_by xs i within (slice_get_cases xs i).1
 
 -- two facts of a result
 pub on_ok_both : {T E P Q : Type 0} (r : Result T E) → OnOk r P → OnOk r Q → OnOk r (P × Q)
@@ -86,16 +76,15 @@ taken_within : (answer : Result ℕ SendNo) (count : ℕ) → Ok count ≡ taken
 taken_within (Ok taken) count is = cc
 taken_within (Err why) count is = absurd (cc)
 
-sent_within : {C : Type 0} (s : State C) (bytes : List ℕ) (p : Phase) (count : ℕ) → Sent (Ok count) ≡ (send_in s bytes p).reply → count ≤ length bytes
-sent_within s bytes phase.Connected count is =
+sent_within : {C : Type 0} (s : State C) (bytes : List ℕ) (l : Link) (count : ℕ) → Sent (Ok count) ≡ (send_in s bytes l).reply → count ≤ length bytes
+sent_within s bytes Stands count is =
     let same : Ok count ≡ taken_as (send_answer s.sending (length bytes)) = cc in
     answer_within s.sending (length bytes) count (taken_within (send_answer s.sending (length bytes)) count same)
-sent_within s bytes (phase.Broken why) count is = absurd (cc)
-sent_within s bytes phase.Closing count is = absurd (cc)
-sent_within s bytes phase.Closed count is = absurd (cc)
+sent_within s bytes (Lost why) count is = absurd (cc)
+sent_within s bytes Absent count is = absurd (cc)
 
 sent_within_as : {C : Type 0} (s : State C) (bytes : List ℕ) (k : Kind) (count : ℕ) → Sent (Ok count) ≡ (send_as s bytes k).reply → count ≤ length bytes
-sent_within_as s bytes kind.Stream count is = sent_within s bytes s.phase count is
+sent_within_as s bytes kind.Stream count is = sent_within s bytes (link_of s.phase) count is
 sent_within_as s bytes kind.Message count is = absurd (cc)
 
 pub received_at_most : (answer : Result ℕ Refusal) (into : List ℕ) → IfOk answer (λ count. count ≤ length into) → count_in answer ≤ length into
@@ -243,17 +232,29 @@ module _ {C : Type 0} (w : Ways C) where
 
     -- ---- calls
 
+    first_place : place_of (codes "a") n.sockets ≡ Some 0
+    unfolding place_of
+    first_place = rw (c.sockets_are, c.first_name) refl
+
+    second_place : place_of (codes "b") n.sockets ≡ Some 1
+    unfolding place_of
+    second_place = rw (c.sockets_are, c.first_name, c.second_name) refl
+
     pub after_first : (now : ℕ) (act : Act) → IsPlain now act
         → after_call w n (codes "a") now act ≡ (event_at w n 0 c.first (event now act)).network
-    unfolding place_of
     after_first now act plain =
-        rw (c.sockets_are, c.first_name, c.second_name) (ap (λ (p : Printed C). p.network) (plain n 0 c.first))
+        let does : ℕ → ScriptSocket C → Printed C = λ place socket. call_at w n place socket (event now act) in
+        ap (λ found. left_by n (with_place w n does found)) first_place
+        ∙ (ap (λ found. left_by n (option_map (does 0) found)) first_at
+        ∙ ap (λ (p : Printed C). p.network) (plain n 0 c.first))
 
     pub after_second : (now : ℕ) (act : Act) → IsPlain now act
         → after_call w n (codes "b") now act ≡ (event_at w n 1 c.second (event now act)).network
-    unfolding place_of
     after_second now act plain =
-        rw (c.sockets_are, c.first_name, c.second_name) (ap (λ (p : Printed C). p.network) (plain n 1 c.second))
+        let does : ℕ → ScriptSocket C → Printed C = λ place socket. call_at w n place socket (event now act) in
+        ap (λ found. left_by n (with_place w n does found)) second_place
+        ∙ (ap (λ found. left_by n (option_map (does 1) found)) second_at
+        ∙ ap (λ (p : Printed C). p.network) (plain n 1 c.second))
 
   -- ---- the beginning
 
@@ -399,7 +400,7 @@ module _ {C : Type 0} (w : Ways C) where
   pub datagram_at : (old : code_run.Run C) (number : ℕ) → number < length old.network.datagrams.items
       → (datagram : model.ScriptDatagram) × (slice_get (view_of old.network).datagrams number ≡ Some datagram)
   datagram_at old number within =
-      there_at (view_of old.network).datagrams number (omega (arith, length-map old.network.datagrams.items datagram_of, within))
+      some_at (view_of old.network).datagrams number (omega (arith, length-map old.network.datagrams.items datagram_of, within))
 
   module _ (run : Run C) (old new : code_run.Run C) (now kind number : ℕ) (is : IsRun w run old)
       (number_is : number ≡ delivered_number kind (draw old.state) (length old.network.datagrams.items))
