@@ -43,10 +43,10 @@ use Rattle.udt_world.proofs.CallLemmas.{some_at}
 use Rattle.udt_world.proofs.CountedLemmas.{counted-length}
 use Rattle.udt_world.proofs.EventLemmas.{shown_at, moves_shown, reply_shown, tick_reply}
 
--- two facts of a result
-pub on_ok_both : {T E P Q : Type 0} (r : Result T E) → OnOk r P → OnOk r Q → OnOk r (P × Q)
-on_ok_both (Ok x) p q = (p, q)
-on_ok_both (Err e) p q = tt
+-- two facts of a result give a third
+pub on_ok_both : {T E P Q R : Type 0} (r : Result T E) → (P → Q → R) → OnOk r P → OnOk r Q → OnOk r R
+on_ok_both (Ok x) gives p q = gives p q
+on_ok_both (Err e) gives p q = tt
 
 -- a pack and a tick need nothing
 pub may_pack : {C : Type 0} (sights : List (Sight C)) (place : ℕ) → MayHappen sights place Pack

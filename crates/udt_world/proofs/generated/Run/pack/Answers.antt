@@ -17,6 +17,6 @@ returns-clause-run g c =
 
 pub returns-clause-set : goal.returns-clause-set
 returns-clause-set g c =
-    on_ok_weaker c.move_on.result
-    (λ both. set_moved g.C.Control.ways 0 _ c.args.self.now _ c.requires both.0 both.1 refl refl)
-    (on_ok_both c.move_on.result c.move_on.ensures.moves c.move_on.ensures.wired)
+    on_ok_both c.move_on.result
+    (λ moves wired. set_moved g.C.Control.ways 0 _ c.args.self.now _ c.requires moves wired refl refl)
+    c.move_on.ensures.moves c.move_on.ensures.wired

@@ -9,3 +9,6 @@ returns-clause-run g c = λ run is.
     let answers = rw room at c.recv-answer.ensures.value in
     run_received g.C.Control.ways run c.args.self.now _ c.args.now 4096 c.recv-answer.new.into c.recv-answer.result is
     (rw (sym c.recv-answer.auto.into) at c.recv-answer.ensures.within) answers refl refl (rw c.counted.ensures refl)
+
+pub returns-clause-set : goal.returns-clause-set
+returns-clause-set g c = ?

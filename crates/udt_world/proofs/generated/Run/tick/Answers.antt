@@ -27,6 +27,6 @@ returns-clause-set g c =
     let between : Run g.row.C.Denot = record c.args.self.now { network = c.move_on.new.self } in
     let set = set_moved g.C.Control.ways 0 _ c.args.self.now between c.requires c.in_ok-move_on.ensures.moves
     c.in_ok-move_on.ensures.wired refl refl in
-    on_ok_weaker c.move_on-2.result
-    (λ both. set_moved g.C.Control.ways 1 _ between _ set both.0 both.1 refl refl)
-    (on_ok_both c.move_on-2.result c.move_on-2.ensures.moves c.move_on-2.ensures.wired)
+    on_ok_both c.move_on-2.result
+    (λ moves wired. set_moved g.C.Control.ways 1 _ between _ set moves wired refl refl)
+    c.move_on-2.ensures.moves c.move_on-2.ensures.wired
