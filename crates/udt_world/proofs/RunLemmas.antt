@@ -1,5 +1,5 @@
 -- What the turns of a generated run do.
-use Rattle.std.proofs.Common.{◌≡◌, ℕ, zero, suc, ◌+◌, ◌-◌, ◌≤◌, ◌<◌, Bool, true, false, eqb, ◌*◌, List, [], ◌++◌, length, get_or, inl, inr, ◌⊎◌, Some, refl, ap, ◌∙◌, sym, arith}
+use Rattle.std.proofs.Common.{◌≡◌, ℕ, zero, suc, ◌+◌, ◌-◌, ◌≤◌, ◌<◌, Bool, true, false, eqb, ◌*◌, List, [], ◌++◌, length, get_or, inl, inr, ◌⊎◌, Some, refl, ap, ◌∙◌, sym, subst, arith}
 use Rattle.std.specs.Prelude.{slice_get, codes, option_map, Result, Ok, Err, IfOk, OnOk, nat_lt, ◌%◌, vec_len}
 use Rattle.std.proofs.lemmas.Bool.{le-ltb, lt-ltb, ne_eqb}
 use Rattle.std.proofs.lemmas.List.{append-nil, length-append, length-map, length-take-le, length-set}
@@ -134,14 +134,23 @@ module _ {C : Type 0} (w : Ways C) where
   -- and what is set stays so
   pub set_moved : (place : ℕ) (happens : Event) (old new : code_run.Run C) → IsSet old
       → Moves w place happens (view_of old.network) (view_of new.network) → IsWired new.network
-      → new.pattern ≡ old.pattern → new.room ≡ old.room → IsSet new
+      → new.pattern ≡ old.pattern → vec_len new.room ≡ vec_len old.room → IsSet new
   set_moved place happens old new set moves wired pattern room = record {
     wired = wired;
     sockets = moved_count place happens old.network new.network moves ∙ set.sockets;
     pattern = rw pattern set.pattern;
     length = rw pattern set.length;
-    room = rw room set.room;
+    room = room ∙ set.room;
   }
+
+  -- the endpoints of a network are not seen
+  pub seen_same : (old new : code.Network C) → new ≡ record old { endpoints = new.endpoints } → view_of new ≡ view_of old
+  seen_same old new kept = ap (λ (n : code.Network C). view_of n) kept
+
+  -- and what is seen the same moves the same
+  pub moved_from : (place : ℕ) (happens : Event) (old between new : View C) → between ≡ old → Moves w place happens between new
+      → Moves w place happens old new
+  moved_from place happens old between new same moves = subst (λ v. Moves w place happens v new) same moves
 
   -- ---- histories
 

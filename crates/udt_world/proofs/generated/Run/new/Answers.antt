@@ -8,9 +8,9 @@ pub returns-clause-run : goal.returns-clause-run
 returns-clause-run g c =
     run_new g.C.Control.ways c.args.n _ c.in_ok-pair.field-0 _ _ _
     (record {
-      hosts_are = ap (λ (v : View g.row.C.Denot). v.hosts) c.new.ensures.view;
-      sockets_are = ap (λ (v : View g.row.C.Denot). v.sockets) c.new.ensures.view;
-      datagrams_are = ap (λ (v : View g.row.C.Denot). v.datagrams) c.new.ensures.view;
+      hosts_are = ap (λ (v : View g.row.C.Denot). v.hosts) c.new-network.ensures.view;
+      sockets_are = ap (λ (v : View g.row.C.Denot). v.sockets) c.new-network.ensures.view;
+      datagrams_are = ap (λ (v : View g.row.C.Denot). v.datagrams) c.new-network.ensures.view;
     })
     c.in_ok-pair.ensures.done refl refl refl
 

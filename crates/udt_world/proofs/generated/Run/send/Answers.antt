@@ -1,5 +1,5 @@
 use Rattle.std.proofs.Common.{◌+◌, refl, ap, arith}
-use Rattle.std.specs.Prelude.{◌%◌}
+use Rattle.std.specs.Prelude.{◌%◌, vec_len}
 use Rattle.udt_world.specs.declared.generated.Run.{Run}
 use Rattle.udt_world.proofs.RunLemmas.{sent_at_most, run_sent, set_moved}
 use Rattle.udt_world.proofs.generated.Run.send.Goals as goal
@@ -38,4 +38,4 @@ returns-clause-set g c =
     let answers = rw c.draw.ensures.next at c.send-answer.ensures.value in
     set_moved g.C.Control.ways 0 _ c.args.self.now _ c.requires.set answers.moves c.send-answer.ensures.wired
     (ap (λ (r : Run g.row.C.Denot). r.pattern) c.draw.ensures.next)
-    (ap (λ (r : Run g.row.C.Denot). r.room) c.draw.ensures.next)
+    (ap (λ (r : Run g.row.C.Denot). vec_len r.room) c.draw.ensures.next)

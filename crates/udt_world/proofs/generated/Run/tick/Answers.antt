@@ -8,8 +8,8 @@ use Rattle.udt_world.proofs.generated.Run.tick.Goals as goal
 pub move_on-requires-clause-may : goal.move_on-requires-clause-may
 move_on-requires-clause-may g c = may_tick _ _
 
-pub move_on-2-requires-clause-may : goal.move_on-2-requires-clause-may
-move_on-2-requires-clause-may g c = may_tick _ _
+pub move_on-requires-2-clause-may : goal.move_on-requires-2-clause-may
+move_on-requires-2-clause-may g c = may_tick _ _
 
 -- first a ticks, then b
 pub returns-clause-run : goal.returns-clause-run
