@@ -19,7 +19,7 @@ hear-requires-clause-place g c =
     let within : c.delivered_number-number.result < length network.datagrams.items =
     omega (arith, c.len-count.ensures, network.datagrams.ok.0, c.delivered_number-number.ensures.within) in
     let found = datagram_at g.C.Control.ways c.args.self.now c.delivered_number-number.result within in
-    let may = rw c.draw.ensures.next at c.in_ok-route_of.ensures.may in
+    let may = rw c.draw.ensures.next at c.in_ok-place.ensures.may in
     (may c.in-To.place found.0 c.in-To.is found.1).0
 
 -- the datagram goes to a socket
@@ -34,12 +34,12 @@ returns-in-To-clause-run g c =
     let state = ap (λ (r : Run g.row.C.Denot). r.state) c.draw.ensures.next in
     let accepted = ap (λ (r : Run g.row.C.Denot). r.accepted) c.draw.ensures.next in
     let delivered = ap (λ (r : Run g.row.C.Denot). r.delivered) c.draw.ensures.next in
-    let kept = rw c.draw.ensures.next at c.in_ok-route_of.ensures.kept in
+    let kept = rw c.draw.ensures.next at c.in_ok-place.ensures.kept in
     let same = seen_same g.C.Control.ways network c.route_of.new.self kept in
     let there = ap (λ (v : View g.row.C.Denot). slice_get v.datagrams c.delivered_number-number.result) same ∙ found.1 in
     on_ok_weaker c.hear.result
     (λ hears run is.
-    let value = rw c.draw.ensures.next at c.in_ok-route_of.ensures.value in
+    let value = rw c.draw.ensures.next at c.in_ok-place.ensures.value in
     let goes = subst (λ r. IsRoute g.C.Control.ways run.network found.0 r) c.in-To.is (value run.network found.0 is.shown found.1) in
     run_delivered g.C.Control.ways run c.args.self.now _ c.args.now c.args.kind c.delivered_number-number.result is number within
     found.0 found.1 state accepted delivered c.in-To.place goes
@@ -52,7 +52,7 @@ returns-in-To-clause-set g c =
     let within : c.delivered_number-number.result < length network.datagrams.items =
     omega (arith, c.len-count.ensures, network.datagrams.ok.0, c.delivered_number-number.ensures.within) in
     let found = datagram_at g.C.Control.ways c.args.self.now c.delivered_number-number.result within in
-    let kept = rw c.draw.ensures.next at c.in_ok-route_of.ensures.kept in
+    let kept = rw c.draw.ensures.next at c.in_ok-place.ensures.kept in
     let same = seen_same g.C.Control.ways network c.route_of.new.self kept in
     let there = ap (λ (v : View g.row.C.Denot). slice_get v.datagrams c.delivered_number-number.result) same ∙ found.1 in
     let pattern = ap (λ (r : Run g.row.C.Denot). r.pattern) c.draw.ensures.next in
@@ -76,20 +76,20 @@ returns-in-Nowhere-clause-run g c = λ run is.
     let state = ap (λ (r : Run g.row.C.Denot). r.state) c.draw.ensures.next in
     let accepted = ap (λ (r : Run g.row.C.Denot). r.accepted) c.draw.ensures.next in
     let delivered = ap (λ (r : Run g.row.C.Denot). r.delivered) c.draw.ensures.next in
-    let kept = rw c.draw.ensures.next at c.in_ok-route_of.ensures.kept in
+    let kept = rw c.draw.ensures.next at c.in_ok-place.ensures.kept in
     let same = seen_same g.C.Control.ways network c.route_of.new.self kept in
-    let value = rw c.draw.ensures.next at c.in_ok-route_of.ensures.value in
+    let value = rw c.draw.ensures.next at c.in_ok-place.ensures.value in
     let goes = subst (λ r. IsRoute g.C.Control.ways run.network found.0 r) c.in-Nowhere.is (value run.network found.0 is.shown found.1) in
     run_dropped g.C.Control.ways run c.args.self.now _ c.args.now c.args.kind c.delivered_number-number.result is number within
     found.0 found.1 state accepted delivered c.in-Nowhere.field-0.now goes same
 
 pub returns-in-Nowhere-clause-set : goal.returns-in-Nowhere-clause-set
 returns-in-Nowhere-clause-set g c =
-    let kept = rw c.draw.ensures.next at c.in_ok-route_of.ensures.kept in
+    let kept = rw c.draw.ensures.next at c.in_ok-place.ensures.kept in
     let pattern = ap (λ (r : Run g.row.C.Denot). r.pattern) c.draw.ensures.next in
     let room = ap (λ (r : Run g.row.C.Denot). vec_len r.room) c.draw.ensures.next in
     record {
-      wired = c.in_ok-route_of.ensures.wired;
+      wired = c.in_ok-place.ensures.wired;
       sockets = ap (λ (n : Network g.row.C.Denot). vec_len n.sockets) kept ∙ c.requires.sockets;
       pattern = rw pattern c.requires.pattern;
       length = rw pattern c.requires.length;

@@ -35,6 +35,7 @@ returns-clause-kept g c =
     let socket = c.index_mut-socket.result.now in
     let read = slice_get_read network.sockets.items (length network.sockets.items) c.args.place socket refl (omega (arith, network.sockets.ok.0, c.requires.place)) c.index_mut-socket.ensures.value in
     record {
+      hosts = refl;
       endpoints = refl;
       names = refl;
       count = refl;
