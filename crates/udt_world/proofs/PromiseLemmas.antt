@@ -12,7 +12,7 @@ use Rattle.udt_model.specs.declared.packets.Malformed.TheVariants.{BadAckLength,
 use Rattle.udt_model.specs.declared.packets.Shake.{Shake}
 use Rattle.udt_model.specs.Addresses.{same_addr}
 use Rattle.udt_model.specs.Connections.{config_of}
-use Rattle.udt_model.specs.Events.{Arrive, DidHear, Event, Offer, Withdraw, event}
+use Rattle.udt_model.specs.Events.{Arrive, DidHear, Event, Offer, Reply, Withdraw, event}
 use Rattle.udt_model.specs.Handshakes as handshakes
 use Rattle.udt_model.specs.History.{happened, state_of}
 use Rattle.udt_model.specs.Network as model
@@ -28,10 +28,13 @@ use Rattle.udt_model.specs.State.{State}
 use Rattle.udt_model.specs.Step.{step}
 use Rattle.udt_model.specs.Wire.{ControlType, HandshakeType, KeepAliveType, AckType, NakType, ShutdownType, Ack2Type, DropAskType, NoType, Ack, DropAsk, Handshake, WireRange, ack_of, block_of, control_type, number_at, ranges_of, read, read_ack, read_control, read_drop, read_losses, read_shake, shake_of, type_of, word_at}
 use Rattle.udt_laws.proofs.scripts.ReplacedOne.{set-other, set-same}
+use Rattle.udt_script.specs.CodeAnswers.{reply_of}
+use Rattle.udt_script.specs.declared.lines.Reply as code_answers
+use Rattle.udt_script.specs.declared.lines.Reply.TheVariants as code
 use Rattle.udt_world.specs.declared.network.Network.{Network}
 use Rattle.udt_world.specs.declared.network.ScriptSocket.{ScriptSocket}
 use Rattle.udt_world.specs.Done.{DoesLine}
-use Rattle.udt_world.specs.Views.{HasEvent, Shows, Sight, View, after_event, sight_of, sight_of_history, view_of}
+use Rattle.udt_world.specs.Views.{HasEvent, RepliesTo, Shows, Sight, View, after_event, sight_of, sight_of_history, view_of}
 use Rattle.udt_world.specs.Wiring.{FitsPhase, HasAddress, IsNew, IsUnadopted, IsWired, MayHappen, adopts, first_with, new_sight, peer_in, place_seen, sights_of}
 use Rattle.udt_world.proofs.ArriveLemmas.{not_followed}
 use Rattle.udt_world.proofs.CallLemmas.{some_at}
@@ -102,6 +105,27 @@ isn-small bytes shake = by (nat_lt (length bytes) 16) (nat_lt (word_at 0 bytes) 
         control-small (control_type (type_of (word_at 0 bytes))) (word_at 4 bytes) (word_at 8 bytes) (word_at 12 bytes)
         (drop 16 bytes) shake is
 
+-- ---- answers
+
+-- an answer of the code's that tells a promise
+pub heard-request : (reply : code_answers.Reply) → reply_of reply ≡ DidHear heard.Request → reply ≡ code.Heard heard.Request
+heard-request (code.Heard answer) is = let same : answer ≡ heard.Request = cc in ap code.Heard same
+heard-request (code.Listened answer) is = absurd (cc)
+heard-request (code.Connected answer) is = absurd (cc)
+heard-request (code.Met answer) is = absurd (cc)
+heard-request (code.Accepted answer) is = absurd (cc)
+heard-request (code.Shaken answer) is = absurd (cc)
+heard-request (code.Offered id taken) is = absurd (cc)
+heard-request code.Withdrawn is = absurd (cc)
+heard-request (code.Sent answer) is = absurd (cc)
+heard-request (code.Received answer) is = absurd (cc)
+heard-request (code.SentMessage answer) is = absurd (cc)
+heard-request (code.ReceivedMessage answer) is = absurd (cc)
+heard-request (code.Packed answer) is = absurd (cc)
+heard-request code.Ticked is = absurd (cc)
+heard-request code.Closed is = absurd (cc)
+heard-request (code.Measured answer) is = absurd (cc)
+
 -- ---- the listener
 
 fits-alone : {C : Type 0} (s : State C) (b : Backlog) → s.phase ≡ phase.Listening b → FitsPhase s.phase s.origin s.peer
@@ -137,6 +161,36 @@ module _ {C : Type 0} (w : Ways C) (sights : List (Sight C)) (place now : ℕ) (
   -- and it is configured as it was
   pub config-after : config_of listening.state ≡ config_of s.state
   config-after = keeps.config
+
+module _ {C : Type 0} (w : Ways C) (old new : View C) (place now : ℕ) (from : Addr) (raw before after : List ℕ) (reply : Reply)
+    (happens : HasEvent w place (event now (Arrive from raw)) old new before after)
+    (replies : RepliesTo w place (event now (Arrive from raw)) reply old) (request : reply ≡ DidHear heard.Request)
+    (fit : (p : ℕ) (s : Sight C) → slice_get old.sockets p ≡ Some s → FitsPhase s.state.phase s.state.origin s.state.peer)
+    (t : Sight C) (at : slice_get new.sockets place ≡ Some t) where
+  promised : (step w happens.sight.state (event now (Arrive from raw))).reply ≡ DidHear heard.Request
+  promised = sym (replies happens.sight happens.found) ∙ request
+
+  fitting : FitsPhase happens.sight.state.phase happens.sight.state.origin happens.sight.state.peer
+  fitting = fit place happens.sight happens.found
+
+  is_then : after_event w happens.sight (event now (Arrive from raw)) ≡ t
+  is_then =
+      same_Some _ _ (sym (ap (λ (l : List (Sight C)). slice_get l place) happens.sockets
+      ∙ set-same old.sockets place happens.sight _ happens.found) ∙ at)
+
+  -- who promised a place has no peer
+  pub promised-nobody : peer_in t ≡ None
+  promised-nobody =
+      ap (λ (s : Sight C). peer_in s) (sym is_then)
+      ∙ nobody-after w old.sockets place now from raw happens.sight happens.found fitting promised
+
+  -- nor has any at its host adopted who asked
+  pub promised-unadopted : (shake : Shake) → handshake_in (read raw) ≡ Some shake → MayHappen old.sockets place (Arrive from raw)
+      → first_with (adopts t.host from shake.id) new.sockets ≡ None
+  promised-unadopted shake reads may =
+      ap (λ (s : Sight C). first_with (adopts s.host from shake.id) new.sockets) (sym is_then)
+      ∙ (ap (first_with (adopts happens.sight.host from shake.id)) happens.sockets
+      ∙ unadopted-after w old.sockets place now from raw happens.sight happens.found fitting promised shake reads may)
 
 -- ---- the socket that is made
 
