@@ -1,5 +1,5 @@
 -- A place was promised to a request: the listener as it is then, the socket that is made, and what is done with it.
-use Rattle.std.proofs.Common.{◌≡◌, ℕ, ◌+◌, ◌%◌, ◌^◌, ◌<◌, ◌≤◌, ◌&&◌, Bool, true, false, List, [], ◌∷◌, ◌++◌, length, map, Some, None, Option, Ok, Err, refl, ap, ◌∙◌, sym, subst, arith, inl, inr, append_assoc}
+use Rattle.std.proofs.Common.{◌≡◌, ℕ, ◌+◌, ◌%◌, ◌^◌, ◌<◌, ◌≤◌, ◌&&◌, Bool, true, false, List, [], ◌∷◌, ◌++◌, length, Some, None, Option, Ok, Err, refl, ap, ◌∙◌, sym, subst, arith, inl, inr, append_assoc}
 use Rattle.std.specs.Prelude.{IsTrue, ◌↔◌, decimal, slice_get, slice_set, drop, nat_lt, vec_len, ◌⊎◌, if◌then◌else◌}
 use Rattle.std.proofs.lemmas.Bool.{cases_lt, le-ltb, lt-ltb}
 use Rattle.std.proofs.lemmas.List.{length-map, length-set, length_push}
@@ -14,7 +14,7 @@ use Rattle.udt_model.specs.Addresses.{same_addr}
 use Rattle.udt_model.specs.Connections.{config_of}
 use Rattle.udt_model.specs.Events.{Arrive, DidHear, Event, Offer, Reply, Withdraw, event}
 use Rattle.udt_model.specs.Handshakes as handshakes
-use Rattle.udt_model.specs.History.{happened, state_of}
+use Rattle.udt_model.specs.History.{state_of}
 use Rattle.udt_model.specs.Network as model
 use Rattle.udt_model.specs.Network.{is_pair}
 use Rattle.udt_model.specs.Opening.{opening}
@@ -35,7 +35,7 @@ use Rattle.udt_world.specs.declared.network.Network.{Network}
 use Rattle.udt_world.specs.declared.network.ScriptSocket.{ScriptSocket}
 use Rattle.udt_world.specs.Done.{DoesLine}
 use Rattle.udt_world.specs.Views.{HasEvent, RepliesTo, Shows, Sight, View, after_event, sight_of, sight_of_history, view_of}
-use Rattle.udt_world.specs.Wiring.{FitsPhase, HasAddress, IsNew, IsUnadopted, IsWired, MayHappen, adopts, first_with, new_sight, peer_in, place_seen, sights_of}
+use Rattle.udt_world.specs.Wiring.{FitsPhase, IsNew, IsWired, MayHappen, adopts, first_with, new_sight, peer_in, place_seen, sights_of}
 use Rattle.udt_world.proofs.ArriveLemmas.{not_followed}
 use Rattle.udt_world.proofs.CallLemmas.{some_at}
 use Rattle.udt_world.proofs.EventLemmas.{event_shown, shown_at}
@@ -43,7 +43,7 @@ use Rattle.udt_world.proofs.FirstLemmas.{first-set}
 use Rattle.udt_world.proofs.HeardLemmas.{KeepsOpening, promised-keeps}
 use Rattle.udt_world.proofs.NewLemmas.{made-new, new_socket, opened-shown}
 use Rattle.udt_world.proofs.NumberLemmas.{number_free}
-use Rattle.udt_world.proofs.PushLemmas.{get-first, get-last}
+use Rattle.udt_world.proofs.PushLemmas.{get-last}
 use Rattle.udt_world.proofs.WiredLemmas.{sight-at}
 
 -- ---- the initial sequence number of a handshake that was read
@@ -221,7 +221,8 @@ module _ {C : Type 0} (w : Ways C) (network : Network C) (wired : IsWired networ
 
 -- and it has a peer
 pub request-named : {C : Type 0} (w : Ways C) (made : ScriptSocket C) (name : List ℕ) (host : Addr) (own : ℕ) (config : Config)
-    (from : Addr) (shake : Shake) → sight_of made ≡ new_sight name host (opening w own config (handshakes.peer_in config from shake) 0 0)
+    (from : Addr) (shake : Shake)
+    → sight_of made ≡ new_sight name host (opening w own config (handshakes.peer_in config from shake) 0 0)
     → peer_in (sight_of made) ≡ Some (record { addr = from; id = shake.id })
 unfolding opening
 request-named w made name host own config from shake sight = ap (λ s. peer_in s) sight
@@ -289,7 +290,8 @@ module _ {C : Type 0} where
         → sights_of new ≡ slice_set (sights_of mid) place next
         → slice_get (sights_of new) (vec_len old.sockets) ≡ Some (sight_of made)
     last-seen new place next within moved =
-        ap (λ (l : List (Sight C)). slice_get l (vec_len old.sockets)) (moved ∙ ap (λ (l : List (Sight C)). slice_set l place next) sights-more)
+        ap (λ (l : List (Sight C)). slice_get l (vec_len old.sockets))
+        (moved ∙ ap (λ (l : List (Sight C)). slice_set l place next) sights-more)
         ∙ subst (λ (k : ℕ). slice_get (slice_set (sights_of old ++ sight_of made ∷ []) place next) k ≡ Some (sight_of made))
         (count-seen old) (last-after (sights_of old) place (sight_of made) next (omega (arith, within, count-seen old)))
 
@@ -310,7 +312,8 @@ module _ {C : Type 0} (w : Ways C) where
   pub there-does : (n : model.Network C) (place : ℕ) (happens : Event) (old new : View C) (before after : List ℕ) → Shows w n old
       → HasEvent w place happens old new before after → Does (event_there w n place happens) new before after
   there-does n place happens old new before after shows h =
-      let count : length old.sockets ≡ length n.sockets = ap length shows.sockets_are ∙ length-map n.sockets (sight_of_history w) in
+      let count : length old.sockets ≡ length n.sockets =
+      ap length shows.sockets_are ∙ length-map n.sockets (sight_of_history w) in
       let known = some_at n.sockets place (omega (arith, count, slice_get_within old.sockets place h.sight h.found)) in
       rw known.1 (event_shown w n place known.0 happens old new before after shows known.1 h)
 
@@ -321,8 +324,8 @@ module _ {C : Type 0} (w : Ways C) where
       (other.0, other.1 ∙ (ap (λ (l : List ℕ). l ++ (next first.network).text) one.1
       ∙ append_assoc before first.text (next first.network).text))
 
-  module _ (n : model.Network C) (now place : ℕ) (listener : model.ScriptSocket C) (datagram : model.ScriptDatagram) (shake : Shake)
-      (old : View C) (shows : Shows w n old) where
+  module _ (n : model.Network C) (now place : ℕ) (listener : model.ScriptSocket C) (datagram : model.ScriptDatagram)
+      (shake : Shake) (old : View C) (shows : Shows w n old) where
     shown_count : length n.sockets ≡ length old.sockets
     shown_count = sym (ap length shows.sockets_are ∙ length-map n.sockets (sight_of_history w))
 
@@ -367,7 +370,8 @@ module _ {C : Type 0} (w : Ways C) where
         there-does m.network (length n.sockets) arrival next new between after second.0
         (subst (λ (k : ℕ). HasEvent w k arrival next new between after) (sym same) hears) in
         rw (lt-ltb (length n.sockets) MOST_SOCKETS (omega (arith, same, room)))
-        (then-does m (λ (k : model.Network C). event_there w k (length n.sockets) arrival) next new before between after second third)
+        (then-does m (λ (k : model.Network C). event_there w k (length n.sockets) arrival) next new before between after
+        second third)
 
   module _ (n : model.Network C) (now place : ℕ) (socket : model.ScriptSocket C) (datagram : model.ScriptDatagram)
       (old mid : View C) (before between : List ℕ) (shows : Shows w n old)
@@ -385,7 +389,8 @@ module _ {C : Type 0} (w : Ways C) where
     heard-shown : Does (event_at w n place socket arrival) mid before between
     heard-shown = event_shown w n place socket arrival old mid before between shows there happens
 
-    unfollowed : (shake : Option Shake) → (shake ≡ None) ⊎ ((step w happens.sight.state arrival).reply ≡ DidHear heard.Request → ⊥)
+    unfollowed : (shake : Option Shake)
+        → (shake ≡ None) ⊎ ((step w happens.sight.state arrival).reply ≡ DidHear heard.Request → ⊥)
         → followed_by w (event_at w n place socket arrival) now place socket datagram shake
         (step w (state_of w socket.history) arrival).reply ≡ event_at w n place socket arrival
     unfollowed None why = refl
@@ -399,7 +404,8 @@ module _ {C : Type 0} (w : Ways C) where
         ⊎ ((step w happens.sight.state arrival).reply ≡ DidHear heard.Request → ⊥)
         → DoesLine w n (Some (arrived w n now datagram (model.ToSocket place socket))) true mid before between
     arrival-does why =
-        subst (λ (printed : Printed C). Does printed mid before between) (sym (unfollowed (handshake_in (read datagram.bytes)) why))
+        subst (λ (printed : Printed C). Does printed mid before between)
+        (sym (unfollowed (handshake_in (read datagram.bytes)) why))
         heard-shown
 
     -- a place was, and what follows is done
@@ -407,15 +413,17 @@ module _ {C : Type 0} (w : Ways C) where
         → FitsPhase happens.sight.state.phase happens.sight.state.origin happens.sight.state.peer
         → handshake_in (read datagram.bytes) ≡ Some shake
         → (step w happens.sight.state arrival).reply ≡ DidHear heard.Request
-        → ((m : model.Network C) (listener : model.ScriptSocket C) (s : Sight C) → Shows w m mid → slice_get mid.sockets place ≡ Some s
-        → listener.host ≡ s.host → config_of (state_of w listener.history) ≡ config_of s.state
+        → ((m : model.Network C) (listener : model.ScriptSocket C) (s : Sight C) → Shows w m mid
+        → slice_get mid.sockets place ≡ Some s → listener.host ≡ s.host
+        → config_of (state_of w listener.history) ≡ config_of s.state
         → DoesLine w m (Some (offered w m now place listener datagram shake)) true new between after)
         → DoesLine w n (Some (arrived w n now datagram (model.ToSocket place socket))) true new before after
     request-does shake new after fits reads promises follows =
         let first = event_at w n place socket arrival in
         let next = after_event w happens.sight arrival in
         let at : slice_get mid.sockets place ≡ Some next =
-        ap (λ (l : List (Sight C)). slice_get l place) happens.sockets ∙ set-same old.sockets place happens.sight next happens.found in
+        ap (λ (l : List (Sight C)). slice_get l place) happens.sockets
+        ∙ set-same old.sockets place happens.sight next happens.found in
         let host : socket.host ≡ next.host = ap (λ (s : Sight C). s.host) (sym same) in
         let config : config_of (state_of w socket.history) ≡ config_of next.state =
         ap (λ (s : Sight C). config_of s.state) (sym same)

@@ -1,9 +1,9 @@
+use denote.Enum.Declared.{tag_of}
 use Rattle.std.proofs.Common.{◌≡◌, List, ℕ, ap, ◌∙◌, sym, subst, arith, inl, inr}
 use Rattle.std.proofs.lemmas.Result.{on_ok_weaker}
 use Rattle.udt_laws.proofs.scripts.HostReached.{host-reached}
 use Rattle.udt_model.specs.declared.answers.Heard.TheVariants as heard
 use Rattle.udt_model.specs.contracts.answers.Heard as Heard
-use denote.Enum.Declared.{tag_of}
 use Rattle.udt_model.specs.Events.{Arrive, event}
 use Rattle.udt_model.specs.Network as model
 use Rattle.udt_model.specs.Routes.{handshake_in}
@@ -28,12 +28,13 @@ follow-requires-clause-unadopted g c = λ s at.
     let network = c.args.self.now in
     let from = c.args.datagram.now.from in
     let is : c.in_ok-reply.reply ≡ code.Heard heard.Request = cc in
-    promised-unadopted g.C.Control.ways (view_of network) (view_of c.event.new.self) c.args.place c.args.now from c.deref.result.now
-    c.args.out.now.items c.event.new.out.items (reply_of c.in_ok-reply.reply) c.in_ok-reply.ensures.ok c.in_ok-reply.ensures.reply
-    (ap reply_of is) c.requires.wired.peers s at c.in-Some-Heard-Request.shake
+    promised-unadopted g.C.Control.ways (view_of network) (view_of c.event.new.self) c.args.place c.args.now from
+    c.deref.result.now c.args.out.now.items c.event.new.out.items (reply_of c.in_ok-reply.reply) c.in_ok-reply.ensures.ok
+    c.in_ok-reply.ensures.reply (ap reply_of is) c.requires.wired.peers s at c.in-Some-Heard-Request.shake
     (ap (λ (bytes : List ℕ). handshake_in (read bytes)) (c.deref.ensures.value ∙ sym c.deref-2.ensures.value)
     ∙ (sym c.handshake.ensures ∙ c.in-Some-Heard-Request.is-0))
-    (subst (λ (bytes : List ℕ). MayHappen (sights_of network) c.args.place (Arrive from bytes)) (sym c.deref.ensures.value) c.requires.may)
+    (subst (λ (bytes : List ℕ). MayHappen (sights_of network) c.args.place (Arrive from bytes)) (sym c.deref.ensures.value)
+    c.requires.may)
 
 -- the listener has no peer itself
 pub follow-requires-clause-nobody : goal.follow-requires-clause-nobody

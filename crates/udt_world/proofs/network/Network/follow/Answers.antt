@@ -1,4 +1,4 @@
-use Rattle.std.proofs.Common.{◌≡◌, ◌+◌, ◌++◌, ◌∷◌, [], ℕ, List, length, Some, refl, ap, ◌∙◌, sym, subst, arith}
+use Rattle.std.proofs.Common.{◌≡◌, ◌+◌, ◌++◌, ◌∷◌, [], ℕ, List, length, refl, ap, ◌∙◌, sym, subst, arith}
 use Rattle.std.specs.Prelude.{decimal, vec_len}
 use Rattle.std.proofs.lemmas.Option.{same_Some, slice_get_read}
 use Rattle.udt_model.specs.Connections.{config_of}
@@ -19,7 +19,8 @@ returns-then-not-has_room-clause-done g c = λ n listener s shows at host config
     let network = c.args.self.now in
     withdraw-does g.C.Control.ways n c.args.now c.args.place listener (datagram_of c.args.datagram.now) c.args.shake
     (view_of network) shows (view_of c.event.new.self) c.args.out.now.items c.event.new.out.items
-    (omega (arith, count-seen network, no-room c.has_room.result (vec_len network.sockets) c.if-not-has_room.true c.has_room.ensures))
+    (omega (arith, count-seen network,
+    no-room c.has_room.result (vec_len network.sockets) c.if-not-has_room.true c.has_room.ensures))
     c.in_ok-event.ensures.ok
 
 -- the socket that is made may be added
@@ -30,10 +31,11 @@ add-requires-clause-new g c =
     let read = slice_get_read network.sockets.items (length network.sockets.items) c.args.place listener refl
     (omega (arith, network.sockets.ok.0, c.requires.place)) c.index-listener.ensures in
     let found = sight-at network c.args.place listener read in
+    let own = c.len-count.result + 1 in
     request-new g.C.Control.ways network c.requires.wired c.args.place listener c.in_ok-named.field-0 read
     (c.requires.nobody (sight_of listener) found) (omega (arith, c.has_room.ensures.0 c.if-not-has_room.false))
-    (c.len-count.result + 1) (omega (arith, c.len-count.ensures)) (config_of listener.socket) c.args.datagram.now.from c.args.shake
-    (seen-made c.in_ok-named.field-0 c.as_bytes-name.result.now (decimal (c.len-count.result + 1)) listener.host c.in_ok-made.made _
+    own (omega (arith, c.len-count.ensures)) (config_of listener.socket) c.args.datagram.now.from c.args.shake
+    (seen-made c.in_ok-named.field-0 c.as_bytes-name.result.now (decimal own) listener.host c.in_ok-made.made _
     c.in_ok-named.ensures.sight (c.as_bytes-name.ensures.value ∙ c.format.ensures.text) c.in_ok-made.ensures)
     c.in_ok-named.ensures.endpoint (c.requires.unadopted (sight_of listener) found)
 
@@ -88,11 +90,13 @@ returns-clause-done g c = λ n known s shows at host config.
     let same : sight_of listener ≡ s = same_Some _ _ (sym (sight-at network c.args.place listener read) ∙ at) in
     let seen = seen-made c.in_ok-named.field-0 c.as_bytes-name.result.now (decimal (count + 1)) listener.host c.in_ok-made.made _
     c.in_ok-named.ensures.sight (c.as_bytes-name.ensures.value ∙ c.format.ensures.text) c.in_ok-made.ensures in
-    let as_listener = ap (λ (x : Sight _). new_sight (decimal (count + 1)) x.host (opening g.C.Control.ways (count + 1) (config_of x.state)
+    let as_listener = ap (λ (x : Sight _). new_sight (decimal (count + 1)) x.host
+    (opening g.C.Control.ways (count + 1) (config_of x.state)
     (handshakes.peer_in (config_of x.state) c.args.datagram.now.from c.args.shake) 0 0)) same in
-    offer-does g.C.Control.ways n c.args.now c.args.place known (datagram_of c.args.datagram.now) c.args.shake (view_of network) shows s
-    (view_of c.add.new.self) (view_of c.event-2.new.self) (view_of c.event-3.new.self) count
-    c.args.out.now.items c.event-2.new.out.items c.event-3.new.out.items host config (c.len-count.ensures ∙ sym (count-seen network))
+    offer-does g.C.Control.ways n c.args.now c.args.place known (datagram_of c.args.datagram.now) c.args.shake
+    (view_of network) shows s (view_of c.add.new.self) (view_of c.event-2.new.self) (view_of c.event-3.new.self) count
+    c.args.out.now.items c.event-2.new.out.items c.event-3.new.out.items host config
+    (c.len-count.ensures ∙ sym (count-seen network))
     (omega (arith, c.has_room.ensures.0 c.if-not-has_room.false, c.len-count.ensures))
     (c.in_ok-add.ensures.view
     ∙ ap (λ (x : Sight _). record (view_of network) { sockets = sights_of network ++ x ∷ [] }) (seen ∙ as_listener))
