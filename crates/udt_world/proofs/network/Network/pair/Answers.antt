@@ -50,4 +50,17 @@ add-requires-2-clause-new g c =
 
 -- a line that makes a pair does so
 pub returns-clause-done : goal.returns-clause-done
-returns-clause-done g c = ?
+returns-clause-done g c = λ n shows.
+    let p = c.args.pairing.now in
+    let old = c.args.self.now in
+    let mid = c.endpoint_of-2.new.self in
+    let first = c.add.new.self in
+    let kept = c.in_ok-there.ensures.kept ∙ ap (λ (m : Network _). record m { endpoints = mid.endpoints }) c.in_ok-here.ensures.kept in
+    pair-does g.C.Control.ways n (pairing_of p) (view_of old) (view_of first) (view_of c.add-2.new.self) c.len-count.result
+    c.args.out.now.items c.print_pair.new.out.items shows (sym (c.may_pair.ensures.may n shows) ∙ c.if-not-may_pair.false)
+    (omega (arith, c.len-count.ensures, old.sockets.ok.0, length-map old.sockets.items sight_of))
+    (added-seen old first mid c.in_ok-named.field-0 _ kept c.in_ok-add.ensures.view
+    (c.in_ok-named.ensures.sight ∙ ap (new_sight p.a.now first_host) c.in_ok-a.ensures))
+    (added-seen first c.add-2.new.self first c.in_ok-named-2.field-0 _ refl c.in_ok-add-2.ensures.view
+    (c.in_ok-named-2.ensures.sight ∙ ap (new_sight p.b.now second_host) c.in_ok-b.ensures))
+    c.in_ok-print_pair.ensures.ok
