@@ -1,5 +1,5 @@
 -- The sockets that a line opens may be added, and are seen as the definitions' ones.
-use Rattle.std.proofs.Common.{◌≡◌, ℕ, ◌+◌, ◌≤◌, ◌<◌, Bool, true, false, true≢false, List, [], ◌∷◌, ◌++◌, length, map, Some, None, Option, refl, ap, ◌∙◌, sym, subst, arith, inr, append_assoc}
+use Rattle.std.proofs.Common.{◌≡◌, ℕ, ◌+◌, ◌<◌, true, false, true≢false, List, [], ◌∷◌, ◌++◌, length, map, Some, None, refl, ap, ◌∙◌, sym, subst, arith, inr, append_assoc}
 use Rattle.std.specs.Prelude.{nat_lt, vec_len}
 use Rattle.std.proofs.lemmas.Bool.{lt-ltb}
 use Rattle.std.proofs.lemmas.List.{length-map, length_push, map-append}
@@ -14,7 +14,6 @@ use Rattle.udt_model.specs.Opening.{opened, opening}
 use Rattle.udt_model.specs.declared.packets.Config.{Config}
 use Rattle.udt_model.specs.Phases.{is_closed}
 use Rattle.udt_model.specs.Rate.{Ways}
-use Rattle.udt_model.specs.Records.{PeerPair}
 use Rattle.udt_model.specs.Script.{on_line, open_config, paired, may_open, may_pair, pair_config, peer_of, with_socket}
 use Rattle.udt_model.specs.State.{State}
 use Rattle.udt_model.specs.Texts.{open_text, pair_text}
@@ -33,7 +32,8 @@ module _ {C : Type 0} (w : Ways C) where
   abbrev pub new_socket : List ℕ → Addr → State C → model.ScriptSocket C
   new_socket name host state = record { name = name; host = host; history = record { opening = state; items = [] } }
 
-  new-seen : (name : List ℕ) (host : Addr) (state : State C) → sight_of_history w (new_socket name host state) ≡ new_sight name host state
+  new-seen : (name : List ℕ) (host : Addr) (state : State C)
+      → sight_of_history w (new_socket name host state) ≡ new_sight name host state
   unfolding after_items met_by
   new-seen name host state = refl
 
@@ -55,11 +55,13 @@ module _ {C : Type 0} (w : Ways C) where
       → may_pair n p ≡ true → count ≡ length old.sockets
       → mid ≡ record old {
         sockets = old.sockets
-            ++ new_sight p.a first_host (opening w (count + 1) (pair_config p) (peer_of p second_host (count + 2)) 0 p.start) ∷ [];
+            ++ new_sight p.a first_host
+            (opening w (count + 1) (pair_config p) (peer_of p second_host (count + 2)) 0 p.start) ∷ [];
       }
       → new ≡ record mid {
         sockets = mid.sockets
-            ++ new_sight p.b second_host (opening w (count + 2) (pair_config p) (peer_of p first_host (count + 1)) 0 p.start) ∷ [];
+            ++ new_sight p.b second_host
+            (opening w (count + 2) (pair_config p) (peer_of p first_host (count + 1)) 0 p.start) ∷ [];
       }
       → after ≡ before ++ pair_text p count → DoesLine w n (on_line w n (PairLine p)) true new before after
   unfolding paired
@@ -85,7 +87,8 @@ module _ {C : Type 0} (w : Ways C) where
   open-does n o host old new count before after shows count_is room free at new_is text =
       let same : length n.sockets ≡ count =
       sym (count_is ∙ (ap length shows.sockets_are ∙ length-map n.sockets (sight_of_history w))) in
-      let fits : nat_lt (length n.sockets) MOST_SOCKETS ≡ true = lt-ltb (length n.sockets) MOST_SOCKETS (omega (arith, room, same)) in
+      let fits : nat_lt (length n.sockets) MOST_SOCKETS ≡ true =
+      lt-ltb (length n.sockets) MOST_SOCKETS (omega (arith, room, same)) in
       let may : may_open n o.name ≡ true = rw (fits, free) refl in
       let found : address_of_host o.host n.hosts ≡ Some host = ap (address_of_host o.host) (sym shows.hosts_are) ∙ at in
       rw (may, found, same)

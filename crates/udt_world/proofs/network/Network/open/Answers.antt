@@ -1,4 +1,4 @@
-use Rattle.std.proofs.Common.{◌≡◌, ◌+◌, ◌<◌, ap, ◌∙◌, sym, arith}
+use Rattle.std.proofs.Common.{◌+◌, ◌<◌, ap, ◌∙◌, sym, arith}
 use Rattle.std.proofs.lemmas.List.{length-map}
 use Rattle.std.specs.Prelude.{vec_len}
 use Rattle.udt_model.specs.declared.limits.TheConstants.{MOST_SOCKETS}
@@ -20,7 +20,8 @@ add-requires-clause-new g c =
     let sight = c.in_ok-named.ensures.sight ∙ ap (new_sight opening.name.now c.in-Some.host) c.in_ok-socket.ensures in
     let room : vec_len c.args.self.now.sockets < MOST_SOCKETS = omega arith in
     open-new g.C.Control.ways network c.in_ok-endpoint.ensures.wired c.in_ok-named.field-0 c.in_ok-endpoint.endpoint
-    (c.len-count.result + 1) 0 c.in_ok-named.ensures.endpoint (omega (arith, room, count)) (omega (arith, c.len-count.ensures, count))
+    (c.len-count.result + 1) 0 c.in_ok-named.ensures.endpoint
+    (omega (arith, room, count)) (omega (arith, c.len-count.ensures, count))
     opening.name.now c.in-Some.host opening.isn (open_config (opening_of opening)) c.in_ok-endpoint.ensures.value sight
     (ap (λ (m : Network _). place_seen (sights_of m) opening.name.now) kept ∙ c.is_taken.ensures.free c.if-is_taken.false)
     c.requires.named (c.requires.wired.free opening.host.now c.in-Some.host (sym c.in-Some.ensures))
