@@ -2,7 +2,7 @@
 use Rattle.std.proofs.Common.{◌≡◌, ℕ, ◌+◌, ◌<◌, true, false, true≢false, List, [], ◌∷◌, ◌++◌, length, map, Some, None, refl, ap, ◌∙◌, sym, subst, arith, inr, append_assoc}
 use Rattle.std.specs.Prelude.{nat_lt, vec_len}
 use Rattle.std.proofs.lemmas.Bool.{lt-ltb}
-use Rattle.std.proofs.lemmas.List.{length-map, length_push, map-append}
+use Rattle.std.proofs.lemmas.List.{length-map, map-append}
 use Rattle.udt_model.specs.declared.addresses.Addr.{Addr}
 use Rattle.udt_model.specs.declared.limits.TheConstants.{MOST_SOCKETS}
 use Rattle.udt_model.specs.Addresses.{same_addr}
@@ -107,13 +107,6 @@ module _ {C : Type 0} (old new : Network C) where
       ∙ ap (λ (s : Sight C). record (view_of old) { sockets = sights_of old ++ s ∷ [] }) is)
 
   module _ (sight : Sight C) (seen : view_of new ≡ record (view_of old) { sockets = sights_of old ++ sight ∷ [] }) where
-    -- there is one socket more
-    pub count-more : vec_len new.sockets ≡ vec_len old.sockets + 1
-    count-more = omega (
-      arith, old.sockets.ok.0, new.sockets.ok.0, length-map old.sockets.items sight_of, length-map new.sockets.items sight_of,
-      ap (λ (v : View C). length v.sockets) seen, length_push (sights_of old) sight,
-    )
-
     -- a name that none had is that of none, but of the new one
     pub unseen-more : (name : List ℕ) → place_seen (sights_of old) name ≡ None → is_word sight.name name ≡ false
         → place_seen (sights_of new) name ≡ None

@@ -7,7 +7,8 @@ use Rattle.udt_script.specs.CodeLines.{pairing_of}
 use Rattle.udt_world.specs.declared.network.Network.{Network}
 use Rattle.udt_world.specs.Views.{sight_of, view_of}
 use Rattle.udt_world.specs.Wiring.{new_sight, place_seen, sights_of}
-use Rattle.udt_world.proofs.NewLemmas.{added-seen, count-more, first-new, pair-does, second-new, unseen-more}
+use Rattle.udt_world.proofs.NewLemmas.{added-seen, first-new, pair-does, second-new, unseen-more}
+use Rattle.udt_world.proofs.PromiseLemmas.{count-more}
 use Rattle.udt_world.proofs.network.Network.pair.Goals as goal
 
 -- the first socket is as one that is opened, under a new name
@@ -41,14 +42,15 @@ add-requires-2-clause-new g c =
     let room : vec_len old.sockets + 2 ≤ MOST_SOCKETS = c.may_pair.ensures.room may in
     let sight = c.in_ok-named.ensures.sight ∙ ap (new_sight p.a.now first_host) c.in_ok-a.ensures in
     let seen = added-seen old network mid c.in_ok-named.field-0 _ kept c.in_ok-add.ensures.view sight in
-    let more = count-more old network _ seen in
+    let count = ap (λ (m : Network _). vec_len m.sockets) kept in
+    let more = count-more mid network c.in_ok-named.field-0 c.in_ok-add.ensures.view in
     second-new g.C.Control.ways network c.in_ok-add.ensures.wired c.in_ok-named-2.field-0 c.in_ok-there.there
     (c.len-count.result + 2) (c.len-count.result + 1) c.in_ok-named-2.ensures.endpoint
-    (omega (arith, room, more)) (omega (arith, c.len-count.ensures, more)) (pairing_of p)
+    (omega (arith, room, count, more)) (omega (arith, c.len-count.ensures, count, more)) (pairing_of p)
     (c.in_ok-add.ensures.stands c.in_ok-there.there second_host c.in_ok-there.ensures.value)
     (c.in_ok-named-2.ensures.sight ∙ ap (new_sight p.b.now second_host) c.in_ok-b.ensures)
     (unseen-more old network _ seen p.b.now (c.may_pair.ensures.second may) (c.may_pair.ensures.apart may))
-    c.requires.second (omega (arith, c.len-count.ensures, more))
+    c.requires.second (omega (arith, c.len-count.ensures, count, more))
 
 -- a line that makes a pair does so
 pub returns-clause-done : goal.returns-clause-done
