@@ -1,6 +1,6 @@
 -- What tables know once there is one more socket.
 use Rattle.std.proofs.Common.{◌≡◌, ℕ, zero, suc, ◌+◌, ◌-◌, ◌≤◌, ◌<◌, ◌==◌, Bool, true, false, cond, List, [], ◌∷◌, ◌++◌, length, Some, None, Option, refl, ap, ◌∙◌, sym, arith, option_map, inl, inr}
-use Rattle.std.proofs.lemmas.Bool.{cases_eq}
+use Rattle.std.proofs.lemmas.Bool.{cases_eq, lt-ltb}
 use Rattle.std.specs.Prelude.{slice_get, ◌⊎◌, is_some, sum_by, if◌then◌else◌}
 use Rattle.std.proofs.lemmas.List.{length_push}
 use Rattle.std.proofs.lemmas.List.Sums.{sum_by_push}
@@ -9,12 +9,14 @@ use Rattle.std.specs.Ordering.{is_eq, nat_cmp}
 use Rattle.udt_model.specs.declared.addresses.Addr.{Addr}
 use Rattle.udt_model.specs.Addresses.{same_addr}
 use Rattle.udt_model.specs.Phases.{is_closed}
-use Rattle.udt_routes.specs.Tables.{Table, what_of, with_enrolled}
+use Rattle.udt_routes.specs.Tables.{Table, can_enrol, what_of, with_enrolled}
+use Rattle.udt_world.specs.declared.hosts.TheConstants.{MOST_ENROLLED}
 use Rattle.udt_world.specs.Views.{Sight}
 use Rattle.udt_world.specs.Wiring.{Knows, adopts, first_with, is_any, is_here, listens, meets, one_if, peer_in, sight_with}
 use Rattle.udt_world.proofs.KeyLemmas.{is_same_id, length_inserted, other_id, rising_inserted, value_inserted}
-use Rattle.udt_world.proofs.FirstLemmas.{with-place}
+use Rattle.udt_world.proofs.FirstLemmas.{sum-small, with-place}
 use Rattle.udt_world.proofs.PushLemmas.{push_other}
+use Rattle.udt_world.proofs.ToldLemmas.{found-some, one-small}
 
 get-other : {A : Type 0} (xs : List A) (x : A) (k : ℕ) → (k ≡ length xs → ⊥) → slice_get (xs ++ x ∷ []) k ≡ slice_get xs k
 get-other [] x zero apart = absurd (apart refl)
@@ -71,13 +73,30 @@ module _ {C : Type 0} (sights : List (Sight C)) (s : Sight C) where
 
 -- ---- a new socket that has no peer yet
 
-either-some : {R : Type 0} (o : Option R) (id : ℕ) → is_some (if is_some o then Some id else None) ≡ is_some o
-either-some None id = refl
-either-some (Some x) id = refl
-
 none-some : {R : Type 0} (o : Option R) → is_some o ≡ false → o ≡ None
 none-some None is = refl
 none-some (Some x) is = absurd (cc)
+
+module _ {C R : Type 0} (sights : List (Sight C)) (host : Addr) (t : Table R) (knows : Knows t sights host) where
+  past : sight_with sights (length sights + 1) ≡ None
+  past = with-place sights (length sights) ∙ slice_get_past sights (length sights) (omega arith)
+
+  -- the next ID isn't enrolled
+  not_enrolled : what_of t (length sights + 1) ≡ None
+  not_enrolled =
+      none-some (what_of t (length sights + 1))
+      (sym (found-some (what_of t (length sights + 1)) (length sights + 1))
+      ∙ (knows.same.enrolled (length sights + 1) ∙ ap (λ (o : Option (Sight C)). is_any (is_here host) o) past))
+
+  -- so it may be, where there is room
+  pub may-enrol : length sights < MOST_ENROLLED → can_enrol t (length sights + 1) ≡ true
+  may-enrol few = rw (not_enrolled, lt-ltb (length t.enrolled) t.live (omega (arith, knows.enrolled, knows.live, few))) refl
+
+  -- and there is room for its pair
+  pub few-adopted : length sights < MOST_ENROLLED → length t.adoptions < t.ids
+  few-adopted few =
+      omega (arith, knows.adoptions, knows.ids, few, sum-small (λ (x : Sight C). one_if (is_some (peer_in x))) sights
+      (λ x. one-small (is_some (peer_in x))))
 
 module _ {C R : Type 0} (sights : List (Sight C)) (s : Sight C) (host : Addr) (t : Table R) (what : R) (knows : Knows t sights host)
     (here : same_addr s.host host ≡ true) (live : is_closed s.state.phase ≡ false) (quiet : s.listened ≡ false) (alone : s.met ≡ None)
@@ -85,20 +104,11 @@ module _ {C R : Type 0} (sights : List (Sight C)) (s : Sight C) (host : Addr) (t
   abbrev new_id : ℕ
   new_id = length sights + 1
 
-  past : sight_with sights new_id ≡ None
-  past = with-place sights (length sights) ∙ slice_get_past sights (length sights) (omega arith)
-
-  -- its ID isn't enrolled
-  pub not_enrolled : what_of t new_id ≡ None
-  not_enrolled =
-      none-some (what_of t new_id)
-      (sym (either-some (what_of t new_id) new_id) ∙ (knows.same.enrolled new_id ∙ ap (λ (o : Option (Sight C)). is_any (is_here host) o) past))
-
   enrolled-same : (id : ℕ) → is_some (cond (is_eq (nat_cmp id new_id)) (Some what) (what_of t id)) ≡ is_any (is_here host) (sight_with (sights ++ s ∷ []) id)
   enrolled-same id = by id (cases_eq id new_id)
     where
       known : (id : ℕ) → is_some (what_of t id) ≡ is_any (is_here host) (sight_with sights id)
-      known id = sym (either-some (what_of t id) id) ∙ knows.same.enrolled id
+      known id = sym (found-some (what_of t id) id) ∙ knows.same.enrolled id
 
       by : (id : ℕ) → (id ≡ new_id) ⊎ (id ≡ new_id → ⊥)
           → is_some (cond (is_eq (nat_cmp id new_id)) (Some what) (what_of t id)) ≡ is_any (is_here host) (sight_with (sights ++ s ∷ []) id)
@@ -118,8 +128,8 @@ module _ {C R : Type 0} (sights : List (Sight C)) (s : Sight C) (host : Addr) (t
   pub enrolled-knows : Knows (with_enrolled t new_id what) (sights ++ s ∷ []) host
   enrolled-knows = record {
     same = record {
-      enrolled = λ id. either-some (what_of (with_enrolled t new_id what) id) id
-          ∙ (ap (λ (o : Option R). is_some o) (value_inserted new_id what t.enrolled not_enrolled id) ∙ enrolled-same id);
+      enrolled = λ id. found-some (what_of (with_enrolled t new_id what) id) id
+          ∙ (ap (λ (o : Option R). is_some o) (value_inserted new_id what t.enrolled (not_enrolled sights host t knows) id) ∙ enrolled-same id);
       adopter = λ addr id. knows.same.adopter addr id ∙ sym (first-more sights s (adopts host addr id) (rw (here, nobody) refl));
       listener = knows.same.listener ∙ sym (first-more sights s (listens host) (rw (here, live, quiet) refl));
       meeter = λ addr. knows.same.meeter addr ∙ sym (first-more sights s (meets host addr) (rw (here, live, alone) refl));

@@ -81,11 +81,12 @@ module _ {X : Type 0} where
   sum-set f (x ∷ xs) (suc k) old new there =
       omega (arith, sum_by-cons f x (slice_set xs k new), sum_by-cons f x xs, sum-set f xs k old new there)
 
-  -- of a list in which each counts one at most, and one counts nothing, the sum is below the length
-  sum-small : (f : X → ℕ) (xs : List X) → ((x : X) → f x ≤ 1) → sum_by f xs ≤ length xs
+  -- a sum of ones is at most their number
+  pub sum-small : (f : X → ℕ) (xs : List X) → ((x : X) → f x ≤ 1) → sum_by f xs ≤ length xs
   sum-small f [] small = omega arith
   sum-small f (x ∷ xs) small = omega (arith, sum_by-cons f x xs, small x, sum-small f xs small)
 
+  -- and where one counts nothing, it is below
   pub sum-below : (f : X → ℕ) (xs : List X) (k : ℕ) (x : X) → ((y : X) → f y ≤ 1) → slice_get xs k ≡ Some x → f x ≡ 0
       → sum_by f xs < length xs
   sum-below f [] k x small there none = absurd (cc)

@@ -6,7 +6,8 @@ use Rattle.udt_model.specs.Lines as lines
 use Rattle.udt_model.specs.declared.limits.TheConstants.{MOST_PAYLOAD, FEWEST_BLOCKS, MOST_BLOCKS, LAST_START}
 use Rattle.udt_model.specs.Addresses.{addr_of}
 use Rattle.udt_model.specs.Lines.{Line, Silent, PairLine, HostLine, OpenLine, AcceptLine, CallLine, DeliverLine, RawLine}
-use Rattle.udt_model.specs.Lines.{line_by_words, read_line, is_silent, kind_of, moment_of, call_of, pairing_of, pair_line, host_line, open_line, call_line, accept_line, deliver_line, raw_line}
+use Rattle.udt_model.specs.Lines.{line_by_words, read_line, is_silent, kind_of, moment_of, call_of, pairing_of}
+use Rattle.udt_model.specs.Lines.{pair_line, host_line, open_line, call_line, accept_line, deliver_line, raw_line}
 use Rattle.udt_model.specs.Words.{◌>>=◌, is_name, name_of, words_of, number_within, bytes_of}
 use Rattle.udt_world.specs.Done.{GivesNames}
 

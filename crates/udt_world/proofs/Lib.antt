@@ -36,3 +36,4 @@ pub mod EndpointLemmas
 pub mod UnderLemmas
 pub mod HeardLemmas
 pub mod NumberLemmas
+pub mod PromiseLemmas

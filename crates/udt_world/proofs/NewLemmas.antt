@@ -79,7 +79,7 @@ module _ {C : Type 0} (w : Ways C) where
 module _ {C : Type 0} (network : Network C) (made : ScriptSocket C) (endpoint : ℕ) (name : List ℕ) (host : Addr) (state : State C)
     (sight : sight_of made ≡ new_sight name host state) (end : made.endpoint ≡ endpoint)
     (stands : HasAddress network.endpoints.items endpoint host) (room : vec_len network.sockets < MOST_SOCKETS)
-    (unseen : place_seen (sights_of network) name ≡ None) (given : is_name name ≡ true)
+    (unseen : place_seen (sights_of network) name ≡ None) (given : IsGiven (vec_len network.sockets) name)
     (own : state.own ≡ vec_len network.sockets + 1) (live : is_closed state.phase ≡ false) (waits : waiting_at state.phase ≡ [])
     (peer : IsUnadopted (sights_of network) host (peer_in (new_sight name host state)))
     (fits : FitsPhase state.phase state.origin state.peer)
@@ -91,7 +91,7 @@ module _ {C : Type 0} (network : Network C) (made : ScriptSocket C) (endpoint : 
         (subst (λ (i : ℕ). HasAddress network.endpoints.items i host) (sym end) stands);
     own = ap (λ (s : Sight C). s.state.own) sight ∙ own;
     name = ap (λ (s : Sight C). place_seen (sights_of network) s.name) sight ∙ unseen;
-    given = subst (λ (s : Sight C). IsGiven (vec_len network.sockets) s.name) (sym sight) (inr given);
+    given = subst (λ (s : Sight C). IsGiven (vec_len network.sockets) s.name) (sym sight) given;
     live = ap (λ (s : Sight C). is_closed s.state.phase) sight ∙ live;
     waits = ap (λ (s : Sight C). waiting_at s.state.phase) sight ∙ waits;
     listened = ap (λ (s : Sight C). s.listened) sight;
@@ -116,7 +116,7 @@ module _ {C : Type 0} (w : Ways C) (network : Network C) (wired : IsWired networ
       → place_seen (sights_of network) p.a ≡ None → is_name p.a ≡ true → id ≡ vec_len network.sockets + 2 → IsNew network made
   unfolding opening
   first-new p stands sight unseen given id_is =
-      made-new network made endpoint p.a first_host _ sight end stands room unseen given own_is refl refl
+      made-new network made endpoint p.a first_host _ sight end stands room unseen (inr given) own_is refl refl
       (first-unadopted network wired id (omega (arith, id_is, count_is))) tt (record {
         first = λ is. ap (λ (i : ℕ). Some (record { addr = second_host; id = i })) id_is;
         second = λ is. absurd (apart is);
@@ -128,7 +128,7 @@ module _ {C : Type 0} (w : Ways C) (network : Network C) (wired : IsWired networ
       → place_seen (sights_of network) p.b ≡ None → is_name p.b ≡ true → id ≡ vec_len network.sockets → IsNew network made
   unfolding opening
   second-new p stands sight unseen given id_is =
-      made-new network made endpoint p.b second_host _ sight end stands room unseen given own_is refl refl
+      made-new network made endpoint p.b second_host _ sight end stands room unseen (inr given) own_is refl refl
       (second-unadopted network wired id (omega (arith, id_is, count_is))) tt (record {
         first = λ is. absurd (apart (sym is));
         second = λ is. ap (λ (i : ℕ). Some (record { addr = first_host; id = i })) id_is;
@@ -140,7 +140,7 @@ module _ {C : Type 0} (w : Ways C) (network : Network C) (wired : IsWired networ
       → place_seen (sights_of network) name ≡ None → is_name name ≡ true → IsFree host → IsNew network made
   unfolding opened
   open-new name host isn config stands sight unseen given is_free =
-      made-new network made endpoint name host _ sight end stands room unseen given own_is refl refl tt refl (record {
+      made-new network made endpoint name host _ sight end stands room unseen (inr given) own_is refl refl tt refl (record {
         first = λ is. absurd (is_free.first is);
         second = λ is. absurd (is_free.second is);
       })

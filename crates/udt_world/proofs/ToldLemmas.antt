@@ -253,11 +253,12 @@ none-either : {A : Type 0} (b : Bool) → cond {A = Option A} b None None ≡ No
 none-either true = refl
 none-either false = refl
 
-found-some : {A : Type 0} (o : Option A) (id : ℕ) → is_some (if is_some o then Some id else None) ≡ is_some o
+-- what stands for something where there is something
+pub found-some : {A : Type 0} (o : Option A) (id : ℕ) → is_some (if is_some o then Some id else None) ≡ is_some o
 found-some None id = refl
 found-some (Some x) id = refl
 
-one-small : (b : Bool) → one_if b ≤ 1
+pub one-small : (b : Bool) → one_if b ≤ 1
 one-small true = omega arith
 one-small false = omega arith
 

@@ -16,7 +16,7 @@ ghost use Rattle.udt_script.specs.CodeLines.{datagram_of};
 ghost use Rattle.udt_world.specs.declared.hosts.Endpoint.{Endpoint};
 ghost use Rattle.udt_world.specs.Done.{DoesLine, IsRoute, IsRoutedAs};
 ghost use Rattle.udt_world.specs.Views.{view_of, Shows, Sight};
-ghost use Rattle.udt_world.specs.Wiring.{adopts, first_with, seen_at, sights_of, IsEndpoint, IsWired, MayHappen};
+ghost use Rattle.udt_world.specs.Wiring.{adopts, first_with, peer_in, seen_at, sights_of, IsEndpoint, IsWired, MayHappen};
 
 use crate::network::{Act, Network};
 use crate::opening::{named, opened};
@@ -166,6 +166,7 @@ impl<C: Control + Drop> Network<C> {
         requires isn { shake.isn < 2 ^ 31 }
         requires unadopted { (s : Sight C) → slice_get (sights_of self.old) place ≡ Some s
             → first_with (adopts s.host datagram.now.from shake.id) (sights_of self.old) ≡ None }
+        requires nobody { (s : Sight C) → slice_get (sights_of self.old) place ≡ Some s → peer_in s ≡ None }
         ensures done { OnOk result ((n : network.Network C) (listener : network.ScriptSocket C) (s : Sight C)
             → Shows C.ways n (view_of self.old) → slice_get (sights_of self.old) place ≡ Some s
             → listener.host ≡ s.host → config_of (state_of C.ways listener.history) ≡ config_of s.state

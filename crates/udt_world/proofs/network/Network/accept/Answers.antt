@@ -16,7 +16,7 @@ rename-requires-clause-wired g c =
     (omega (arith, network.sockets.ok.0, c.in-Some.ensures.within)) c.index_mut.ensures.value in
     alike-wired network _ c.in-Some.place socket c.accept.new.self c.requires.wired read
     (rw c.accept.ensures.after (accept-keeps g.C.Control.ways socket.socket c.args.now)) refl
-    (map-set sight_of network.sockets.items c.in-Some.place (record socket { socket = c.accept.new.self })) refl refl refl
+    (map-set sight_of network.sockets.items c.in-Some.place (record socket { socket = c.accept.new.self })) refl refl refl refl
 
 -- which is a socket
 pub rename-requires-clause-id : goal.rename-requires-clause-id
@@ -93,4 +93,4 @@ returns-in_ok-print_reply-in-Err-clause-wired g c =
     (omega (arith, network.sockets.ok.0, c.in-Some.ensures.within)) c.index_mut.ensures.value in
     alike-wired network _ c.in-Some.place socket c.accept.new.self c.requires.wired read
     (rw c.accept.ensures.after (accept-keeps g.C.Control.ways socket.socket c.args.now)) refl
-    (map-set sight_of network.sockets.items c.in-Some.place (record socket { socket = c.accept.new.self })) refl refl refl
+    (map-set sight_of network.sockets.items c.in-Some.place (record socket { socket = c.accept.new.self })) refl refl refl refl

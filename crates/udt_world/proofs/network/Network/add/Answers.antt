@@ -1,4 +1,9 @@
+use Rattle.std.proofs.Common.{◌≡◌, length, refl, ap, ◌∙◌, sym, arith}
+use Rattle.std.proofs.lemmas.Option.{slice_get_read, slice_get_within}
+use Rattle.udt_laws.proofs.scripts.ReplacedOne.{found-once}
+use Rattle.udt_world.specs.Wiring.{sights_of}
 use Rattle.udt_world.proofs.AddLemmas.{added-stands, added-wired}
+use Rattle.udt_world.proofs.AddedLemmas.{few-adopted, may-enrol}
 use Rattle.udt_world.proofs.network.Network.add.Goals as goal
 
 pub enter-requires-clause-room : goal.enter-requires-clause-room
