@@ -1,10 +1,10 @@
 -- One more socket leaves the network wired, once its endpoint has enrolled it and was told of it.
-use Rattle.std.proofs.Common.{◌≡◌, ℕ, zero, suc, ◌+◌, ◌≤◌, ◌<◌, ◌&&◌, Bool, true, false, cond, List, [], ◌∷◌, ◌++◌, length, map, Some, None, Option, refl, ap, ◌∙◌, sym, subst, arith, inl, inr}
-use Rattle.std.specs.Prelude.{slice_get, slice_set, position, vec_len}
+use Rattle.std.proofs.Common.{◌≡◌, ℕ, zero, suc, ◌+◌, ◌≤◌, ◌<◌, ◌&&◌, Bool, true, false, cond, List, [], ◌∷◌, ◌++◌, length, map, Some, None, Option, Result, Ok, Err, is_ok, refl, ap, ◌∙◌, sym, subst, arith, inl, inr}
+use Rattle.std.specs.Prelude.{OnOk, slice_get, slice_set, position, vec_len}
 use Rattle.std.specs.List.{Contains}
 use Rattle.std.specs.Global.{Global}
 use Rattle.std.proofs.lemmas.Bool.{cases_eq}
-use Rattle.std.proofs.lemmas.List.{length_push}
+use Rattle.std.proofs.lemmas.List.{length-map, length_push, map-append, set-set}
 use Rattle.udt_model.specs.declared.addresses.Addr.{Addr}
 use Rattle.udt_model.specs.declared.answers.Origin.TheVariants as origin
 use Rattle.udt_model.specs.Addresses.{same_addr}
@@ -13,14 +13,14 @@ use Rattle.udt_model.specs.Records.{PeerPair}
 use Rattle.udt_model.specs.Words.{is_word}
 use Rattle.udt_laws.proofs.scripts.ReplacedOne.{found-once, set-other, set-same}
 use Rattle.udt_laws.proofs.scripts.UnadoptedPair.{same-addr}
-use Rattle.udt_routes.specs.Tables.{Table, with_enrolled}
+use Rattle.udt_routes.specs.Tables.{Table, can_enrol, with_enrolled}
 use Rattle.udt_world.specs.declared.hosts.Endpoint.{Endpoint}
 use Rattle.udt_world.specs.declared.hosts.TheConstants.{MOST_ENROLLED}
 use Rattle.udt_world.specs.declared.network.Network.{Network}
 use Rattle.udt_world.specs.declared.network.ScriptSocket.{ScriptSocket}
 use Rattle.udt_world.specs.Views.{Sight, sight_of}
 use Rattle.udt_world.specs.Wiring.{HasAddress, IsNew, IsUnadopted, IsWired, KeepsAddresses, Knows, adopts, first_with, listens, meets, is_here, peer_in, place_seen, place_under, sights_of, waiting_at, with_told}
-use Rattle.udt_world.proofs.AddedLemmas.{enrolled-knows, first-more, get-end, others-know}
+use Rattle.udt_world.proofs.AddedLemmas.{enrolled-knows, few-adopted, first-more, get-end, may-enrol, others-know}
 use Rattle.udt_world.proofs.EndpointLemmas.{other-turned}
 use Rattle.udt_world.proofs.FirstLemmas.{Only, replaced-cases}
 use Rattle.udt_world.proofs.FollowLemmas.{AreOnce, Follows, MayFollow, once-kept}
@@ -244,3 +244,86 @@ module _ {C : Type 0} (old new : Network C) (socket : ScriptSocket C) (wired : I
     meets_once = kept-once.meeter;
     adopts_once = kept-once.adopter;
   }
+
+-- ---- as the code adds it
+
+on-ok : {A E P : Type 0} (r : Result A E) → is_ok r ≡ true → OnOk r P → P
+on-ok (Ok x) is p = p
+on-ok (Err e) is p = absurd (cc)
+
+module _ {C : Type 0} (old : Network C) (socket : ScriptSocket C) (wired : IsWired old) (is_new : IsNew old socket)
+    (home : Endpoint) (found : slice_get old.endpoints.items socket.endpoint ≡ Some home)
+    (place : ℕ) (last : place ≡ length old.sockets.items) (size : length old.sockets.items ≡ vec_len old.sockets)
+    (routes : Table (Unit {0})) (answer : Result (Unit {0}) (Unit {0})) (exact : is_ok answer ≡ can_enrol home.routes (place + 1))
+    (enrolled : OnOk answer (routes ≡ with_enrolled home.routes (place + 1) tt)) where
+  next : place ≡ length (sights_of old)
+  next = last ∙ sym (length-map old.sockets.items sight_of)
+
+  knows_home : Knows home.routes (sights_of old) home.addr
+  knows_home = wired.knows socket.endpoint home found
+
+  few : length (sights_of old) < MOST_ENROLLED
+  few = omega (arith, last, next, size, is_new.room)
+
+  -- its endpoint enrolled it
+  was_enrolled : routes ≡ with_enrolled home.routes (length (sights_of old) + 1) tt
+  was_enrolled =
+      subst (λ (n : ℕ). routes ≡ with_enrolled home.routes (n + 1) tt) next
+      (on-ok answer (exact ∙ (ap (λ (n : ℕ). can_enrol home.routes (n + 1)) next
+      ∙ may-enrol (sights_of old) home.addr home.routes knows_home few)) enrolled)
+
+  abbrev enrolling : List Endpoint
+  enrolling = slice_set old.endpoints.items socket.endpoint (record home { routes = routes })
+
+  enrolling-at : slice_get enrolling socket.endpoint ≡ Some (record home { routes = routes })
+  enrolling-at = set-same old.endpoints.items socket.endpoint home (record home { routes = routes }) found
+
+  added-at : slice_get (old.sockets.items ++ socket ∷ []) place ≡ Some socket
+  added-at = ap (slice_get (old.sockets.items ++ socket ∷ [])) last ∙ get-end old.sockets.items socket
+
+  -- and has room for its pair
+  pub room-added : (later : ScriptSocket C) (e : Endpoint) → slice_get (old.sockets.items ++ socket ∷ []) place ≡ Some later
+      → slice_get enrolling later.endpoint ≡ Some e → length e.routes.adoptions < e.routes.ids
+  room-added later e at found_e =
+      let same = found-once (old.sockets.items ++ socket ∷ []) place later socket at added-at in
+      let own = found-once enrolling socket.endpoint e (record home { routes = routes })
+      (ap (λ (x : ScriptSocket C). slice_get enrolling x.endpoint) (sym same) ∙ found_e) enrolling-at in
+      subst (λ (x : Endpoint). length x.routes.adoptions < x.routes.ids) (sym own)
+      (subst (λ (t : Table (Unit {0})). length t.adoptions < t.ids) (sym was_enrolled)
+      (few-adopted (sights_of old) home.addr home.routes knows_home few))
+
+  module _ (new : Network C) (sockets_are : new.sockets.items ≡ old.sockets.items ++ socket ∷ [])
+      (count : vec_len new.sockets ≡ vec_len old.sockets + 1) (hosts_are : new.hosts ≡ old.hosts)
+      (names_are : (name : List ℕ) → place_under new name
+          ≡ cond (is_word socket.name.items name) (Some place) (place_under old name))
+      (told : (later : ScriptSocket C) (e : Endpoint) → slice_get (old.sockets.items ++ socket ∷ []) place ≡ Some later
+          → slice_get enrolling later.endpoint ≡ Some e → new.endpoints.items ≡ slice_set enrolling later.endpoint (record e {
+            routes = with_told e.routes (place + 1) (sight_of later);
+          })) where
+    same_home : home ≡ is_new.stands.endpoint
+    same_home = found-once old.endpoints.items socket.endpoint home is_new.stands.endpoint found is_new.stands.found
+
+    abbrev told_home : Endpoint → Table (Unit {0}) → ℕ → Endpoint
+    told_home e t n = record e { routes = with_told t (n + 1) (sight_of socket) }
+
+    ends_are : new.endpoints.items ≡ slice_set old.endpoints.items socket.endpoint (told_home is_new.stands.endpoint
+        (with_enrolled is_new.stands.endpoint.routes (length (sights_of old) + 1) tt) (length (sights_of old)))
+    ends_are =
+        told socket (record home { routes = routes }) added-at enrolling-at
+        ∙ (set-set old.endpoints.items socket.endpoint (record home { routes = routes }) (told_home home routes place)
+        ∙ ap (slice_set old.endpoints.items socket.endpoint)
+        (ap (λ (n : ℕ). told_home home routes n) next
+        ∙ (ap (λ (t : Table (Unit {0})). told_home home t (length (sights_of old))) was_enrolled
+        ∙ ap (λ (e : Endpoint). told_home e (with_enrolled e.routes (length (sights_of old) + 1) tt) (length (sights_of old))) same_home)))
+
+    sights_are : sights_of new ≡ sights_of old ++ sight_of socket ∷ []
+    sights_are = ap (map sight_of) sockets_are ∙ map-append sight_of old.sockets.items (socket ∷ [])
+
+    -- so it leaves the network wired, and each endpoint where it stood
+    pub was-added : IsWired new × KeepsAddresses old new
+    was-added =
+        let len : length (sights_of old) ≡ vec_len old.sockets = omega (arith, last, next, size) in
+        let names = λ (name : List ℕ). names_are name
+            ∙ ap (λ (n : ℕ). cond (is_word socket.name.items name) (Some n) (place_under old name)) next in
+        (added-wired old new socket wired is_new sockets_are count len sights_are ends_are names hosts_are,
+         added-stands old new socket wired is_new sockets_are count len sights_are ends_are names hosts_are)
