@@ -1,4 +1,4 @@
-use Rattle.std.proofs.Common.{◌≡◌, ◌∙◌, [], map, refl, ap, sym, subst, arith}
+use Rattle.std.proofs.Common.{◌≡◌, ◌∙◌, [], map, ap, sym, subst, arith}
 use Rattle.udt_model.specs.Network as model
 use Rattle.udt_model.specs.Script.{network_after, size_of}
 use Rattle.udt_world.specs.Kept.{items_of, AreAccepted}
