@@ -11,7 +11,8 @@ use Rattle.udt_world.proofs.world.play_line.Goals as goal
 pub returns-in-None-clause-done : goal.returns-in-None-clause-done
 returns-in-None-clause-done g c = λ n shows.
     let e : played_line g.C.Control.ways n c.args.line.now ≡ None =
-    played_none g.C.Control.ways n c.args.line.now line_of c.in_ok-read_line.field-0 c.in_ok-read_line.ensures.value c.in-None.is in
+    played_none g.C.Control.ways n c.args.line.now line_of c.in_ok-read_line.field-0
+    c.in_ok-read_line.ensures.value c.in-None.is in
     rw e (shows, refl)
 
 -- the names that it gives are such as begin with a letter

@@ -12,7 +12,8 @@ unfolding AreAccepted
 invariant_of-result g c =
     let ways = g.C.Control.ways in
     let none : map items_of c.new.result.items ≡ [] = ap (map items_of) c.new.ensures.items in
-    let network : network_after ways (map items_of c.new.result.items) ≡ model.empty_network = ap (network_after ways) none ∙ no_lines ways in
+    let network : network_after ways (map items_of c.new.result.items) ≡ model.empty_network =
+    ap (network_after ways) none ∙ no_lines ways in
     let view = c.new-2.ensures.view in
     let shows : Shows ways model.empty_network (view_of c.new-2.result) = record {
       hosts_are = ap (λ (v : View _). v.hosts) view;
