@@ -48,7 +48,7 @@ pub on_ok_both : {T E P Q R : Type 0} (r : Result T E) → (P → Q → R) → O
 on_ok_both (Ok x) gives p q = gives p q
 on_ok_both (Err e) gives p q = tt
 
--- a pack and a tick need nothing
+-- a pack needs nothing
 pub may_pack : {C : Type 0} (sights : List (Sight C)) (place : ℕ) → MayHappen sights place Pack
 may_pack sights place = record {
   listens = λ s most secret found is. absurd (cc);
@@ -57,6 +57,7 @@ may_pack sights place = record {
   hears = λ s from bytes shake found is reads none. absurd (cc);
 }
 
+-- and so does a tick
 pub may_tick : {C : Type 0} (sights : List (Sight C)) (place : ℕ) → MayHappen sights place Tick
 may_tick sights place = record {
   listens = λ s most secret found is. absurd (cc);
@@ -89,6 +90,7 @@ sent_within_as : {C : Type 0} (s : State C) (bytes : List ℕ) (k : Kind) (count
 sent_within_as s bytes kind.Stream count is = sent_within s bytes (link_of s.phase) count is
 sent_within_as s bytes kind.Message count is = absurd (cc)
 
+-- no more is given than there is room for
 pub received_at_most : (answer : Result ℕ Refusal) (into : List ℕ) → IfOk answer (λ count. count ≤ length into)
     → count_in answer ≤ length into
 received_at_most (Ok count) into within = within
@@ -112,6 +114,7 @@ module _ {C : Type 0} (w : Ways C) where
       answers.reply_is
   answered_at_most place now bytes (Err why) old new answers = omega arith
 
+  -- an answer counts no more than was sent
   pub sent_at_most : (place now before most : ℕ) (bytes : List ℕ) (answer : Result ℕ Refusal) (old new : View C)
       → bytes ≡ counted_bytes before most
       → Answers w place (event now (Send bytes)) (Sent answer) old new → count_in answer ≤ most
@@ -189,9 +192,11 @@ module _ {C : Type 0} (w : Ways C) where
   -- ---- counts
 
   module _ (n : Network C) (sent received : ℕ) (c : Counts n sent received) where
+    -- a stands first
     pub first_at : slice_get n.sockets 0 ≡ Some c.first
     first_at = rw c.sockets_are refl
 
+    -- and b second
     pub second_at : slice_get n.sockets 1 ≡ Some c.second
     second_at = rw c.sockets_are refl
 
@@ -263,6 +268,7 @@ module _ {C : Type 0} (w : Ways C) where
     unfolding place_of
     second_place = rw (c.sockets_are, c.first_name, c.second_name) refl
 
+    -- a call of a
     pub after_first : (now : ℕ) (act : Act) → IsPlain now act
         → after_call w n (codes "a") now act ≡ (event_at w n 0 c.first (event now act)).network
     after_first now act plain =
@@ -271,6 +277,7 @@ module _ {C : Type 0} (w : Ways C) where
         ∙ (ap (λ found. left_by n (option_map (does 0) found)) first_at
         ∙ ap (λ (p : Printed C). p.network) (plain n 0 c.first))
 
+    -- and of b
     pub after_second : (now : ℕ) (act : Act) → IsPlain now act
         → after_call w n (codes "b") now act ≡ (event_at w n 1 c.second (event now act)).network
     after_second now act plain =
@@ -309,6 +316,7 @@ module _ {C : Type 0} (w : Ways C) where
   unfolding generated
   generated_none n = rw (may_pair_first n) refl
 
+  -- the pair is opened, and nothing was accepted or delivered yet
   pub run_new : (n : ℕ) (code : code_run.Run C) (did : Bool) (old : View C) (before after : List ℕ)
       → Shows w empty_network old
       → ((known : Network C) → Shows w known old
@@ -324,6 +332,7 @@ module _ {C : Type 0} (w : Ways C) where
         counts = rw (accepted_is, delivered_is) (counts_none n);
       })
 
+  -- a run has two sockets
   pub run_sockets : (run : Run C) (code : code_run.Run C) → IsRun w run code → vec_len code.network.sockets ≡ 2
   run_sockets run code is =
       omega (
@@ -333,6 +342,7 @@ module _ {C : Type 0} (w : Ways C) where
 
   -- ---- the end
 
+  -- what is counted and measured is the summary
   pub summary_is : (run : Run C) (code : code_run.Run C) (socket : code_socket.ScriptSocket C) (now count : ℕ) (p : Perf)
       → IsRun w run code
       → slice_get code.network.sockets.items 0 ≡ Some socket → DidMeasure p ≡ (step w socket.socket (event now Measure)).reply
@@ -389,6 +399,7 @@ module _ {C : Type 0} (w : Ways C) where
             (event now act) more gave);
       }
 
+  -- a sends
   pub run_sent : (run : Run C) (old new : code_run.Run C) (now : ℕ) (bytes : List ℕ) (answer : Result ℕ Refusal) → IsRun w run old
       → bytes ≡ counted_bytes old.accepted (1 + draw old.state % 4096)
       → Answers w 0 (event now (Send bytes)) (Sent answer) (view_of old.network) (view_of new.network)
@@ -404,6 +415,7 @@ module _ {C : Type 0} (w : Ways C) where
       rw (sym same) (run_first run old new now (Send bytes) (count_in answer) (next_state run.state) is (λ n place socket. refl)
           answers.moves took (state_is ∙ ap (λ s. next_state s) is.state) accepted_is delivered_is)
 
+  -- b receives
   pub run_received : (run : Run C) (old new : code_run.Run C) (now room : ℕ) (into : List ℕ) (answer : Result ℕ Refusal)
       → IsRun w run old
       → IfOk answer (λ count. count ≤ length into)
@@ -440,6 +452,7 @@ module _ {C : Type 0} (w : Ways C) where
 
   -- ---- deliveries
 
+  -- the datagram with this number
   pub datagram_at : (old : code_run.Run C) (number : ℕ) → number < length old.network.datagrams.items
       → (datagram : model.ScriptDatagram) × (slice_get (view_of old.network).datagrams number ≡ Some datagram)
   datagram_at old number within =
@@ -511,6 +524,7 @@ module _ {C : Type 0} (w : Ways C) where
       rw drawn (record { shown = is.shown; state = ap (λ s. next_state s) is.state; counts = is.counts })
 
   module _ (run : Run C) (now kind : ℕ) (kind_is : kind ≡ draw run.state % 8) where
+    -- a turn sends, receives, packs, ticks or delivers, by its kind
     pub turn_sends : kind ≡ 0 → turn w run now ≡ after_sending w (record run { state = next_state run.state }) now
     unfolding turn
     turn_sends is = let e = sym kind_is ∙ is in rw e refl
