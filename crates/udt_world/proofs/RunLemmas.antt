@@ -57,7 +57,7 @@ may_pack sights place = record {
   hears = λ s from bytes shake found is reads none. absurd (cc);
 }
 
--- and so does a tick
+-- a tick needs nothing
 pub may_tick : {C : Type 0} (sights : List (Sight C)) (place : ℕ) → MayHappen sights place Tick
 may_tick sights place = record {
   listens = λ s most secret found is. absurd (cc);
