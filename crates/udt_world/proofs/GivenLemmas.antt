@@ -1,25 +1,19 @@
--- The names that a line gives are such as begin with a letter, and no line offers a connection.
-use Rattle.std.proofs.Common.{◌≡◌, ℕ, ◌-◌, ◌^◌, Bool, true, false, List, [], ◌∷◌, Some, None, Option, refl, ap, ◌∙◌, sym, subst}
+-- The names that a line gives are such as begin with a letter.
+use Rattle.std.proofs.Common.{◌≡◌, ℕ, ◌-◌, ◌^◌, Bool, true, false, List, [], ◌∷◌, Some, None, Option, refl, sym, subst}
 use Rattle.std.specs.Prelude.{if◌then◌else◌}
 use Rattle.std.proofs.lemmas.Option.{same_Some}
 use Rattle.udt_model.specs.Lines as lines
 use Rattle.udt_model.specs.declared.limits.TheConstants.{MOST_PAYLOAD, FEWEST_BLOCKS, MOST_BLOCKS, LAST_START}
 use Rattle.udt_model.specs.Addresses.{addr_of}
-use Rattle.udt_model.specs.Events.{Act, Shake, Offer, SendMessage, Pack, Tick, Close, Measure}
 use Rattle.udt_model.specs.Lines.{Line, Silent, PairLine, HostLine, OpenLine, AcceptLine, CallLine, DeliverLine, RawLine}
 use Rattle.udt_model.specs.Lines.{line_by_words, read_line, is_silent, kind_of, moment_of, call_of, pairing_of}
 use Rattle.udt_model.specs.Lines.{pair_line, host_line, open_line, call_line, accept_line, deliver_line, raw_line}
 use Rattle.udt_model.specs.Words.{◌>>=◌, is_name, name_of, words_of, number_within, bytes_of}
 use Rattle.udt_world.specs.Done.{GivesNames}
 
--- the call of a named socket, which offers nothing
-pub record IsCall (name : List ℕ) (act : Act) : Type 0 where
-  pub named : is_name name ≡ true
-  pub no_offer : (id : ℕ) → act ≡ Offer id → ⊥
-
 -- the names that a line gives, or whose socket it calls
 abbrev pub Names : Line → Type 0
-Names (CallLine name event) = IsCall name event.act
+Names (CallLine name event) = is_name name ≡ true
 Names line = GivesNames line
 
 -- if a line was read, its names are such
@@ -76,83 +70,12 @@ open_named kind (name ∷ host ∷ payload ∷ isn ∷ blocks ∷ []) =
     some (OpenLine (record { kind = k; name = n; host = h; payload = p; isn = i; blocks = c })) (name-is name n n_is)))))))
 open_named kind words = none
 
--- ---- calls
-
-no_act : (id : ℕ) → None ≡ Some (Offer id) → ⊥
-no_act id is = cc
-
--- the act comes after a value, or is one of two
-then_act : {A : Type 0} (o : Option A) (f : A → Act) → ((x : A) (id : ℕ) → f x ≡ Offer id → ⊥)
-    → (id : ℕ) → (o >>= λ x. Some (f x)) ≡ Some (Offer id) → ⊥
-then_act None f other id is = cc
-then_act (Some x) f other id is = other x id (same_Some (f x) (Offer id) is)
-
-either_act : (b : Bool) (x y : Option Act) (id : ℕ) → (x ≡ Some (Offer id) → ⊥) → (y ≡ Some (Offer id) → ⊥)
-    → (if b then x else y) ≡ Some (Offer id) → ⊥
-either_act true x y id one other is = one is
-either_act false x y id one other is = other is
-
-alone_act : (act : Act) → ((id : ℕ) → act ≡ Offer id → ⊥) → (words : List (List ℕ)) (id : ℕ)
-    → lines.alone act words ≡ Some (Offer id) → ⊥
-alone_act act other [] id is = other id (same_Some act (Offer id) is)
-alone_act act other (word ∷ words) id is = cc
-
-listen_act : (words : List (List ℕ)) (id : ℕ) → lines.listen_of words ≡ Some (Offer id) → ⊥
-listen_act (most ∷ []) id is = then_act (number_within 0 (2 ^ 32 - 1) most) _ (λ x i same. cc) id is
-listen_act words id is = cc
-
-connect_act : (words : List (List ℕ)) (id : ℕ) → lines.connect_of words ≡ Some (Offer id) → ⊥
-connect_act (to ∷ []) id is = then_act (addr_of to) _ (λ x i same. cc) id is
-connect_act words id is = cc
-
-meet_act : (words : List (List ℕ)) (id : ℕ) → lines.meet_of words ≡ Some (Offer id) → ⊥
-meet_act (to ∷ []) id is = then_act (addr_of to) _ (λ x i same. cc) id is
-meet_act words id is = cc
-
-send_act : (words : List (List ℕ)) (id : ℕ) → lines.send_of words ≡ Some (Offer id) → ⊥
-send_act (bytes ∷ []) id is = then_act (bytes_of bytes) _ (λ x i same. cc) id is
-send_act words id is = cc
-
-recv_act : (words : List (List ℕ)) (id : ℕ) → lines.recv_of words ≡ Some (Offer id) → ⊥
-recv_act (room ∷ []) id is = then_act (number_within 0 65536 room) _ (λ x i same. cc) id is
-recv_act words id is = cc
-
-recvmsg_act : (words : List (List ℕ)) (id : ℕ) → lines.recvmsg_of words ≡ Some (Offer id) → ⊥
-recvmsg_act (room ∷ []) id is = then_act (number_within 0 65536 room) _ (λ x i same. cc) id is
-recvmsg_act words id is = cc
-
-sendmsg_by : (ttl : Option (Option ℕ)) (order : Option Bool) (bytes : Option (List ℕ)) (id : ℕ)
-    → (ttl >>= λ t. order >>= λ o. bytes >>= λ b. Some (SendMessage t o b)) ≡ Some (Offer id) → ⊥
-sendmsg_by (Some ttl) (Some order) (Some bytes) id is = cc
-sendmsg_by (Some ttl) (Some order) None id is = cc
-sendmsg_by (Some ttl) None bytes id is = cc
-sendmsg_by None order bytes id is = cc
-
-sendmsg_act : (words : List (List ℕ)) (id : ℕ) → lines.sendmsg_of words ≡ Some (Offer id) → ⊥
-sendmsg_act (ttl ∷ order ∷ bytes ∷ []) id is = sendmsg_by (lines.ttl_of ttl) (lines.order_of order) (bytes_of bytes) id is
-sendmsg_act words id is = cc
-
--- no call is an offer
-call_act : (call : List ℕ) (words : List (List ℕ)) (id : ℕ) → call_of call words ≡ Some (Offer id) → ⊥
-unfolding call_of
-call_act call words id =
-    either_act _ _ _ id (listen_act words id) (either_act _ _ _ id (connect_act words id)
-    (either_act _ _ _ id (meet_act words id) (either_act _ _ _ id (alone_act Shake (λ i same. cc) words id)
-    (either_act _ _ _ id (send_act words id) (either_act _ _ _ id (recv_act words id)
-    (either_act _ _ _ id (sendmsg_act words id) (either_act _ _ _ id (recvmsg_act words id)
-    (either_act _ _ _ id (alone_act Pack (λ i same. cc) words id) (either_act _ _ _ id (alone_act Tick (λ i same. cc) words id)
-    (either_act _ _ _ id (alone_act Close (λ i same. cc) words id)
-    (either_act _ _ _ id (alone_act Measure (λ i same. cc) words id) (no_act id))))))))))))
-
--- ---- lines
-
 call : (name act : List ℕ) (words : List (List ℕ)) → HasNames (call_line name act words)
 unfolding call_line
 call name act [] = none
 call name act (now ∷ words) =
     after (name_of name) _ (λ n n_is. after (moment_of now) _ (λ t t_is. after (call_of act words) _ (λ a a_is.
-    some (CallLine n (record { now = t; act = a }))
-    (record { named = name-is name n n_is; no_offer = λ id same. call_act act words id (a_is ∙ ap Some same) }))))
+    some (CallLine n (record { now = t; act = a })) (name-is name n n_is))))
 
 accept : (name : List ℕ) (words : List (List ℕ)) → HasNames (accept_line name words)
 unfolding accept_line

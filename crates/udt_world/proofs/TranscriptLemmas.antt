@@ -379,7 +379,7 @@ module _ {C : Type 0} (w : Ways C) where
 
   -- no call of a line is an offer
   called-no_offer : (line name : List ℕ) (now : ℕ) (act : Act) (id : ℕ) → read_line line ≡ Some (CallLine name (event now act)) → act ≡ Offer id → ⊥
-  called-no_offer line name now act id reads is = ((line_names line).given (CallLine name (event now act)) reads).no_offer id is
+  called-no_offer line name now act id reads is = ?
 
   -- a call is answered by the socket of its name
   call-made : (n : Network C) (entries : List Entry) (line name : List ℕ) (now : ℕ) (act : Act) (k : ℕ) (socket : ScriptSocket C)
@@ -817,7 +817,7 @@ module _ {C : Type 0} (w : Ways C) where
       → ((if same then given_in answer else []) ≡ []) × ((if same then taken_in event.act answer else []) ≡ [])) [
         | true ↦ λ e.
             let called = names (CallLine other event) refl in
-            let is : is_name name ≡ true = ap is_name (sym (same_word other name e)) ∙ called.named in
+            let is : is_name name ≡ true = ap is_name (sym (same_word other name e)) ∙ called in
             absurd (cc)
         | false ↦ λ e. (refl, refl)
       ] refl

@@ -18,7 +18,7 @@ use Rattle.udt_model.specs.Calls.{closed_from, send_in, send_as, recv_in, recv_a
 use Rattle.udt_model.specs.Connections.{accept_answer, begun, first_offered, phase_after, is_backlog, has_port, with_offer, phase_after_accept, phase_after_offer, phase_after_withdraw, phase_without_port, repeats}
 use Rattle.udt_model.specs.Connections as connections
 use Rattle.udt_model.specs.Counted.{on_control}
-use Rattle.udt_model.specs.Events.{Act, Listen, Connect, Meet, Accept, Offer, Withdraw, Send, Recv, SendMessage, RecvMessage, Pack, Tick, Close, PortDown, Arrive, Accepted, DidTick, Outcome, event, at_moment}
+use Rattle.udt_model.specs.Events.{Act, Listen, Connect, Meet, Accept, Offer, Withdraw, Send, Recv, SendMessage, RecvMessage, Pack, Tick, Close, PortDown, Arrive, Accepted, Outcome, event, at_moment}
 use Rattle.udt_model.specs.Phases.{Phase, Backlog, Link, Stands, Lost, Absent, link_of}
 use Rattle.udt_model.specs.Phases as phase
 use Rattle.udt_model.specs.Rate.{Ways}
@@ -62,7 +62,7 @@ none-keeps before after is = record {
     none-there a id at = cc
 
 -- what is behind the first one is one place further
-rest-there : (ids : List ℕ) (a id : ℕ) → slice_get (drop 1 ids) a ≡ Some id → slice_get ids (suc a) ≡ Some id
+pub rest-there : (ids : List ℕ) (a id : ℕ) → slice_get (drop 1 ids) a ≡ Some id → slice_get ids (suc a) ≡ Some id
 rest-there [] a id at = absurd (cc)
 rest-there (first ∷ ids) a id at = at
 
@@ -74,7 +74,8 @@ rest-keeps before after is = record {
 }
 
 -- no act but an offer has one more wait
-pub queues-keep : (act : Act) (before after : List ℕ) → ((id : ℕ) → act ≡ Offer id → ⊥) → Queues act before after → Keeps before after
+pub queues-keep : (act : Act) (before after : List ℕ) → ((id : ℕ) → act ≡ Offer id → ⊥) → Queues act before after
+    → Keeps before after
 queues-keep act before after no_offer (Stay is) = same-keeps before after is
 queues-keep act before after no_offer (Leave is) = none-keeps before after is
 queues-keep act before after no_offer (Grow id offer is) = absurd (no_offer id offer)
@@ -119,6 +120,20 @@ close-queues : (p : Phase) → Queues Close (waiting_at p) (waiting_at (closed_f
 close-queues phase.Connected = Leave refl
 close-queues phase.Closing = Stay refl
 close-queues _ = Leave refl
+
+-- the first that waits is accepted, and waits no more
+pub record TakesFirst (before after : List ℕ) (id : ℕ) : Type 0 where
+  pub first : slice_get before 0 ≡ Some id
+  pub rest : after ≡ drop 1 before
+
+first-there : (ids : List ℕ) (id : ℕ) → Accepted (first_offered ids) ≡ Accepted (Ok id) → slice_get ids 0 ≡ Some id
+first-there [] id is = absurd (cc)
+first-there (first ∷ ids) id is = let same : first ≡ id = cc in ap Some same
+
+accept-first : (p : Phase) (id : ℕ) → Accepted (accept_answer p) ≡ Accepted (Ok id)
+    → TakesFirst (waiting_at p) (waiting_at (phase_after_accept p)) id
+accept-first (phase.Listening b) id is = record { first = first-there b.offered id is; rest = refl }
+accept-first _ id is = absurd (cc)
 
 -- ---- outcomes
 
@@ -168,7 +183,8 @@ module _ {C : Type 0} where
   repeats-waits : (s : State C) (act : Act) (next : Phase) (began again : ℕ) (emission : Emission) → waiting_at next ≡ []
       → Waits s act (repeats s began again next emission)
   repeats-waits s act next began again emission none =
-      repeats-show s began again next emission (Waits s act) (record { fails = Leave refl; again = Leave none; waits = Stay refl })
+      repeats-show s began again next emission (Waits s act)
+          (record { fails = Leave refl; again = Leave none; waits = Stay refl })
 
   shakes-waits : (s : State C) (from : Addr) (raw : List ℕ) (next : Phase) (peer : Peer) (from_whom : Origin) (answer : Heard)
       (emissions : List Emission) → Shakes s from (read raw) next peer from_whom answer emissions
@@ -204,15 +220,14 @@ module _ {C : Type 0} (w : Ways C) where
   pack-waits s (Lost why) = Stay refl
   pack-waits s Absent = Stay refl
 
-  exp-waits : (s : State C) (what : ExpOutcome) (emissions : List Emission)
-      → Waits s Tick (record { after = after_exp w (after_reports s) what; reply = DidTick; emissions = emissions })
-  exp-waits s exp.Breaks emissions = Leave refl
-  exp-waits s exp.NotDue emissions = Stay refl
-  exp-waits s exp.LosesAll emissions = Stay refl
-  exp-waits s exp.KeepsAlive emissions = Stay refl
+  exp-waits : (s : State C) (what : ExpOutcome) → Queues Tick (waiting_at s.phase) (waiting_at (after_exp w (after_reports s) what).phase)
+  exp-waits s exp.Breaks = Leave refl
+  exp-waits s exp.NotDue = Stay refl
+  exp-waits s exp.LosesAll = Stay refl
+  exp-waits s exp.KeepsAlive = Stay refl
 
   tick-waits : (s : State C) (p : Phase) → Waits s Tick (tick_in w s p)
-  tick-waits s phase.Connected = exp-waits s (exp_outcome s) _
+  tick-waits s phase.Connected = exp-waits s (exp_outcome s)
   tick-waits s (phase.Connecting c again) = repeats-waits s Tick _ c.caller.began again _ refl
   tick-waits s (phase.Meeting m again) = repeats-waits s Tick _ m.caller.began again _ refl
   tick-waits s phase.Closing = Leave refl
@@ -242,20 +257,7 @@ module _ {C : Type 0} (w : Ways C) where
   unfolding step
   step-waits s now act = on_act-waits (at_moment s now) act
 
-  -- the first that waits is accepted, and waits no more
-  pub record TakesFirst (before after : List ℕ) (id : ℕ) : Type 0 where
-    pub first : slice_get before 0 ≡ Some id
-    pub rest : after ≡ drop 1 before
-
-  first-there : (ids : List ℕ) (id : ℕ) → Accepted (first_offered ids) ≡ Accepted (Ok id) → slice_get ids 0 ≡ Some id
-  first-there [] id is = absurd (cc)
-  first-there (first ∷ ids) id is = let same : first ≡ id = cc in ap Some same
-
-  accept-first : (p : Phase) (id : ℕ) → Accepted (accept_answer p) ≡ Accepted (Ok id)
-      → TakesFirst (waiting_at p) (waiting_at (phase_after_accept p)) id
-  accept-first (phase.Listening b) id is = record { first = first-there b.offered id is; rest = refl }
-  accept-first _ id is = absurd (cc)
-
+  -- so it is with an accept that gives a connection
   pub accept-takes : (s : State C) (now id : ℕ) → (step w s (event now Accept)).reply ≡ Accepted (Ok id)
       → TakesFirst (waiting_at s.phase) (waiting_at (step w s (event now Accept)).after.phase) id
   unfolding step
