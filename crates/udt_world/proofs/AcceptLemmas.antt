@@ -1,12 +1,12 @@
 -- What an accept does to a network: the connection that waited first gets its name.
-use Rattle.std.proofs.Common.{◌≡◌, ℕ, ◌-◌, ◌<◌, ◌≤◌, Bool, true, false, List, [], ◌∷◌, ◌++◌, length, map, Some, Ok, Err, Result, refl, ap, ◌∙◌, sym, arith, option_map}
+use Rattle.std.proofs.Common.{◌≡◌, ℕ, ◌-◌, ◌<◌, ◌≤◌, true, false, List, [], ◌∷◌, ◌++◌, length, map, Some, Ok, Err, Result, refl, ap, ◌∙◌, sym, arith, option_map}
 use Rattle.std.specs.Prelude.{slice_get, slice_set}
 use Rattle.std.specs.List.{Contains}
 use Rattle.std.proofs.lemmas.List.{append-nil, map-set, length-map, length-set}
-use Rattle.std.proofs.lemmas.Option.{same_Some, slice_get-map}
+use Rattle.std.proofs.lemmas.Option.{slice_get-map}
 use Rattle.udt_model.specs.declared.answers.Refusal.{Refusal}
 use Rattle.udt_model.specs.Connections.{accept_answer, first_offered}
-use Rattle.udt_model.specs.Events.{Accept, Accepted, Event, Reply, event}
+use Rattle.udt_model.specs.Events.{Accept, Accepted, event}
 use Rattle.udt_model.specs.History.{state_of}
 use Rattle.udt_model.specs.Lines.{AcceptLine}
 use Rattle.udt_model.specs.Network as model
@@ -45,7 +45,9 @@ waiting-by _ id is = absurd (cc)
 module _ {C : Type 0} (old : Network C) (place : ℕ) (socket : ScriptSocket C) (after : State C) where
   -- what is seen once the socket at a place is in this state
   abbrev pub view_with : View C
-  view_with = record (view_of old) { sockets = map sight_of (slice_set old.sockets.items place (record socket { socket = after })) }
+  view_with = record (view_of old) {
+    sockets = map sight_of (slice_set old.sockets.items place (record socket { socket = after }));
+  }
 
   -- there are as many sockets, and each has the name that it had
   pub count_with : length view_with.sockets ≡ length (sights_of old)
@@ -83,12 +85,14 @@ module _ {C : Type 0} (w : Ways C) where
   }
 
   -- a socket that is renamed is one of the network's
-  renamed_shown : (m : model.Network C) (mid new : View C) (id : ℕ) (name : List ℕ) → Shows w m mid → 0 < id → id ≤ length mid.sockets
+  renamed_shown : (m : model.Network C) (mid new : View C) (id : ℕ) (name : List ℕ) → Shows w m mid → 0 < id
+      → id ≤ length mid.sockets
       → ((sight : Sight C) → slice_get mid.sockets (id - 1) ≡ Some sight
       → new ≡ record mid { sockets = slice_set mid.sockets (id - 1) (record sight { name = name }) })
       → Shows w (with_name m id name) new
   renamed_shown m mid new id name shows some few renamed =
-      let count : length mid.sockets ≡ length m.sockets = ap length shows.sockets_are ∙ length-map m.sockets (sight_of_history w) in
+      let count : length mid.sockets ≡ length m.sockets =
+      ap length shows.sockets_are ∙ length-map m.sockets (sight_of_history w) in
       let known = some_at m.sockets (id - 1) (omega (arith, some, few, count)) in
       let seen : slice_get mid.sockets (id - 1) ≡ Some (sight_of_history w known.0) =
       ap (λ (l : List (Sight C)). slice_get l (id - 1)) shows.sockets_are
@@ -97,7 +101,8 @@ module _ {C : Type 0} (w : Ways C) where
       rw known.1 (record {
         hosts_are = ap (λ (v : View C). v.hosts) is ∙ shows.hosts_are;
         sockets_are = ap (λ (v : View C). v.sockets) is
-            ∙ (ap (λ (l : List (Sight C)). slice_set l (id - 1) (record (sight_of_history w known.0) { name = name })) shows.sockets_are
+            ∙ (ap (λ (l : List (Sight C)). slice_set l (id - 1) (record (sight_of_history w known.0) { name = name }))
+            shows.sockets_are
             ∙ sym (map-set (sight_of_history w) m.sockets (id - 1) (record known.0 { name = name })));
         datagrams_are = ap (λ (v : View C). v.datagrams) is ∙ shows.datagrams_are;
       })

@@ -1,29 +1,30 @@
 -- The sockets that a line opens may be added, and are seen as the definitions' ones.
-use Rattle.std.proofs.Common.{◌≡◌, ℕ, ◌+◌, ◌≤◌, ◌<◌, Bool, true, false, true≢false, List, [], ◌∷◌, ◌++◌, length, map, Some, None, Option, refl, ap, ◌∙◌, sym, subst, arith, inr, append_assoc}
-use Rattle.std.specs.Prelude.{vec_len}
+use Rattle.std.proofs.Common.{◌≡◌, ℕ, ◌+◌, ◌<◌, true, false, true≢false, List, [], ◌∷◌, ◌++◌, length, map, Some, None, refl, ap, ◌∙◌, sym, subst, arith, inr, append_assoc}
+use Rattle.std.specs.Prelude.{nat_lt, vec_len}
+use Rattle.std.proofs.lemmas.Bool.{lt-ltb}
 use Rattle.std.proofs.lemmas.List.{length-map, map-append}
 use Rattle.udt_model.specs.declared.addresses.Addr.{Addr}
 use Rattle.udt_model.specs.declared.limits.TheConstants.{MOST_SOCKETS}
 use Rattle.udt_model.specs.Addresses.{same_addr}
 use Rattle.udt_model.specs.History.{after_items}
-use Rattle.udt_model.specs.Lines.{Pairing, PairLine}
+use Rattle.udt_model.specs.Lines.{OpeningLine, OpenLine, Pairing, PairLine}
 use Rattle.udt_model.specs.Network as model
-use Rattle.udt_model.specs.Network.{first_host, second_host, met_by}
+use Rattle.udt_model.specs.Network.{address_of_host, first_host, second_host, is_taken, met_by}
 use Rattle.udt_model.specs.Opening.{opened, opening}
 use Rattle.udt_model.specs.declared.packets.Config.{Config}
 use Rattle.udt_model.specs.Phases.{is_closed}
 use Rattle.udt_model.specs.Rate.{Ways}
-use Rattle.udt_model.specs.Records.{PeerPair}
-use Rattle.udt_model.specs.Script.{on_line, paired, may_pair, pair_config, peer_of, with_socket}
+use Rattle.udt_model.specs.Script.{on_line, open_config, paired, may_open, may_pair, pair_config, peer_of, with_socket}
 use Rattle.udt_model.specs.State.{State}
-use Rattle.udt_model.specs.Texts.{pair_text}
-use Rattle.udt_model.specs.Words.{is_name}
+use Rattle.udt_model.specs.Texts.{open_text, pair_text}
+use Rattle.udt_model.specs.Words.{is_name, is_word}
 use Rattle.udt_world.specs.declared.network.Network.{Network}
 use Rattle.udt_world.specs.declared.network.ScriptSocket.{ScriptSocket}
 use Rattle.udt_world.specs.Done.{DoesLine}
-use Rattle.udt_world.specs.Views.{Sight, View, Shows, sight_of, sight_of_history}
+use Rattle.udt_world.specs.Views.{Sight, View, Shows, sight_of, sight_of_history, view_of}
 use Rattle.udt_world.specs.Wiring.{FitsPhase, HasAddress, IsFree, IsGiven, IsHalf, IsNew, IsUnadopted, IsWired, new_sight, peer_in, place_seen, sights_of, waiting_at}
 use Rattle.udt_world.proofs.OpeningLemmas.{first-unadopted, second-unadopted}
+use Rattle.udt_world.proofs.PushLemmas.{push_other}
 
 -- ---- what is seen of them
 
@@ -31,7 +32,8 @@ module _ {C : Type 0} (w : Ways C) where
   abbrev pub new_socket : List ℕ → Addr → State C → model.ScriptSocket C
   new_socket name host state = record { name = name; host = host; history = record { opening = state; items = [] } }
 
-  new-seen : (name : List ℕ) (host : Addr) (state : State C) → sight_of_history w (new_socket name host state) ≡ new_sight name host state
+  new-seen : (name : List ℕ) (host : Addr) (state : State C)
+      → sight_of_history w (new_socket name host state) ≡ new_sight name host state
   unfolding after_items met_by
   new-seen name host state = refl
 
@@ -53,11 +55,13 @@ module _ {C : Type 0} (w : Ways C) where
       → may_pair n p ≡ true → count ≡ length old.sockets
       → mid ≡ record old {
         sockets = old.sockets
-            ++ new_sight p.a first_host (opening w (count + 1) (pair_config p) (peer_of p second_host (count + 2)) 0 p.start) ∷ [];
+            ++ new_sight p.a first_host
+            (opening w (count + 1) (pair_config p) (peer_of p second_host (count + 2)) 0 p.start) ∷ [];
       }
       → new ≡ record mid {
         sockets = mid.sockets
-            ++ new_sight p.b second_host (opening w (count + 2) (pair_config p) (peer_of p first_host (count + 1)) 0 p.start) ∷ [];
+            ++ new_sight p.b second_host
+            (opening w (count + 2) (pair_config p) (peer_of p first_host (count + 1)) 0 p.start) ∷ [];
       }
       → after ≡ before ++ pair_text p count → DoesLine w n (on_line w n (PairLine p)) true new before after
   unfolding paired
@@ -73,6 +77,42 @@ module _ {C : Type 0} (w : Ways C) where
         (append_assoc n.sockets (new_socket p.a first_host a ∷ []) (new_socket p.b second_host b ∷ [])) second,
         text,
       )
+
+  -- a line that opens a socket does so
+  pub open-does : (n : model.Network C) (o : OpeningLine) (host : Addr) (old new : View C) (count : ℕ) (before after : List ℕ)
+      → Shows w n old → count ≡ length old.sockets → count < MOST_SOCKETS → is_taken o.name n ≡ false
+      → address_of_host o.host old.hosts ≡ Some host
+      → new ≡ record old { sockets = old.sockets ++ new_sight o.name host (opened w (count + 1) o.isn (open_config o) 0) ∷ [] }
+      → after ≡ before ++ open_text o count → DoesLine w n (on_line w n (OpenLine o)) true new before after
+  open-does n o host old new count before after shows count_is room free at new_is text =
+      let same : length n.sockets ≡ count =
+      sym (count_is ∙ (ap length shows.sockets_are ∙ length-map n.sockets (sight_of_history w))) in
+      let fits : nat_lt (length n.sockets) MOST_SOCKETS ≡ true =
+      lt-ltb (length n.sockets) MOST_SOCKETS (omega (arith, room, same)) in
+      let may : may_open n o.name ≡ true = rw (fits, free) refl in
+      let found : address_of_host o.host n.hosts ≡ Some host = ap (address_of_host o.host) (sym shows.hosts_are) ∙ at in
+      rw (may, found, same)
+      (opened-shown n old new o.name host (opened w (count + 1) o.isn (open_config o) 0) shows new_is, text)
+
+-- ---- once one was added
+
+module _ {C : Type 0} (old new : Network C) where
+  -- one more socket is seen, once an endpoint was made for it
+  pub added-seen : (mid : Network C) (made : ScriptSocket C) (sight : Sight C) → mid ≡ record old { endpoints = mid.endpoints }
+      → view_of new ≡ record (view_of mid) { sockets = sights_of mid ++ sight_of made ∷ [] } → sight_of made ≡ sight
+      → view_of new ≡ record (view_of old) { sockets = sights_of old ++ sight ∷ [] }
+  added-seen mid made sight kept seen is =
+      seen
+      ∙ (ap (λ (m : Network C). record (view_of m) { sockets = sights_of m ++ sight_of made ∷ [] }) kept
+      ∙ ap (λ (s : Sight C). record (view_of old) { sockets = sights_of old ++ s ∷ [] }) is)
+
+  module _ (sight : Sight C) (seen : view_of new ≡ record (view_of old) { sockets = sights_of old ++ sight ∷ [] }) where
+    -- a name that none had is that of none, but of the new one
+    pub unseen-more : (name : List ℕ) → place_seen (sights_of old) name ≡ None → is_word sight.name name ≡ false
+        → place_seen (sights_of new) name ≡ None
+    unseen-more name none other =
+        ap (λ (v : View C). place_seen v.sockets name) seen
+        ∙ (push_other (λ (s : Sight C). is_word s.name name) (sights_of old) sight other ∙ none)
 
 -- ---- they may be added
 

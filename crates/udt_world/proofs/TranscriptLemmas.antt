@@ -46,7 +46,7 @@ use Rattle.udt_world.specs.Transcripts.{Answer, Replied, ListensTwice, MeetsTake
 use Rattle.udt_world.proofs.ArriveLemmas.{arrive-gives}
 use Rattle.udt_world.proofs.MessageLemmas.{happened-gives}
 use Rattle.udt_world.specs.Wiring.{IsGiven}
-use Rattle.udt_world.proofs.GivenLemmas.{Names, line_names}
+use Rattle.udt_world.proofs.GivenLemmas.{IsAsked, Names, line_names}
 use Rattle.udt_world.proofs.QueueLemmas.{queue_of, IsUnnamed, IsQueued, none-queued, added-queued, event-queued, offered-queued, accept-queued}
 use Rattle.udt_world.proofs.LineLemmas.{no_lines, accepted-by, left-after}
 use Rattle.udt_world.proofs.PlaceLemmas.{same_word, is_same_word, name_there, found_there, place-set, position-first, position-others, position-cons, position-apart, position-here}
@@ -379,7 +379,8 @@ module _ {C : Type 0} (w : Ways C) where
 
   -- no call of a line is an offer
   called-no_offer : (line name : List ℕ) (now : ℕ) (act : Act) (id : ℕ) → read_line line ≡ Some (CallLine name (event now act)) → act ≡ Offer id → ⊥
-  called-no_offer line name now act id reads is = ?
+  called-no_offer line name now act id reads is =
+      subst IsAsked is ((line_names line).given (CallLine name (event now act)) reads).1
 
   -- a call is answered by the socket of its name
   call-made : (n : Network C) (entries : List Entry) (line name : List ℕ) (now : ℕ) (act : Act) (k : ℕ) (socket : ScriptSocket C)
@@ -817,7 +818,7 @@ module _ {C : Type 0} (w : Ways C) where
       → ((if same then given_in answer else []) ≡ []) × ((if same then taken_in event.act answer else []) ≡ [])) [
         | true ↦ λ e.
             let called = names (CallLine other event) refl in
-            let is : is_name name ≡ true = ap is_name (sym (same_word other name e)) ∙ called in
+            let is : is_name name ≡ true = ap is_name (sym (same_word other name e)) ∙ called.0 in
             absurd (cc)
         | false ↦ λ e. (refl, refl)
       ] refl

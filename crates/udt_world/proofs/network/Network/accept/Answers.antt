@@ -1,4 +1,4 @@
-use Rattle.std.proofs.Common.{◌≡◌, length, refl, ap, ◌∙◌, sym, arith}
+use Rattle.std.proofs.Common.{length, refl, ap, ◌∙◌, sym, arith}
 use Rattle.std.proofs.lemmas.List.{length-map, map-set}
 use Rattle.std.proofs.lemmas.Option.{slice_get_read}
 use Rattle.udt_world.specs.Views.{sight_of, view_of}
@@ -25,7 +25,8 @@ rename-requires-clause-id g c =
     let socket = c.index_mut.result.now in
     let read = slice_get_read network.sockets.items (length network.sockets.items) c.in-Some.place socket refl
     (omega (arith, network.sockets.ok.0, c.in-Some.ensures.within)) c.index_mut.ensures.value in
-    let waited = c.requires.wired.waits c.in-Some.place c.in-Ok.id (sight_of socket) (sight-at network c.in-Some.place socket read)
+    let waited = c.requires.wired.waits c.in-Some.place c.in-Ok.id (sight_of socket)
+    (sight-at network c.in-Some.place socket read)
     (accepts_waiting g.C.Control.ways socket.socket c.args.now c.in-Ok.id c.in-Ok.ensures.reply) in
     waited.0
 
@@ -35,7 +36,8 @@ rename-requires-clause-within g c =
     let socket = c.index_mut.result.now in
     let read = slice_get_read network.sockets.items (length network.sockets.items) c.in-Some.place socket refl
     (omega (arith, network.sockets.ok.0, c.in-Some.ensures.within)) c.index_mut.ensures.value in
-    let waited = c.requires.wired.waits c.in-Some.place c.in-Ok.id (sight_of socket) (sight-at network c.in-Some.place socket read)
+    let waited = c.requires.wired.waits c.in-Some.place c.in-Ok.id (sight_of socket)
+    (sight-at network c.in-Some.place socket read)
     (accepts_waiting g.C.Control.ways socket.socket c.args.now c.in-Ok.id c.in-Ok.ensures.reply) in
     omega (arith, waited.1, network.sockets.ok.0, length-map network.sockets.items sight_of)
 
@@ -56,7 +58,8 @@ returns-in_ok-print_accept-in-Ok-clause-done g c = λ n shows.
     let socket = c.index_mut.result.now in
     let read = slice_get_read network.sockets.items (length network.sockets.items) c.in-Some.place socket refl
     (omega (arith, network.sockets.ok.0, c.in-Some.ensures.within)) c.index_mut.ensures.value in
-    let waited = c.requires.wired.waits c.in-Some.place c.in-Ok.id (sight_of socket) (sight-at network c.in-Some.place socket read)
+    let waited = c.requires.wired.waits c.in-Some.place c.in-Ok.id (sight_of socket)
+    (sight-at network c.in-Some.place socket read)
     (accepts_waiting g.C.Control.ways socket.socket c.args.now c.in-Ok.id c.in-Ok.ensures.reply) in
     let free = sym c.if-is_taken.false ∙ c.is_taken.ensures.value n shows in
     let at = sym c.in-Some.is ∙ c.place_of.ensures.value n shows in
