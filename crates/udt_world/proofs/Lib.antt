@@ -17,6 +17,7 @@ pub mod RouteLemmas
 pub mod LineLemmas
 pub mod ArriveLemmas
 pub mod MessageLemmas
+pub mod WaitLemmas
 pub mod QueueLemmas
 pub mod TranscriptLemmas
 pub mod WorldLemmas
