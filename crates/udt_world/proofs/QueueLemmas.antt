@@ -104,8 +104,7 @@ module _ {C : Type 0} (w : Ways C) where
 
     -- each that waits was unnamed before
     kept-unnamed : Keeps (queue_of socket) (queue_of later) → IsQueued n → (i id : ℕ) (s : ScriptSocket C)
-        → slice_get m.sockets i ≡ Some s
-        → Contains (queue_of s) id → IsUnnamed n id
+        → slice_get m.sockets i ≡ Some s → Contains (queue_of s) id → IsUnnamed n id
     kept-unnamed keeps is i id s there waits = each-socket i s there
         (λ here same. is.unnamed k id socket at (still-among (queue_of socket) (queue_of later) id keeps
         (subst (λ (t : ScriptSocket C). Contains (queue_of t) id) same waits)))
@@ -296,7 +295,8 @@ module _ {C : Type 0} (w : Ways C) where
       each-socket n m k socket later at sockets_are i s there
       (λ here same.
       let place = place-among (queue_of later) id (subst (λ (t : ScriptSocket C). Contains (queue_of t) id) same waits) in
-      let behind = rest-there (queue_of socket) place.0 id (subst (λ (ids : List ℕ). slice_get ids place.0 ≡ Some id) takes.rest place.1) in
+      let behind = rest-there (queue_of socket) place.0 id
+          (subst (λ (ids : List ℕ). slice_get ids place.0 ≡ Some id) takes.rest place.1) in
       let once : 0 ≡ suc place.0 = (is.once k k 0 (suc place.0) id socket socket at at takes.first behind).1 in
       omega (arith, once))
       (λ apart before.

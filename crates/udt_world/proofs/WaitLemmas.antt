@@ -4,8 +4,6 @@ use Rattle.std.specs.Prelude.{slice_get, Option}
 use Rattle.std.specs.List.{Contains}
 use Rattle.std.proofs.lemmas.Option.{slice_get_read}
 use Rattle.udt_model.specs.declared.addresses.Addr.{Addr}
-use Rattle.udt_model.specs.declared.answers.Cause.TheVariants as cause
-use Rattle.udt_model.specs.declared.answers.Failure.TheVariants as failure
 use Rattle.udt_model.specs.declared.answers.Heard.{Heard}
 use Rattle.udt_model.specs.declared.answers.Origin.{Origin}
 use Rattle.udt_model.specs.declared.answers.Peer.{Peer}
@@ -220,7 +218,8 @@ module _ {C : Type 0} (w : Ways C) where
   pack-waits s (Lost why) = Stay refl
   pack-waits s Absent = Stay refl
 
-  exp-waits : (s : State C) (what : ExpOutcome) → Queues Tick (waiting_at s.phase) (waiting_at (after_exp w (after_reports s) what).phase)
+  exp-waits : (s : State C) (what : ExpOutcome)
+      → Queues Tick (waiting_at s.phase) (waiting_at (after_exp w (after_reports s) what).phase)
   exp-waits s exp.Breaks = Leave refl
   exp-waits s exp.NotDue = Stay refl
   exp-waits s exp.LosesAll = Stay refl
