@@ -1,6 +1,6 @@
 -- What an act leaves of a socket's phase, of its peer and of those that wait at it, and that none but a listen is answered as one.
-use Rattle.std.proofs.Common.{◌≡◌, ℕ, zero, suc, Bool, true, false, List, [], ◌∷◌, ◌++◌, drop, length, refl, ap, ◌∙◌, sym, subst, inl, inr, ◌⊎◌, arith}
-use Rattle.std.specs.Prelude.{Option, Some, None, Result, Ok, Err}
+use Rattle.std.proofs.Common.{◌≡◌, ℕ, zero, suc, Bool, true, false, List, [], ◌∷◌, drop, refl, ap, ◌∙◌, sym, subst, inl, inr, ◌⊎◌, arith}
+use Rattle.std.specs.Prelude.{Option, Some, Ok}
 use Rattle.std.specs.List.{Contains}
 use Rattle.std.proofs.lemmas.List.Elements.{Contains-append_right, Contains-push_cases}
 use Rattle.udt_model.specs.declared.addresses.Addr.{Addr}
@@ -24,7 +24,7 @@ use Rattle.udt_model.specs.Calls.{closed_from, send_in, send_as, recv_in, recv_a
 use Rattle.udt_model.specs.Connections.{begun, phase_after, is_backlog, has_port, with_offer, phase_after_accept, phase_after_offer, phase_after_withdraw, phase_without_port, repeats}
 use Rattle.udt_model.specs.Connections as connections
 use Rattle.udt_model.specs.Counted.{on_control}
-use Rattle.udt_model.specs.Events.{Act, Listen, Connect, Meet, Accept, Shake as AsksShake, Offer, Withdraw, Send, Recv, SendMessage, RecvMessage, Pack, Tick, Close, PortDown, Measure, Arrive, Reply, DidMeet, DidTick, Outcome, answered, event, at_moment}
+use Rattle.udt_model.specs.Events.{Act, Listen, Connect, Meet, Accept, Offer, Withdraw, Send, Recv, SendMessage, RecvMessage, Pack, Tick, Close, PortDown, Arrive, Reply, DidMeet, DidTick, Outcome, answered, event, at_moment}
 use Rattle.udt_model.specs.Handshakes.{Connecting, Meeting}
 use Rattle.udt_model.specs.Network.{is_listening, meets_by}
 use Rattle.udt_model.specs.Opening.{connected}

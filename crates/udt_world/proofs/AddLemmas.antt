@@ -1,15 +1,13 @@
 -- One more socket leaves the network wired, once its endpoint has enrolled it and was told of it.
-use Rattle.std.proofs.Common.{◌≡◌, ℕ, zero, suc, ◌+◌, ◌≤◌, ◌<◌, ◌&&◌, Bool, true, false, cond, List, [], ◌∷◌, ◌++◌, length, map, Some, None, Option, Result, Ok, Err, is_ok, refl, ap, ◌∙◌, sym, subst, arith, inl, inr}
-use Rattle.std.specs.Prelude.{OnOk, slice_get, slice_set, position, vec_len}
+use Rattle.std.proofs.Common.{◌≡◌, ℕ, ◌+◌, ◌≤◌, ◌<◌, ◌&&◌, Bool, true, false, cond, List, [], ◌∷◌, ◌++◌, length, map, Some, None, Result, Ok, Err, is_ok, refl, ap, ◌∙◌, sym, subst, arith, inl, inr}
+use Rattle.std.specs.Prelude.{OnOk, slice_get, slice_set, vec_len}
 use Rattle.std.specs.List.{Contains}
-use Rattle.std.specs.Global.{Global}
 use Rattle.std.proofs.lemmas.Bool.{cases_eq}
 use Rattle.std.proofs.lemmas.List.{length-map, length_push, map-append, set-set}
 use Rattle.udt_model.specs.declared.addresses.Addr.{Addr}
 use Rattle.udt_model.specs.declared.answers.Origin.TheVariants as origin
 use Rattle.udt_model.specs.Addresses.{same_addr}
 use Rattle.udt_model.specs.Phases.{is_closed}
-use Rattle.udt_model.specs.Records.{PeerPair}
 use Rattle.udt_model.specs.Words.{is_word}
 use Rattle.udt_laws.proofs.scripts.ReplacedOne.{found-once, set-other, set-same}
 use Rattle.udt_laws.proofs.scripts.UnadoptedPair.{same-addr}
@@ -19,7 +17,7 @@ use Rattle.udt_world.specs.declared.hosts.TheConstants.{MOST_ENROLLED}
 use Rattle.udt_world.specs.declared.network.Network.{Network}
 use Rattle.udt_world.specs.declared.network.ScriptSocket.{ScriptSocket}
 use Rattle.udt_world.specs.Views.{Sight, sight_of}
-use Rattle.udt_world.specs.Wiring.{HasAddress, IsNew, IsUnadopted, IsWired, KeepsAddresses, Knows, adopts, first_with, listens, meets, is_here, peer_in, place_seen, place_under, sights_of, waiting_at, with_told}
+use Rattle.udt_world.specs.Wiring.{HasAddress, IsNew, IsUnadopted, IsWired, KeepsAddresses, Knows, adopts, listens, meets, is_here, peer_in, place_seen, place_under, sights_of, waiting_at, with_told}
 use Rattle.udt_world.proofs.AddedLemmas.{enrolled-knows, few-adopted, first-more, get-end, may-enrol, others-know}
 use Rattle.udt_world.proofs.EndpointLemmas.{other-turned}
 use Rattle.udt_world.proofs.FirstLemmas.{Only, replaced-cases}
@@ -104,7 +102,7 @@ module _ {C : Type 0} (old new : Network C) (socket : ScriptSocket C) (wired : I
           (sight_of socket);
     }))
     (names_are : (name : List ℕ) → place_under new name
-        ≡ cond (is_word socket.name.items name) (Some (length (sights_of old))) (place_under old name))
+    ≡ cond (is_word socket.name.items name) (Some (length (sights_of old))) (place_under old name))
     (hosts_are : new.hosts ≡ old.hosts) where
   abbrev told : Endpoint
   told = record is_new.stands.endpoint {
@@ -228,7 +226,7 @@ module _ {C : Type 0} (old new : Network C) (socket : ScriptSocket C) (wired : I
           (old_one.0, omega (arith, old_one.1, ap length sights_are, length_push (sights_of old) (sight_of socket)))
       | Last is it ↦
           let none = subst (λ (l : List ℕ). Contains l id) is_new.waits
-              (subst (λ (y : Sight C). Contains (waiting_at y.state.phase) id) it has) in
+          (subst (λ (y : Sight C). Contains (waiting_at y.state.phase) id) it has) in
           absurd (omega (arith, none.1))
     ];
     peers = λ p x at. elim (one-more p x at) [
@@ -295,11 +293,11 @@ module _ {C : Type 0} (old : Network C) (socket : ScriptSocket C) (wired : IsWir
   module _ (new : Network C) (sockets_are : new.sockets.items ≡ old.sockets.items ++ socket ∷ [])
       (count : vec_len new.sockets ≡ vec_len old.sockets + 1) (hosts_are : new.hosts ≡ old.hosts)
       (names_are : (name : List ℕ) → place_under new name
-          ≡ cond (is_word socket.name.items name) (Some place) (place_under old name))
+      ≡ cond (is_word socket.name.items name) (Some place) (place_under old name))
       (told : (later : ScriptSocket C) (e : Endpoint) → slice_get (old.sockets.items ++ socket ∷ []) place ≡ Some later
-          → slice_get enrolling later.endpoint ≡ Some e → new.endpoints.items ≡ slice_set enrolling later.endpoint (record e {
-            routes = with_told e.routes (place + 1) (sight_of later);
-          })) where
+      → slice_get enrolling later.endpoint ≡ Some e → new.endpoints.items ≡ slice_set enrolling later.endpoint (record e {
+        routes = with_told e.routes (place + 1) (sight_of later);
+      })) where
     same_home : home ≡ is_new.stands.endpoint
     same_home = found-once old.endpoints.items socket.endpoint home is_new.stands.endpoint found is_new.stands.found
 
@@ -324,6 +322,7 @@ module _ {C : Type 0} (old : Network C) (socket : ScriptSocket C) (wired : IsWir
     was-added =
         let len : length (sights_of old) ≡ vec_len old.sockets = omega (arith, last, next, size) in
         let names = λ (name : List ℕ). names_are name
-            ∙ ap (λ (n : ℕ). cond (is_word socket.name.items name) (Some n) (place_under old name)) next in
-        (added-wired old new socket wired is_new sockets_are count len sights_are ends_are names hosts_are,
-         added-stands old new socket wired is_new sockets_are count len sights_are ends_are names hosts_are)
+        ∙ ap (λ (n : ℕ). cond (is_word socket.name.items name) (Some n) (place_under old name)) next in (
+          added-wired old new socket wired is_new sockets_are count len sights_are ends_are names hosts_are,
+          added-stands old new socket wired is_new sockets_are count len sights_are ends_are names hosts_are,
+        )

@@ -1,7 +1,7 @@
 -- What tables know once there is one more socket.
-use Rattle.std.proofs.Common.{◌≡◌, ℕ, zero, suc, ◌+◌, ◌-◌, ◌≤◌, ◌<◌, ◌==◌, Bool, true, false, cond, List, [], ◌∷◌, ◌++◌, length, Some, None, Option, refl, ap, ◌∙◌, sym, arith, option_map, inl, inr}
+use Rattle.std.proofs.Common.{◌≡◌, ℕ, zero, suc, ◌+◌, ◌-◌, ◌<◌, ◌==◌, Bool, true, false, cond, List, [], ◌∷◌, ◌++◌, length, Some, None, Option, refl, ap, ◌∙◌, sym, arith, option_map, inl, inr}
 use Rattle.std.proofs.lemmas.Bool.{cases_eq, lt-ltb}
-use Rattle.std.specs.Prelude.{slice_get, ◌⊎◌, is_some, sum_by, if◌then◌else◌}
+use Rattle.std.specs.Prelude.{slice_get, ◌⊎◌, is_some, if◌then◌else◌}
 use Rattle.std.proofs.lemmas.List.{length_push}
 use Rattle.std.proofs.lemmas.List.Sums.{sum_by_push}
 use Rattle.std.proofs.lemmas.Option.{slice_get_past}
@@ -47,9 +47,9 @@ module _ {C : Type 0} (sights : List (Sight C)) (s : Sight C) where
     here-more : (id : ℕ) → is_any (is_here host) (sight_with (sights ++ s ∷ []) id) ≡ is_any (is_here host) (sight_with sights id)
     here-more id = elim (id == 0) as (λ b. is_any (is_here host) (if b then None else slice_get (sights ++ s ∷ []) (id - 1))
         ≡ is_any (is_here host) (if b then None else slice_get sights (id - 1))) [
-      | true ↦ refl
-      | false ↦ any-more (id - 1)
-    ]
+          | true ↦ refl
+          | false ↦ any-more (id - 1)
+        ]
 
     -- an endpoint at another host knows what it knew
     pub others-know : {R : Type 0} (t : Table R) → Knows t sights host → Knows t (sights ++ s ∷ []) host
@@ -95,8 +95,14 @@ module _ {C R : Type 0} (sights : List (Sight C)) (host : Addr) (t : Table R) (k
   -- and there is room for its pair
   pub few-adopted : length sights < MOST_ENROLLED → length t.adoptions < t.ids
   few-adopted few =
-      omega (arith, knows.adoptions, knows.ids, few, sum-small (λ (x : Sight C). one_if (is_some (peer_in x))) sights
-      (λ x. one-small (is_some (peer_in x))))
+      omega (
+        arith,
+        knows.adoptions,
+        knows.ids,
+        few,
+        sum-small (λ (x : Sight C). one_if (is_some (peer_in x))) sights
+            (λ x. one-small (is_some (peer_in x))),
+      )
 
 module _ {C R : Type 0} (sights : List (Sight C)) (s : Sight C) (host : Addr) (t : Table R) (what : R) (knows : Knows t sights host)
     (here : same_addr s.host host ≡ true) (live : is_closed s.state.phase ≡ false) (quiet : s.listened ≡ false) (alone : s.met ≡ None)

@@ -1,5 +1,5 @@
 -- A network stays wired where a socket becomes one of which an endpoint knows the same.
-use Rattle.std.proofs.Common.{◌≡◌, ℕ, zero, suc, ◌+◌, ◌≤◌, ◌<◌, ◌&&◌, ◌||◌, Bool, List, [], ◌∷◌, Some, None, Option, is_some, length, map, refl, ap, ◌∙◌, sym, subst, arith, inl, inr}
+use Rattle.std.proofs.Common.{◌≡◌, ℕ, zero, suc, ◌+◌, ◌≤◌, ◌<◌, ◌||◌, Bool, List, [], ◌∷◌, Some, None, Option, is_some, length, map, refl, ap, ◌∙◌, sym, subst, arith, inl, inr}
 use Rattle.std.specs.Global.{Global}
 use Rattle.std.specs.Prelude.{slice_get, slice_set, vec_len, Vec}
 use Rattle.std.specs.List.{Contains}
@@ -31,7 +31,7 @@ use Rattle.udt_world.specs.Views.{Sight, after_event, host_of, sight_of}
 use Rattle.udt_world.specs.Wiring.{FitsPhase, HasAddress, IsGiven, IsHalf, IsWired, Knows, adopts, is_any, is_here, listens, meets, one_if, peer_in, place_seen, place_under, sight_with, sights_of, waiting_at}
 use Rattle.udt_world.proofs.ActLemmas.{still-waits}
 use Rattle.udt_world.proofs.FirstLemmas.{Only, first-set, only-set, position-set, replaced-cases, sum-set, with-place, with-set}
-use Rattle.udt_world.proofs.WiredLemmas.{mapped, sight-at}
+use Rattle.udt_world.proofs.WiredLemmas.{sight-at}
 
 -- an accept leaves the phase but for the one that waited first
 accept-closed : (p : Phase) → is_closed (phase_after_accept p) ≡ is_closed p
@@ -161,10 +161,18 @@ module _ {C : Type 0} (sights : List (Sight C)) (place : ℕ) (s next : Sight C)
     ids = knows.ids;
     live = knows.live;
     enrolled = omega (arith, knows.enrolled, length-set sights place next);
-    adoptions = omega (arith, knows.adoptions, sum-set (λ (x : Sight C). one_if (is_some (peer_in x))) sights place s next found,
-        ap (λ (o : Option PeerPair). one_if (is_some o)) peer-same);
-    meetings = omega (arith, knows.meetings, sum-set (λ (x : Sight C). one_if (is_some x.met)) sights place s next found,
-        ap (λ (o : Option Addr). one_if (is_some o)) alike.met);
+    adoptions = omega (
+      arith,
+      knows.adoptions,
+      sum-set (λ (x : Sight C). one_if (is_some (peer_in x))) sights place s next found,
+      ap (λ (o : Option PeerPair). one_if (is_some o)) peer-same,
+    );
+    meetings = omega (
+      arith,
+      knows.meetings,
+      sum-set (λ (x : Sight C). one_if (is_some x.met)) sights place s next found,
+      ap (λ (o : Option Addr). one_if (is_some o)) alike.met,
+    );
   }
 
 -- one socket became another one of which an endpoint knows the same

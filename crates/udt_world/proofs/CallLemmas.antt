@@ -1,5 +1,5 @@
 -- A call of a socket does what the definitions say: the places at its host are those that are seen.
-use Rattle.std.proofs.Common.{◌≡◌, ℕ, zero, suc, ◌+◌, ◌<◌, Bool, true, false, List, [], ◌∷◌, ◌++◌, length, map, Some, None, Option, refl, ap, ◌∙◌, sym, arith, option_map}
+use Rattle.std.proofs.Common.{◌≡◌, ℕ, zero, suc, ◌+◌, ◌<◌, Bool, true, false, List, [], ◌∷◌, ◌++◌, length, Some, None, Option, refl, ap, ◌∙◌, sym, arith, option_map}
 use Rattle.std.specs.Prelude.{slice_get, is_some, vec_len, ◌||◌, ◌&&◌, if◌then◌else◌}
 use Rattle.std.proofs.lemmas.List.{length-map}
 use Rattle.std.proofs.lemmas.Option.{same_Some, slice_get_within}
@@ -20,7 +20,7 @@ use Rattle.udt_world.specs.declared.network.Network.{Network}
 use Rattle.udt_world.specs.declared.network.ScriptSocket.{ScriptSocket}
 use Rattle.udt_world.specs.Views.{Sight, View, sight_of, sight_of_history, view_of, Shows, HasEvent}
 use Rattle.udt_world.specs.Done.{DoesLine}
-use Rattle.udt_world.specs.Wiring.{IsWired, Knows, first_with, is_any, is_here, listens, meets, seen_at, sights_of}
+use Rattle.udt_world.specs.Wiring.{IsWired, Knows, first_with, is_any, is_here, listens, meets, sights_of}
 use Rattle.udt_world.proofs.EventLemmas.{event_shown, shown_at}
 use Rattle.udt_world.proofs.FirstLemmas.{with-place}
 use Rattle.udt_world.proofs.KnownLemmas.{known_seen}
@@ -72,9 +72,9 @@ module _ {C : Type 0} (network : Network C) (wired : IsWired network) (place : �
       let at : slice_get (sights_of network) place ≡ Some (sight_of socket) = sight-at network place socket there in
       let own : socket.socket.own ≡ place + 1 = wired.owns place (sight_of socket) at in
       rw own (
-        sym (some-if (is_some (what_of e.routes (place + 1))) (place + 1))
-        ∙ ((host-knows network place socket e wired there found).same.enrolled (place + 1)
-        ∙ ap (λ o. is_any (is_here socket.host) o) (with-place (sights_of network) place ∙ at))
+      sym (some-if (is_some (what_of e.routes (place + 1))) (place + 1))
+      ∙ ((host-knows network place socket e wired there found).same.enrolled (place + 1)
+      ∙ ap (λ o. is_any (is_here socket.host) o) (with-place (sights_of network) place ∙ at))
       )
 
   -- and whether one of them meets this address, or the socket meets any

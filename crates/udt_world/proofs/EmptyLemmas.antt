@@ -1,10 +1,10 @@
 -- A table without sockets knows what is seen at an address where none stands.
-use Rattle.std.proofs.Common.{◌≡◌, ℕ, ◌+◌, ◌-◌, ◌≤◌, ◌==◌, Bool, true, false, List, [], Some, None, Option, refl, ap, ◌∙◌, sym, arith, option_map}
+use Rattle.std.proofs.Common.{◌≡◌, ℕ, ◌+◌, ◌-◌, ◌==◌, Bool, true, false, List, Some, None, Option, refl, ap, sym, arith, option_map}
 use Rattle.std.specs.Prelude.{slice_get, if◌then◌else◌}
 use Rattle.std.specs.List.Sorted.{IsStrictlySortedBy}
 use Rattle.udt_model.specs.declared.addresses.Addr.{Addr}
 use Rattle.udt_model.specs.Addresses.{same_addr}
-use Rattle.udt_routes.specs.Tables.{Table, empty_table}
+use Rattle.udt_routes.specs.Tables.{empty_table}
 use Rattle.udt_world.specs.Views.{Sight}
 use Rattle.udt_world.specs.Wiring.{Knows, adopts, first_with, is_any, is_here, listens, meets, sight_with}
 use Rattle.udt_world.proofs.PushLemmas.{none_first}

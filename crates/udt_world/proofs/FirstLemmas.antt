@@ -1,10 +1,10 @@
 -- Which socket is the first that passes a test, also where one of them was replaced.
 use Rattle.std.proofs.Common.{◌≡◌, ℕ, zero, suc, ◌+◌, ◌-◌, ◌≤◌, ◌<◌, Bool, true, false, cond, List, [], ◌∷◌, length, get_or, Some, None, Option, refl, ap, ◌∙◌, sym, subst, arith, inl, inr, ◌⊎◌, option_map}
-use Rattle.std.specs.Prelude.{slice_get, slice_set, position, sum_by, ◌==◌}
+use Rattle.std.specs.Prelude.{slice_get, slice_set, position, sum_by}
 use Rattle.std.proofs.lemmas.Bool.{cases_eq, ne_eqb}
 use Rattle.std.proofs.lemmas.List.Quantifiers.{position-Some}
 use Rattle.std.proofs.lemmas.List.Sums.{sum_by-cons}
-use Rattle.std.proofs.lemmas.Option.{slice_get-get_or, slice_get_within}
+use Rattle.std.proofs.lemmas.Option.{slice_get-get_or}
 use Rattle.udt_laws.proofs.scripts.FirstFound.{none-passes}
 use Rattle.udt_laws.proofs.scripts.ReplacedOne.{set-other, set-same, found-once}
 use Rattle.udt_world.specs.Views.{Sight}

@@ -1,5 +1,5 @@
 -- A listener that promises a place to a request keeps its peer and what it was opened with.
-use Rattle.std.proofs.Common.{◌≡◌, Result, Ok, Err, List, ℕ, refl, ap, ◌∙◌, sym}
+use Rattle.std.proofs.Common.{◌≡◌, Result, Ok, Err, List, ℕ, refl}
 use Rattle.udt_model.specs.declared.addresses.Addr.{Addr}
 use Rattle.udt_model.specs.declared.answers.Heard.{Heard}
 use Rattle.udt_model.specs.declared.answers.Heard.TheVariants as heard
@@ -8,7 +8,7 @@ use Rattle.udt_model.specs.declared.answers.Peer.{Peer}
 use Rattle.udt_model.specs.declared.packets.Malformed.{Malformed}
 use Rattle.udt_model.specs.Arrivals.{on_read}
 use Rattle.udt_model.specs.Connections.{config_of}
-use Rattle.udt_model.specs.Events.{Arrive, DidHear, Outcome, at_moment, event}
+use Rattle.udt_model.specs.Events.{Arrive, DidHear, at_moment, event}
 use Rattle.udt_model.specs.Phases.{Backlog, Phase}
 use Rattle.udt_model.specs.Phases as phase
 use Rattle.udt_model.specs.Rate.{Ways}

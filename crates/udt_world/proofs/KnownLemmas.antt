@@ -1,5 +1,5 @@
 -- What is known at a host: a route asks no more than some points of it, and what is seen of the sockets tells them.
-use Rattle.std.proofs.Common.{◌≡◌, ℕ, ◌-◌, Bool, true, false, eqb, List, map, Some, None, Option, refl, ap, ◌∙◌, sym, option_map}
+use Rattle.std.proofs.Common.{◌≡◌, ℕ, ◌-◌, Bool, true, false, List, map, Some, None, Option, refl, ap, ◌∙◌, sym, option_map}
 use Rattle.std.specs.Prelude.{position, slice_get, if◌then◌else◌, ◌+◌, ◌==◌}
 use Rattle.std.proofs.lemmas.Option.{slice_get-map}
 use Rattle.udt_model.specs.declared.addresses.Addr.{Addr}

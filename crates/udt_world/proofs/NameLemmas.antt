@@ -1,15 +1,15 @@
 -- Sockets by their names: a map whose keys are in the order of byte strings finds what is seen first under a name.
-use Rattle.std.proofs.Common.{◌≡◌, ℕ, ◌+◌, Bool, true, false, cond, List, [], ◌∷◌, ◌++◌, length, Some, None, Option, refl, ap, ◌∙◌, sym, arith}
-use Rattle.std.specs.Prelude.{Vec, slice_get, slice_set, position}
+use Rattle.std.proofs.Common.{◌≡◌, ℕ, Bool, true, false, cond, List, Option, refl, ◌∙◌, sym}
+use Rattle.std.specs.Prelude.{Vec}
 use Rattle.std.specs.BTreeMap.{BTreeMap, UpdatesBy, is_at}
 use Rattle.std.specs.Cmp.Lexicographic.{nat_list_eq_equiv, slice_cmp}
 use Rattle.std.specs.Global.{Global}
 use Rattle.std.specs.Map.{lookup, KeepsOthers}
 use Rattle.std.specs.declared.cmp.Ordering.{Ordering}
-use Rattle.std.specs.Ordering.{is_eq, nat_cmp}
+use Rattle.std.specs.Ordering.{nat_cmp}
 use Rattle.std.proofs.lemmas.Map.Text.{is_eq-slice_cmp}
 use Rattle.udt_model.specs.Words.{is_word}
-use Rattle.udt_world.proofs.PlaceLemmas.{is_same_word, same_word}
+use Rattle.udt_world.proofs.PlaceLemmas.{same_word}
 
 abbrev pub Name : Type 0
 Name = Vec ℕ Global

@@ -74,7 +74,7 @@ module _ {C : Type 0} (w : Ways C) where
       let second = opened-shown (with_socket n (new_socket p.a first_host a)) mid new p.b second_host b first new_is in
       rw (may, same) (
         subst (λ (l : List (model.ScriptSocket C)). Shows w (record n { sockets = l }) new)
-        (append_assoc n.sockets (new_socket p.a first_host a ∷ []) (new_socket p.b second_host b ∷ [])) second,
+            (append_assoc n.sockets (new_socket p.a first_host a ∷ []) (new_socket p.b second_host b ∷ [])) second,
         text,
       )
 

@@ -1,5 +1,5 @@
 -- No socket has the number of one that isn't there yet as its name.
-use Rattle.std.proofs.Common.{◌≡◌, ℕ, ◌+◌, ◌%◌, ◌<◌, ◌≤◌, ◌^◌, Bool, true, false, List, [], ◌∷◌, length, get_or, Some, None, refl, ap, ◌∙◌, sym, subst, arith, inl, inr}
+use Rattle.std.proofs.Common.{◌≡◌, ℕ, ◌+◌, ◌%◌, ◌<◌, ◌≤◌, ◌^◌, Bool, true, false, List, [], ◌∷◌, length, get_or, Some, None, refl, ap, ◌∙◌, sym, arith, inl, inr}
 use Rattle.std.specs.Prelude.{decimal, slice_get}
 use Rattle.std.specs.Char.{is_ascii_lowercase}
 use Rattle.std.proofs.lemmas.Bool.{and_parts}
@@ -38,20 +38,20 @@ pub number_free : {C : Type 0} (network : Network C) → IsWired network → (co
 number_free {C} network wired count is =
     none_first (λ (s : Sight C). is_word s.name (decimal (count + 1))) (sights_of network) (λ place s at.
     fails place s at (is_word s.name (decimal (count + 1))) refl)
-      where
-        few : count ≤ MOST_SOCKETS
-        few = omega (arith, is, wired.few, network.sockets.ok.0, length-map network.sockets.items sight_of)
+  where
+    few : count ≤ MOST_SOCKETS
+    few = omega (arith, is, wired.few, network.sockets.ok.0, length-map network.sockets.items sight_of)
 
-        fails : (place : ℕ) (s : Sight C) → slice_get (sights_of network) place ≡ Some s → (b : Bool)
-            → is_word s.name (decimal (count + 1)) ≡ b → b ≡ false
-        fails place s at false test = refl
-        fails place s at true test =
-            let name : s.name ≡ decimal (count + 1) = same_word s.name (decimal (count + 1)) test in
-            let within = slice_get_within (sights_of network) place s at in
-            elim (wired.given place s at) [
-              | inl number ↦
-                  let same : place + 1 ≡ count + 1 =
-                  decimal_injective (place + 1) (count + 1) (omega (arith, within, is, few)) (omega (arith, few)) (sym number ∙ name) in
-                  absurd (omega (arith, same, within, is))
-              | inr named ↦ absurd (no-name (count + 1) (omega (arith, few)) (ap (λ (n : List ℕ). is_name n) (sym name) ∙ named))
-            ]
+    fails : (place : ℕ) (s : Sight C) → slice_get (sights_of network) place ≡ Some s → (b : Bool)
+        → is_word s.name (decimal (count + 1)) ≡ b → b ≡ false
+    fails place s at false test = refl
+    fails place s at true test =
+        let name : s.name ≡ decimal (count + 1) = same_word s.name (decimal (count + 1)) test in
+        let within = slice_get_within (sights_of network) place s at in
+        elim (wired.given place s at) [
+          | inl number ↦
+              let same : place + 1 ≡ count + 1 =
+              decimal_injective (place + 1) (count + 1) (omega (arith, within, is, few)) (omega (arith, few)) (sym number ∙ name) in
+              absurd (omega (arith, same, within, is))
+          | inr named ↦ absurd (no-name (count + 1) (omega (arith, few)) (ap (λ (n : List ℕ). is_name n) (sym name) ∙ named))
+        ]

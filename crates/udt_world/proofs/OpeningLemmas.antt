@@ -1,5 +1,5 @@
 -- A new host leaves a network wired, and none has adopted the sockets of a new pair.
-use Rattle.std.proofs.Common.{◌≡◌, ℕ, ◌+◌, ◌≤◌, Bool, true, false, List, [], ◌∷◌, ◌++◌, length, map, Some, None, Option, refl, ap, ◌∙◌, sym, subst, arith, inl, inr, ◌⊎◌, option_map}
+use Rattle.std.proofs.Common.{◌≡◌, ℕ, ◌+◌, ◌≤◌, Bool, true, false, List, [], ◌∷◌, ◌++◌, length, map, Some, None, refl, ap, ◌∙◌, sym, subst, arith, inl, inr, ◌⊎◌, option_map}
 use Rattle.std.specs.Global.{Global}
 use Rattle.std.specs.Prelude.{slice_get, Vec, if◌then◌else◌}
 use Rattle.std.proofs.lemmas.Bool.{and_parts}

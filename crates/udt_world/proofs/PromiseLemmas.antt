@@ -320,9 +320,11 @@ module _ {C : Type 0} (w : Ways C) where
   -- one thing after another
   pub then-does : (first : Printed C) (next : model.Network C → Printed C) (mid new : View C) (before between after : List ℕ)
       → Does first mid before between → Does (next first.network) new between after → Does (and_then first next) new before after
-  then-does first next mid new before between after one other =
-      (other.0, other.1 ∙ (ap (λ (l : List ℕ). l ++ (next first.network).text) one.1
-      ∙ append_assoc before first.text (next first.network).text))
+  then-does first next mid new before between after one other = (
+    other.0,
+    other.1 ∙ (ap (λ (l : List ℕ). l ++ (next first.network).text) one.1
+        ∙ append_assoc before first.text (next first.network).text),
+  )
 
   module _ (n : model.Network C) (now place : ℕ) (listener : model.ScriptSocket C) (datagram : model.ScriptDatagram)
       (shake : Shake) (old : View C) (shows : Shows w n old) where
@@ -353,7 +355,7 @@ module _ {C : Type 0} (w : Ways C) where
         let state : ℕ → Config → State C =
         λ k c. opening w (k + 1) c (handshakes.peer_in c datagram.from shake) 0 0 in
         let made : made_for w n listener datagram.from shake
-            ≡ new_socket w (decimal (count + 1)) s.host (state count (config_of s.state)) =
+        ≡ new_socket w (decimal (count + 1)) s.host (state count (config_of s.state)) =
         ap (λ (k : ℕ). new_socket w (decimal (k + 1)) listener.host (state k (config_of (state_of w listener.history)))) same
         ∙ (ap (λ (a : Addr). new_socket w (decimal (count + 1)) a (state count (config_of (state_of w listener.history)))) host
         ∙ ap (λ (c : Config). new_socket w (decimal (count + 1)) s.host (state count c)) config) in

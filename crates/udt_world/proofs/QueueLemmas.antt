@@ -58,7 +58,7 @@ module _ {C : Type 0} (w : Ways C) where
   pub added-queued : (n : Network C) (fresh : ScriptSocket C) → queue_of fresh ≡ [] → IsQueued n → IsQueued (with_socket n fresh)
   added-queued n fresh none is =
       let queue_none : (j : ℕ) (s : ScriptSocket C) → slice_get (fresh ∷ []) j ≡ Some s
-          → queue_of s ≡ [] = λ j s at. ap queue_of (sym (only j s at)) ∙ none in
+      → queue_of s ≡ [] = λ j s at. ap queue_of (sym (only j s at)) ∙ none in
       record {
         unnamed = λ k id s at waits. elim (append-found n.sockets (fresh ∷ []) k s at) [
           | inl old ↦ still-unnamed n fresh id (is.unnamed k id s old waits)
@@ -78,6 +78,7 @@ module _ {C : Type 0} (w : Ways C) where
       only : (j : ℕ) (s : ScriptSocket C) → slice_get (fresh ∷ []) j ≡ Some s → fresh ≡ s
       only zero s at = cc
       only (suc j) s at = absurd (no_sockets j s at)
+
       none-waits : (id : ℕ) → Contains [] id → ⊥
       none-waits id among = omega (arith, among.1)
 
@@ -100,7 +101,7 @@ module _ {C : Type 0} (w : Ways C) where
         → ((i ≡ k → ⊥) → slice_get n.sockets i ≡ Some s → P) → P
     each-socket i s there =
         replaced-cases n.sockets k socket later at i s
-            (ap (λ (l : List (ScriptSocket C)). slice_get l i) (sym sockets_are) ∙ there)
+        (ap (λ (l : List (ScriptSocket C)). slice_get l i) (sym sockets_are) ∙ there)
 
     -- each that waits was unnamed before
     kept-unnamed : Keeps (queue_of socket) (queue_of later) → IsQueued n → (i id : ℕ) (s : ScriptSocket C)
@@ -117,7 +118,7 @@ module _ {C : Type 0} (w : Ways C) where
         → (i ≡ j) × (a ≡ b)
     kept-once keeps is i j a b id s t at_s at_t first second =
         let kept : (c : ℕ) (x : ScriptSocket C) → x ≡ later → slice_get (queue_of x) c ≡ Some id
-            → slice_get (queue_of socket) (keeps.place c) ≡ Some id =
+        → slice_get (queue_of socket) (keeps.place c) ≡ Some id =
         λ c x same waits. keeps.kept c id (subst (λ (y : ScriptSocket C). slice_get (queue_of y) c ≡ Some id) same waits) in
         each-socket i s at_s
         (λ here s_is.
@@ -136,13 +137,13 @@ module _ {C : Type 0} (w : Ways C) where
     set-unnamed named id is = elim (cases_eq k (id - 1)) [
       | inl same ↦
           let one = found-once n.sockets (id - 1) socket is.socket
-              (subst (λ (j : ℕ). slice_get n.sockets j ≡ Some socket) same at) is.at in
+          (subst (λ (j : ℕ). slice_get n.sockets j ≡ Some socket) same at) is.at in
           record {
             positive = is.positive;
             socket = later;
             at = ap (λ (l : List (ScriptSocket C)). slice_get l (id - 1)) sockets_are
                 ∙ subst (λ (j : ℕ). slice_get (slice_set n.sockets k later) j ≡ Some later) same
-                    (set-same n.sockets k socket later at);
+                (set-same n.sockets k socket later at);
             unnamed = ap is_name named ∙ (ap (λ (s : ScriptSocket C). is_name s.name) one ∙ is.unnamed);
           }
       | inr apart ↦ record {
@@ -204,7 +205,7 @@ module _ {C : Type 0} (w : Ways C) where
           (λ apart before. is.unnamed i other s before waits));
       once = λ i j a b other s t at_s at_t first second.
           waited-once id nowhere is i j a b other (waited-by id grows i a other s at_s first)
-              (waited-by id grows j b other t at_t second);
+          (waited-by id grows j b other t at_t second);
     }
 
   -- ---- events
@@ -219,7 +220,7 @@ module _ {C : Type 0} (w : Ways C) where
       → Queues event.act (queue_of socket) (queue_of (record socket { history = happened w socket.history 0 event }))
   event-waits socket event =
       subst (Queues event.act (queue_of socket)) (sym (later-queue socket event))
-          (step-waits w (state_of w socket.history) event.now event.act)
+      (step-waits w (state_of w socket.history) event.now event.act)
 
   -- an event by which nothing comes to wait
   pub event-queued : (n : Network C) (k : ℕ) (socket : ScriptSocket C) (event : Event) → slice_get n.sockets k ≡ Some socket
@@ -240,7 +241,7 @@ module _ {C : Type 0} (w : Ways C) where
         omega (arith, within)
     | inr past ↦ no_sockets a (length n.sockets + 1)
         (subst (λ (ids : List ℕ). slice_get ids a ≡ Some (length n.sockets + 1))
-            (ap queue_of (sym (only past.0 past.2)) ∙ none) waits)
+        (ap queue_of (sym (only past.0 past.2)) ∙ none) waits)
   ]
     where
       only : (j : ℕ) → slice_get (fresh ∷ []) j ≡ Some s → fresh ≡ s
@@ -258,7 +259,7 @@ module _ {C : Type 0} (w : Ways C) where
   offered-by n m k socket later id at sockets_are named fresh nowhere is (Grow other offer grows) =
       let same : other ≡ id = cc in
       grown-queued n m k socket later at sockets_are id named
-          (grows ∙ ap (λ (o : ℕ). queue_of socket ++ o ∷ []) same) fresh nowhere is
+      (grows ∙ ap (λ (o : ℕ). queue_of socket ++ o ∷ []) same) fresh nowhere is
   offered-by n m k socket later id at sockets_are named fresh nowhere is (Shrink accept shrinks) = absurd (cc)
 
   -- a socket that was just added comes to wait
@@ -277,7 +278,7 @@ module _ {C : Type 0} (w : Ways C) where
       } in
       offered-by more (event_at w more k socket (event now (Offer id))).network k socket
       (record socket { history = happened w socket.history 0 (event now (Offer id)) }) id
-          (append-first n.sockets (fresh ∷ []) k socket at)
+      (append-first n.sockets (fresh ∷ []) k socket at)
       refl refl new (next-nowhere n fresh none is) (added-queued n fresh none is) (event-waits socket (event now (Offer id)))
 
   -- ---- accepts
@@ -296,7 +297,7 @@ module _ {C : Type 0} (w : Ways C) where
       (λ here same.
       let place = place-among (queue_of later) id (subst (λ (t : ScriptSocket C). Contains (queue_of t) id) same waits) in
       let behind = rest-there (queue_of socket) place.0 id
-          (subst (λ (ids : List ℕ). slice_get ids place.0 ≡ Some id) takes.rest place.1) in
+      (subst (λ (ids : List ℕ). slice_get ids place.0 ≡ Some id) takes.rest place.1) in
       let once : 0 ≡ suc place.0 = (is.once k k 0 (suc place.0) id socket socket at at takes.first behind).1 in
       omega (arith, once))
       (λ apart before.
@@ -315,10 +316,10 @@ module _ {C : Type 0} (w : Ways C) where
         unnamed = λ i other s there waits.
             let before = kept-unnamed n after (id - 1) unnamed.socket named unnamed.at refl keeps is i other s there waits in
             let waits_before : other ≡ id → ⊥ = λ same. each-socket n after
-                (id - 1) unnamed.socket named unnamed.at refl i s there
+            (id - 1) unnamed.socket named unnamed.at refl i s there
             (λ here s_is. nowhere (id - 1) unnamed.socket unnamed.at
             (subst (Contains (queue_of unnamed.socket)) same
-                (subst (λ (t : ScriptSocket C). Contains (queue_of t) other) s_is waits)))
+            (subst (λ (t : ScriptSocket C). Contains (queue_of t) other) s_is waits)))
             (λ apart old. nowhere i s old (subst (Contains (queue_of s)) same waits)) in
             record {
               positive = before.positive;

@@ -9,7 +9,6 @@ use Rattle.udt_model.specs.declared.addresses.Addr.{Addr}
 use Rattle.udt_model.specs.declared.packets.Shake.{Shake}
 use Rattle.udt_model.specs.declared.routes.Routed.{Routed}
 use Rattle.udt_model.specs.declared.routes.Routed.TheVariants as routing
-use Rattle.udt_model.specs.Addresses.{same_addr}
 use Rattle.udt_model.specs.Events.{Arrive}
 use Rattle.udt_model.specs.Network as model
 use Rattle.udt_model.specs.Network.{is_host, is_pair, known_at}
@@ -24,7 +23,7 @@ use Rattle.udt_world.specs.declared.arrivals.Route.{Route}
 use Rattle.udt_world.specs.declared.arrivals.Route.TheVariants as goes_to
 use Rattle.udt_world.specs.Done.{GoesTo, IsRoute, IsRoutedAs}
 use Rattle.udt_world.specs.Views.{Sight, View, Shows, sight_of_history}
-use Rattle.udt_world.specs.Wiring.{MayHappen, adopts, first_with, is_any, is_here, listens, meets, peer_in, seen_at, sight_with}
+use Rattle.udt_world.specs.Wiring.{MayHappen, adopts, first_with, is_any, is_here, listens, meets, peer_in, seen_at}
 use Rattle.udt_world.proofs.CallLemmas.{some_at}
 use Rattle.udt_world.proofs.KnownLemmas.{known_seen, route_same}
 use Rattle.udt_world.proofs.PushLemmas.{first_passes}
@@ -162,8 +161,12 @@ module _ {C : Type 0} (w : Ways C) (n : model.Network C) (view : View C) (shows 
   to-socket id place there goes place_is =
       let here = stands view.sockets to from bytes id goes in
       let within : id - 1 < length n.sockets =
-      omega (arith, slice_get_within view.sockets (id - 1) here.sight here.at, ap length shows.sockets_are,
-        length-map n.sockets (sight_of_history w)) in
+      omega (
+        arith,
+        slice_get_within view.sockets (id - 1) here.sight here.at,
+        ap length shows.sockets_are,
+        length-map n.sockets (sight_of_history w),
+      ) in
       let known = some_at n.sockets (id - 1) within in
       let some : (id == 0) ≡ false = ne_eqb id 0 (λ e. absurd (omega (arith, here.some, e))) in
       (known.0, ap (slice_get n.sockets) place_is ∙ known.1, planned there ∙ rw (goes, some, known.1, place_is) refl)

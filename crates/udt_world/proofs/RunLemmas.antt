@@ -141,7 +141,11 @@ module _ {C : Type 0} (w : Ways C) where
   moved_count place happens old new moves =
       let count = ap length moves.sockets ∙ length-set (view_of old).sockets place _ in
       omega (
-        arith, count, length-map old.sockets.items sight_of, length-map new.sockets.items sight_of, old.sockets.ok.0,
+        arith,
+        count,
+        length-map old.sockets.items sight_of,
+        length-map new.sockets.items sight_of,
+        old.sockets.ok.0,
         new.sockets.ok.0,
       )
 
@@ -336,8 +340,12 @@ module _ {C : Type 0} (w : Ways C) where
   pub run_sockets : (run : Run C) (code : code_run.Run C) → IsRun w run code → vec_len code.network.sockets ≡ 2
   run_sockets run code is =
       omega (
-        arith, ap length is.shown.sockets_are, length-map code.network.sockets.items sight_of,
-        length-map run.network.sockets (sight_of_history w), ap length is.counts.sockets_are, code.network.sockets.ok.0,
+        arith,
+        ap length is.shown.sockets_are,
+        length-map code.network.sockets.items sight_of,
+        length-map run.network.sockets (sight_of_history w),
+        ap length is.counts.sockets_are,
+        code.network.sockets.ok.0,
       )
 
   -- ---- the end
@@ -413,7 +421,7 @@ module _ {C : Type 0} (w : Ways C) where
       let same : bytes ≡ counted_bytes (accepted_of (slice_get run.network.sockets 0)) (1 + draw run.state % 4096) =
       rw (sent, sym is.state) bytes_are in
       rw (sym same) (run_first run old new now (Send bytes) (count_in answer) (next_state run.state) is (λ n place socket. refl)
-          answers.moves took (state_is ∙ ap (λ s. next_state s) is.state) accepted_is delivered_is)
+      answers.moves took (state_is ∙ ap (λ s. next_state s) is.state) accepted_is delivered_is)
 
   -- b receives
   pub run_received : (run : Run C) (old new : code_run.Run C) (now room : ℕ) (into : List ℕ) (answer : Result ℕ Refusal)
@@ -427,7 +435,7 @@ module _ {C : Type 0} (w : Ways C) where
       let reply = reply_shown w run.network 1 is.counts.second (event now (Recv room)) _ _ _ is.shown there answers in
       let gave = given_is answer into _ within reply in
       run_second run old new now (Recv room) (count_in answer) run.state is (λ n place socket. refl) answers.moves gave
-          (state_is ∙ is.state) accepted_is delivered_is
+      (state_is ∙ is.state) accepted_is delivered_is
 
   -- an event of a that takes no bytes
   pub run_quiet_first : (run : Run C) (old new : code_run.Run C) (now : ℕ) (act : Act) → IsRun w run old → IsPlain now act
@@ -438,7 +446,7 @@ module _ {C : Type 0} (w : Ways C) where
   run_quiet_first run old new now act is plain none moves state_is accepted_is delivered_is =
       let took = sym (ap length (none (step w (state_of w is.counts.first.history) (event now act)).reply)) in
       run_first run old new now act 0 run.state is plain moves took (state_is ∙ is.state) (omega (arith, accepted_is))
-          delivered_is
+      delivered_is
 
   -- and a tick of b
   pub run_ticked_second : (run : Run C) (old new : code_run.Run C) (now : ℕ) → IsRun w run old
@@ -448,7 +456,7 @@ module _ {C : Type 0} (w : Ways C) where
   run_ticked_second run old new now is moves state_is accepted_is delivered_is =
       let gave = sym (ap (λ reply. length (given_by reply)) (tick_reply w (state_of w is.counts.second.history) now)) in
       run_second run old new now Tick 0 run.state is (λ n place socket. refl) moves gave (state_is ∙ is.state) accepted_is
-          (omega (arith, delivered_is))
+      (omega (arith, delivered_is))
 
   -- ---- deliveries
 

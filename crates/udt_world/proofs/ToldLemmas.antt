@@ -1,11 +1,9 @@
 -- A table that knows what is seen of the sockets at a host, and is told of one that changed, knows what is seen then.
-use Rattle.std.proofs.Common.{◌≡◌, ℕ, zero, suc, ◌+◌, ◌-◌, ◌≤◌, ◌<◌, Bool, true, false, not, ◌&&◌, cond, nat_eq, nat_lt, List, [], ◌∷◌, ◌++◌, length, Some, None, Option, is_some, eqb-true, eq-eqb, refl, ap, ◌∙◌, sym, subst, arith, inl, inr, ◌⊎◌}
+use Rattle.std.proofs.Common.{◌≡◌, ℕ, zero, suc, ◌+◌, ◌≤◌, ◌<◌, Bool, true, false, not, ◌&&◌, cond, nat_eq, nat_lt, List, [], ◌∷◌, ◌++◌, length, Some, None, Option, is_some, eqb-true, eq-eqb, refl, ap, ◌∙◌, sym, subst, arith, inl, inr}
 use Rattle.std.specs.Prelude.{slice_get, slice_set, sum_by, ◌==◌, if◌then◌else◌}
-use Rattle.std.specs.declared.cmp.Ordering.{Ordering}
-use Rattle.std.specs.declared.cmp.Ordering.TheVariants.{Less, Equal, Greater}
 use Rattle.std.specs.Ordering.{is_eq, nat_cmp}
 use Rattle.std.specs.Cmp.{eq_by_cmp_equiv, nat_cmp_total}
-use Rattle.std.specs.Map.{lookup, keys_of, remove_entry}
+use Rattle.std.specs.Map.{keys_of, remove_entry}
 use Rattle.std.specs.BTreeMap.{is_at, insert_entry}
 use Rattle.std.proofs.lemmas.Bool.{and_parts, cases_eq, ne_eqb}
 use Rattle.std.proofs.lemmas.Bool.Decides.{Decides-ltb}
@@ -20,18 +18,17 @@ use Rattle.udt_model.specs.Phases.{is_closed}
 use Rattle.udt_model.specs.Records.{PeerPair}
 use Rattle.udt_model.proofs.AddressLemmas.{same_addr-is}
 use Rattle.udt_laws.proofs.scripts.UnadoptedPair.{same-addr}
-use Rattle.udt_laws.proofs.scripts.ReplacedOne.{set-same, set-other, found-once}
-use Rattle.udt_routes.specs.Meets.{IsMetOnce, met_by, meeter_of, can_meet}
+use Rattle.udt_laws.proofs.scripts.ReplacedOne.{set-same, found-once}
+use Rattle.udt_routes.specs.Meets.{IsMetOnce, met_by, meeter_of}
 use Rattle.udt_routes.specs.Pairs.{Pair, same_pair, adopter_of, pair_of, IsAdoptedOnce}
-use Rattle.udt_routes.specs.Routing.{found_in, known_by}
 use Rattle.udt_routes.specs.Sorted.{value_at, IsRising}
 use Rattle.udt_routes.specs.Tables.{Table, what_of, listener_without, without}
 use Rattle.udt_world.specs.declared.hosts.TheConstants.{MOST_ENROLLED}
 use Rattle.udt_world.specs.Views.{Sight}
-use Rattle.udt_world.specs.Wiring.{AreSame, Knows, adopts, first_with, is_any, is_here, listens, meets, one_if, pair_in, peer_in, seen_at, sight_with, with_listener, with_met, with_pair, with_places, with_told}
-use Rattle.udt_world.proofs.FirstLemmas.{Only, Fails, first-found, first-fails, none-first, only-first, first-set, with-place, with-set, replaced-cases, sum-set, sum-below}
-use Rattle.udt_world.proofs.FollowLemmas.{AreOnce, Follows, MayFollow, both, met-is, is-met, pair-is, is-pair, here-parts, is-here, open-before, once-kept}
-use Rattle.udt_world.proofs.KeyLemmas.{same_id, is_same_id, other_id, rising_removed, rising_inserted, value_removed, value_inserted, length_removed, length_inserted}
+use Rattle.udt_world.specs.Wiring.{Knows, adopts, first_with, is_any, is_here, listens, meets, one_if, pair_in, peer_in, sight_with, with_listener, with_met, with_pair, with_places, with_told}
+use Rattle.udt_world.proofs.FirstLemmas.{Fails, first-found, none-first, only-first, first-set, with-place, with-set, replaced-cases, sum-set, sum-below}
+use Rattle.udt_world.proofs.FollowLemmas.{AreOnce, Follows, MayFollow, both, met-is, is-met, pair-is, is-pair, is-here, open-before, once-kept}
+use Rattle.udt_world.proofs.KeyLemmas.{is_same_id, other_id, rising_removed, rising_inserted, value_removed, value_inserted, length_removed, length_inserted}
 
 -- ---- adoptions
 

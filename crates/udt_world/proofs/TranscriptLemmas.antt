@@ -848,9 +848,9 @@ module _ {C : Type 0} (w : Ways C) where
       → BeganAs (record n { sockets = slice_set n.sockets k (record socket { name = name }) }) place fresh
   began-renamed n k name socket at unnamed place fresh named began =
       let apart : k ≡ place → ⊥ = λ same.
-          let one = found-once n.sockets place socket began.socket (subst (λ (j : ℕ). slice_get n.sockets j ≡ Some socket) same at) began.at in
-          let is : is_name socket.name ≡ true = ap (λ (s : ScriptSocket C). is_name s.name) one ∙ (ap is_name began.name ∙ named) in
-          true-false (sym is ∙ unnamed) in
+      let one = found-once n.sockets place socket began.socket (subst (λ (j : ℕ). slice_get n.sockets j ≡ Some socket) same at) began.at in
+      let is : is_name socket.name ≡ true = ap (λ (s : ScriptSocket C). is_name s.name) one ∙ (ap is_name began.name ∙ named) in
+      true-false (sym is ∙ unnamed) in
       record {
         socket = began.socket;
         at = set-other n.sockets k place _ apart ∙ began.at;
@@ -892,7 +892,7 @@ module _ {C : Type 0} (w : Ways C) where
       } in
       let here = here-renamed n k name socket at in
       let before : (j : ℕ) (found : ScriptSocket C) → (k ≡ j → ⊥) → slice_get (slice_set n.sockets k (record socket { name = name })) j ≡ Some found
-          → slice_get n.sockets j ≡ Some found = λ j found apart found_at. sym (set-other n.sockets k j _ apart) ∙ found_at in
+      → slice_get n.sockets j ≡ Some found = λ j found apart found_at. sym (set-other n.sockets k j _ apart) ∙ found_at in
       record {
         sockets = λ j found found_at. elim (cases_eq k j) [
           | inl same ↦ subst (λ (s : ScriptSocket C). Says s.name entries s.history) (found-once _ j _ found (here j same) found_at) mine

@@ -1,5 +1,5 @@
 -- What is kept under a name is the place of the first socket that is seen under it.
-use Rattle.std.proofs.Common.{◌≡◌, ℕ, List, Option, ap, ◌∙◌}
+use Rattle.std.proofs.Common.{◌≡◌, ℕ, List, ap, ◌∙◌}
 use Rattle.std.specs.BTreeMap.{get_by}
 use Rattle.udt_model.specs.Network as model
 use Rattle.udt_model.specs.Network.{place_of}

@@ -182,7 +182,7 @@ module _ {C : Type 0} where
       → Waits s act (repeats s began again next emission)
   repeats-waits s act next began again emission none =
       repeats-show s began again next emission (Waits s act)
-          (record { fails = Leave refl; again = Leave none; waits = Stay refl })
+      (record { fails = Leave refl; again = Leave none; waits = Stay refl })
 
   shakes-waits : (s : State C) (from : Addr) (raw : List ℕ) (next : Phase) (peer : Peer) (from_whom : Origin) (answer : Heard)
       (emissions : List Emission) → Shakes s from (read raw) next peer from_whom answer emissions

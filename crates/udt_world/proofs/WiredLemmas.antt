@@ -3,13 +3,12 @@ use Rattle.std.proofs.Common.{◌≡◌, ℕ, ◌+◌, ◌≤◌, ◌<◌, Bool,
 use Rattle.std.specs.Global.{Global}
 use Rattle.std.specs.Prelude.{slice_get, slice_set, vec_len, Vec}
 use Rattle.std.specs.List.{Contains}
-use Rattle.std.specs.Map.{lookup}
 use Rattle.std.proofs.lemmas.Bool.{cases_eq}
 use Rattle.std.proofs.lemmas.List.{length-set, length-map}
 use Rattle.std.proofs.lemmas.Option.{slice_get-map, slice_get_within}
 use Rattle.udt_model.specs.declared.addresses.Addr.{Addr}
 use Rattle.udt_model.specs.declared.limits.TheConstants.{MOST_SOCKETS}
-use Rattle.udt_model.specs.Events.{Act, Offer, event, at_moment}
+use Rattle.udt_model.specs.Events.{Act, event, at_moment}
 use Rattle.udt_model.specs.Network.{address_of_host}
 use Rattle.udt_model.specs.Rate.{Ways}
 use Rattle.udt_model.specs.Records.{PeerPair}
@@ -23,7 +22,7 @@ use Rattle.udt_world.specs.declared.network.Network.{Network}
 use Rattle.udt_world.specs.declared.network.ScriptHost.{ScriptHost}
 use Rattle.udt_world.specs.declared.network.ScriptSocket.{ScriptSocket}
 use Rattle.udt_world.specs.Views.{Sight, after_event, host_of, sight_of}
-use Rattle.udt_world.specs.Wiring.{FitsPhase, HasAddress, IsGiven, IsHalf, IsWired, KeepsAddresses, KeepsPlaces, Knows, MayHappen, one_if, pair_in, peer_in, place_seen, place_under, sights_of, waiting_at, with_told}
+use Rattle.udt_world.specs.Wiring.{FitsPhase, HasAddress, IsGiven, IsHalf, IsWired, KeepsAddresses, KeepsPlaces, Knows, MayHappen, one_if, pair_in, peer_in, place_seen, sights_of, waiting_at, with_told}
 use Rattle.udt_world.proofs.ActLemmas.{Acts, step-acts}
 use Rattle.udt_world.proofs.FirstLemmas.{position-set, replaced-cases, sum-below}
 use Rattle.udt_world.proofs.FollowLemmas.{AreOnce, Follows, MayFollow, once-kept}

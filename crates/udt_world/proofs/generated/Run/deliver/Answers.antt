@@ -42,7 +42,7 @@ returns-in-To-clause-run g c =
     (λ hears run is.
     let value = rw c.draw.ensures.next at c.in_ok-place.ensures.value in
     let goes = subst (λ r. IsRoute g.C.Control.ways run.network found.0 r) c.in-To.is
-        (value run.network found.0 is.shown found.1) in
+    (value run.network found.0 is.shown found.1) in
     run_delivered g.C.Control.ways run c.args.self.now _ c.args.now c.args.kind c.delivered_number-number.result is number within
     found.0 found.1 state accepted delivered c.in-To.place goes
     (moved_from g.C.Control.ways c.in-To.place _ (view_of network) (view_of c.route_of.new.self) _ same (hears found.0 there)))
@@ -84,7 +84,7 @@ returns-in-Nowhere-clause-run g c = λ run is.
     let same = endpoints_unseen g.C.Control.ways network c.route_of.new.self kept in
     let value = rw c.draw.ensures.next at c.in_ok-place.ensures.value in
     let goes = subst (λ r. IsRoute g.C.Control.ways run.network found.0 r) c.in-Nowhere.is
-        (value run.network found.0 is.shown found.1) in
+    (value run.network found.0 is.shown found.1) in
     run_dropped g.C.Control.ways run c.args.self.now _ c.args.now c.args.kind c.delivered_number-number.result is number within
     found.0 found.1 state accepted delivered c.in-Nowhere.field-0.now goes same
 

@@ -29,7 +29,7 @@ returns-then-kind-lt4-clause-run g c = on_ok_weaker c.pack.result
     let kind : c.draw-kind.result % 8 ≡ draw run.state % 8 =
     ap (λ d. d % 8) (c.draw-kind.ensures.value ∙ ap (λ s. draw s) is.state) in
     rw (turn_packs g.C.Control.ways run c.args.now _ kind (omega (arith, c.if-kind-eq0.false, c.if-kind-eq1.false))
-        (omega (arith, c.if-kind-lt4.true))) (packs _ drawn))
+    (omega (arith, c.if-kind-lt4.true))) (packs _ drawn))
     c.pack.ensures.run
 
 -- both tick
@@ -50,5 +50,5 @@ returns-clause-run g c = on_ok_weaker c.deliver.result
     let kind : c.draw-kind.result % 8 ≡ draw run.state % 8 =
     ap (λ d. d % 8) (c.draw-kind.ensures.value ∙ ap (λ s. draw s) is.state) in
     rw (turn_delivers g.C.Control.ways run c.args.now _ kind (omega (arith, c.if-kind-lt4.false, c.if-kind-eq4.false)))
-        (delivers _ drawn))
+    (delivers _ drawn))
     c.deliver.ensures.run

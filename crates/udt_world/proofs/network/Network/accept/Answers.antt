@@ -1,4 +1,4 @@
-use Rattle.std.proofs.Common.{length, refl, ap, ◌∙◌, sym, arith}
+use Rattle.std.proofs.Common.{length, refl, ◌∙◌, sym, arith}
 use Rattle.std.proofs.lemmas.List.{length-map, map-set}
 use Rattle.std.proofs.lemmas.Option.{slice_get_read}
 use Rattle.udt_world.specs.Views.{sight_of, view_of}

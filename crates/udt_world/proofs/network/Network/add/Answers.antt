@@ -1,4 +1,4 @@
-use Rattle.std.proofs.Common.{◌≡◌, List, Some, cond, length, map, refl, ap, ◌∙◌, sym, arith}
+use Rattle.std.proofs.Common.{List, Some, cond, length, refl, ap, ◌∙◌, sym, arith}
 use Rattle.std.specs.Prelude.{slice_get}
 use Rattle.std.specs.Map.{lookup}
 use Rattle.std.proofs.lemmas.Option.{slice_get_read, slice_get_within}

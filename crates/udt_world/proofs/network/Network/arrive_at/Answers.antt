@@ -59,8 +59,8 @@ returns-clause-done g c =
     let reads = c.handshake.ensures ∙ ap (λ (bytes : List ℕ). handshake_in (read bytes)) c.deref-2.ensures.value in
     let answers = replies happens.sight happens.found in
     let at = λ (n : model.Network _) (socket : model.ScriptSocket _)
-        (goes : model.route g.C.Control.ways n datagram ≡ model.ToSocket place socket).
-        (host-reached g.C.Control.ways n datagram place socket goes).0 in
+    (goes : model.route g.C.Control.ways n datagram ≡ model.ToSocket place socket).
+    (host-reached g.C.Control.ways n datagram place socket goes).0 in
     elim c.match-handshake.branch [
       | in-Some-Heard-Request w ↦
           let is : c.in_ok-reply.reply ≡ code.Heard heard.Request = cc in

@@ -1,4 +1,4 @@
-use Rattle.std.proofs.Common.{◌≡◌, length, refl, ◌∙◌, sym, arith}
+use Rattle.std.proofs.Common.{length, refl, ◌∙◌, sym, arith}
 use Rattle.std.proofs.lemmas.Option.{slice_get_read}
 use Rattle.std.proofs.lemmas.Result.{on_ok_weaker}
 use Rattle.udt_model.specs.Lines.{no_secret}
@@ -49,11 +49,11 @@ returns-in_ok-event-in_default-clause-done g c = λ n known shows there.
     let happens = c.in_ok-event-in_default.ensures.ok in
     let free : IsFree (sights_of network) happens.sight (act_of c.args.call.now) = elim c.in_default.branch [
       | in_default-via-in-Listen+else-has_listener w ↦
-        rw w.in-Listen.is (sym (w.has_listener.ensures happens.sight happens.found) ∙ w.if-has_listener.false)
+          rw w.in-Listen.is (sym (w.has_listener.ensures happens.sight happens.found) ∙ w.if-has_listener.false)
       | in_default-via-in-Meet+else-has_meeting w ↦
-        rw w.in-Meet.is (sym (w.has_meeting.ensures happens.sight happens.found) ∙ w.if-has_meeting.false)
+          rw w.in-Meet.is (sym (w.has_meeting.ensures happens.sight happens.found) ∙ w.if-has_meeting.false)
       | in_default-via-in_default w ↦
-        other_free (sights_of network) happens.sight c.args.call.now w.in_default.not-Listen w.in_default.not-Meet
+          other_free (sights_of network) happens.sight c.args.call.now w.in_default.not-Listen w.in_default.not-Meet
     ] in
     called g.C.Control.ways n (view_of network) shows c.args.place known there happens.sight happens.found
     c.args.now (act_of c.args.call.now) (view_of c.event.new.self) c.args.out.now.items c.event.new.out.items free happens

@@ -1,5 +1,4 @@
-use Rattle.std.proofs.Common.{◌≡◌, Some, length, refl, ap, ◌∙◌, sym, arith}
-use Rattle.std.specs.Prelude.{slice_get}
+use Rattle.std.proofs.Common.{◌≡◌, length, refl, ◌∙◌, sym, arith}
 use Rattle.std.proofs.lemmas.Option.{same_Some, slice_get_read}
 use Rattle.udt_routes.specs.Pairs.{adopter_of}
 use Rattle.udt_routes.specs.Routing.{found_in, known_by, route as table_route}

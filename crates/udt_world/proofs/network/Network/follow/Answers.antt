@@ -19,8 +19,11 @@ returns-then-not-has_room-clause-done g c = λ n listener s shows at host config
     let network = c.args.self.now in
     withdraw-does g.C.Control.ways n c.args.now c.args.place listener (datagram_of c.args.datagram.now) c.args.shake
     (view_of network) shows (view_of c.event.new.self) c.args.out.now.items c.event.new.out.items
-    (omega (arith, count-seen network,
-    no-room c.has_room.result (vec_len network.sockets) c.if-not-has_room.true c.has_room.ensures))
+    (omega (
+      arith,
+      count-seen network,
+      no-room c.has_room.result (vec_len network.sockets) c.if-not-has_room.true c.has_room.ensures,
+    ))
     c.in_ok-event.ensures.ok
 
 -- the socket that is made may be added
@@ -47,15 +50,22 @@ event-requires-2-clause-place g c =
 pub event-requires-2-clause-may : goal.event-requires-2-clause-may
 event-requires-2-clause-may g c =
     may-offer (sights_of c.add.new.self) c.args.place (c.len-count.result + 1) (omega arith)
-    (omega (arith, c.len-count.ensures, count-seen c.add.new.self,
-    count-more c.args.self.now c.add.new.self c.in_ok-named.field-0 c.in_ok-add.ensures.view))
+    (omega (
+      arith,
+      c.len-count.ensures,
+      count-seen c.add.new.self,
+      count-more c.args.self.now c.add.new.self c.in_ok-named.field-0 c.in_ok-add.ensures.view,
+    ))
 
 -- and given the request
 pub event-requires-3-clause-place : goal.event-requires-3-clause-place
 event-requires-3-clause-place g c =
-    omega (arith, c.len-count.ensures,
-    count-kept c.add.new.self c.event-2.new.self c.args.place _ c.in_ok-event-2.ensures.ok.sockets,
-    count-more c.args.self.now c.add.new.self c.in_ok-named.field-0 c.in_ok-add.ensures.view)
+    omega (
+      arith,
+      c.len-count.ensures,
+      count-kept c.add.new.self c.event-2.new.self c.args.place _ c.in_ok-event-2.ensures.ok.sockets,
+      count-more c.args.self.now c.add.new.self c.in_ok-named.field-0 c.in_ok-add.ensures.view,
+    )
 
 pub event-requires-3-clause-may : goal.event-requires-3-clause-may
 event-requires-3-clause-may g c =

@@ -1,4 +1,4 @@
-use Rattle.std.proofs.Common.{◌≡◌, length, is_some, refl, ap, ◌∙◌, arith}
+use Rattle.std.proofs.Common.{length, is_some, refl, ap, ◌∙◌, arith}
 use Rattle.std.proofs.lemmas.Option.{slice_get_read}
 use Rattle.udt_world.proofs.CallLemmas.{endpoint-within, listener-seen}
 use Rattle.udt_world.proofs.network.Network.has_listener.Goals as goal

@@ -1,4 +1,4 @@
-use Rattle.std.proofs.Common.{◌≡◌, length, is_some, refl, ap, ◌∙◌, sym, arith}
+use Rattle.std.proofs.Common.{length, is_some, refl, ap, ◌∙◌, sym, arith}
 use Rattle.std.proofs.lemmas.Option.{slice_get_read}
 use Rattle.udt_world.proofs.CallLemmas.{endpoint-within, meeting-seen, some-mapped, first-holds, then-asked, none-asked}
 use Rattle.udt_world.proofs.network.Network.has_meeting.Goals as goal

@@ -17,7 +17,7 @@ add-requires-clause-new g c =
     let p = c.args.pairing.now in
     let network = c.endpoint_of-2.new.self in
     let kept = c.in_ok-there.ensures.kept
-        ∙ ap (λ (m : Network _). record m { endpoints = network.endpoints }) c.in_ok-here.ensures.kept in
+    ∙ ap (λ (m : Network _). record m { endpoints = network.endpoints }) c.in_ok-here.ensures.kept in
     let count = ap (λ (m : Network _). vec_len m.sockets) kept in
     let may = c.if-not-may_pair.false in
     let room : vec_len c.args.self.now.sockets + 2 ≤ MOST_SOCKETS = c.may_pair.ensures.room may in
@@ -37,7 +37,7 @@ add-requires-2-clause-new g c =
     let mid = c.endpoint_of-2.new.self in
     let network = c.add.new.self in
     let kept = c.in_ok-there.ensures.kept
-        ∙ ap (λ (m : Network _). record m { endpoints = mid.endpoints }) c.in_ok-here.ensures.kept in
+    ∙ ap (λ (m : Network _). record m { endpoints = mid.endpoints }) c.in_ok-here.ensures.kept in
     let may = c.if-not-may_pair.false in
     let room : vec_len old.sockets + 2 ≤ MOST_SOCKETS = c.may_pair.ensures.room may in
     let sight = c.in_ok-named.ensures.sight ∙ ap (new_sight p.a.now first_host) c.in_ok-a.ensures in
@@ -60,7 +60,7 @@ returns-clause-done g c = λ n shows.
     let mid = c.endpoint_of-2.new.self in
     let first = c.add.new.self in
     let kept = c.in_ok-there.ensures.kept
-        ∙ ap (λ (m : Network _). record m { endpoints = mid.endpoints }) c.in_ok-here.ensures.kept in
+    ∙ ap (λ (m : Network _). record m { endpoints = mid.endpoints }) c.in_ok-here.ensures.kept in
     pair-does g.C.Control.ways n (pairing_of p) (view_of old) (view_of first) (view_of c.add-2.new.self) c.len-count.result
     c.args.out.now.items c.print_pair.new.out.items shows (sym (c.may_pair.ensures.may n shows) ∙ c.if-not-may_pair.false)
     (omega (arith, c.len-count.ensures, old.sockets.ok.0, length-map old.sockets.items sight_of))

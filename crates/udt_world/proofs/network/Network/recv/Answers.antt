@@ -20,7 +20,7 @@ returns-clause-value g c =
         sight = sight_of socket;
         hosts = refl;
         found = rw (slice_get-map sight_of network.sockets.items c.args.place, read) refl;
-        sockets = map-set sight_of network.sockets.items c.args.place (record socket { socket = c.recv.new.self }) 
+        sockets = map-set sight_of network.sockets.items c.args.place (record socket { socket = c.recv.new.self })
             ∙ ap (λ (s : _). slice_set (map sight_of network.sockets.items) c.args.place s)
             (quiet-same g.C.Control.ways (sight_of socket) (event c.args.now (Recv (length c.args.into.now))) c.recv.new.self _ c.recv.ensures.after c.recv.ensures.reply refl refl);
         datagrams = rw (recv_outs g.C.Control.ways socket.socket c.args.now (length c.args.into.now)) (sym (append-nil (map datagram_of network.datagrams.items)));

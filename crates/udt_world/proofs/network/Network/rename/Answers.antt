@@ -1,4 +1,4 @@
-use Rattle.std.proofs.Common.{◌≡◌, ◌-◌, ◌<◌, ℕ, List, Some, None, cond, length, map, refl, ap, ◌∙◌, sym, subst, arith, inr}
+use Rattle.std.proofs.Common.{◌-◌, ◌<◌, ℕ, List, Some, None, cond, length, refl, ap, ◌∙◌, sym, subst, arith, inr}
 use Rattle.std.specs.Prelude.{slice_get, slice_set}
 use Rattle.std.specs.Map.{lookup}
 use Rattle.std.proofs.lemmas.List.{map-set}
@@ -25,7 +25,7 @@ returns-clause-view g c = λ sight at.
     let read = slice_get_read network.sockets.items (length network.sockets.items) place socket refl within c.index_mut.ensures.value in
     let same = found-once (sights_of network) place (sight_of socket) sight (sight-at network place socket read) at in
     let named = ap (λ (name : List ℕ). record (sight_of socket) { name = name }) c.in_ok-self.ensures.items
-        ∙ ap (λ (s : Sight _). record s { name = c.args.name.now }) same in
+    ∙ ap (λ (s : Sight _). record s { name = c.args.name.now }) same in
     ap (λ (sights : List (Sight _)). record (view_of network) { sockets = sights })
     (map-set sight_of network.sockets.items place (record socket { name = c.in_ok-self.field-0 })
     ∙ ap (slice_set (sights_of network) place) named)
@@ -47,11 +47,21 @@ returns-clause-wired g c =
     let sights_are = map-set sight_of network.sockets.items place later in
     let key_is = c.in_ok-key.ensures.items ∙ sym c.in_ok-self.ensures.items in
     let was_is = c.as_slice.ensures.value
-        ∙ ap (λ (s : ScriptSocket _). s.name.items) (found-once network.sockets.items place c.index.result.now socket was read) in
+    ∙ ap (λ (s : ScriptSocket _). s.name.items) (found-once network.sockets.items place c.index.result.now socket was read) in
     let alike : IsAlike (sight_of socket) (sight_of later) =
-    record { host = refl; listened = refl; met = refl; look = record {
-      own = refl; closed = refl; origin = refl; peer = refl; waits = λ id has. has; fits = λ fits. fits;
-    } } in
+    record {
+      host = refl;
+      listened = refl;
+      met = refl;
+      look = record {
+        own = refl;
+        closed = refl;
+        origin = refl;
+        peer = refl;
+        waits = λ id has. has;
+        fits = λ fits. fits;
+      };
+    } in
     placed-wired network _ place socket later wired read alike refl refl sights_are refl refl refl
     (λ name. kept_after c.remove.new.self c.insert.new.self c.in_ok-key.key.items (Some place) c.in_ok-insert.ensures.updates name
     ∙ (ap (λ (key : List ℕ). cond (is_word key name) (Some place) (lookup (is_named name) c.remove.new.self.entries)) key_is

@@ -1,4 +1,4 @@
-use Rattle.std.proofs.Common.{◌≡◌, ℕ, ◌-◌, Some, refl, ◌∙◌, sym, subst, arith}
+use Rattle.std.proofs.Common.{◌≡◌, ℕ, ◌-◌, Some, ◌∙◌, sym, subst, arith}
 use Rattle.std.proofs.lemmas.List.{length-map}
 use Rattle.std.proofs.lemmas.Option.{slice_get_within}
 use Rattle.udt_model.specs.declared.addresses.Addr.{Addr}
@@ -44,8 +44,13 @@ returns-in-Some-clause-within g c = λ place is.
     let goes = c.destination.ensures.seen known.0 c.requires.wired known.1 in
     let so = socket-routed c.destination.result c.route_by.result place c.route_by.ensures is in
     let here = stands (sights_of network) known.0.addr c.args.from c.args.bytes.now so.0 (sym goes ∙ so.1) in
-    omega (arith, so.2, slice_get_within (sights_of network) (so.0 - 1) here.sight here.at, network.sockets.ok.0,
-      length-map network.sockets.items sight_of)
+    omega (
+      arith,
+      so.2,
+      slice_get_within (sights_of network) (so.0 - 1) here.sight here.at,
+      network.sockets.ok.0,
+      length-map network.sockets.items sight_of,
+    )
 
 -- and it may arrive there
 pub returns-in-Some-clause-may : goal.returns-in-Some-clause-may

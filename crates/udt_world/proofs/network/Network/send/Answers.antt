@@ -20,7 +20,7 @@ returns-clause-value g c =
         sight = sight_of socket;
         hosts = refl;
         found = rw (slice_get-map sight_of network.sockets.items c.args.place, read) refl;
-        sockets = map-set sight_of network.sockets.items c.args.place (record socket { socket = c.send.new.self }) 
+        sockets = map-set sight_of network.sockets.items c.args.place (record socket { socket = c.send.new.self })
             ∙ ap (λ (s : _). slice_set (map sight_of network.sockets.items) c.args.place s)
             (quiet-same g.C.Control.ways (sight_of socket) (event c.args.now (Send c.args.bytes.now)) c.send.new.self _ c.send.ensures.after c.send.ensures.reply refl refl);
         datagrams = rw (send_outs g.C.Control.ways socket.socket c.args.now c.args.bytes.now) (sym (append-nil (map datagram_of network.datagrams.items)));
