@@ -1,5 +1,5 @@
 -- Bytes that pass one after another, where they are told.
-use Rattle.std.proofs.Common.{◌≡◌, ℕ, ◌+◌, ◌<◌, ◌≤◌, List, [], ◌∷◌, ◌++◌, length, take, drop, refl, sym, ap, ◌∙◌, subst, append_assoc, arith, length-drop}
+use Rattle.std.proofs.Common.{◌≡◌, ℕ, zero, suc, ◌+◌, ◌<◌, ◌≤◌, List, [], ◌∷◌, ◌++◌, length, take, drop, refl, sym, ap, ◌∙◌, subst, append_assoc, arith, length-drop}
 use Rattle.std.specs.Prelude.{Option, Some, None}
 use Rattle.std.proofs.lemmas.List.{append-nil, take-append-drop, take_all}
 use Rattle.udt_model.specs.Emissions.{IsPrefix}
@@ -27,9 +27,9 @@ passed_from before first after some same p = subst (λ (o : Option (List ℕ)). 
 
 -- the first bytes of a list and the next ones are its first bytes
 pub take_then : (n m : ℕ) (xs : List ℕ) → take n xs ++ take m (drop n xs) ≡ take (n + m) xs
-take_then zero m xs = refl
+take_then zero m xs = grind arith
 take_then (suc n) m [] = grind arith
-take_then (suc n) m (x ∷ xs) = ap (λ (l : List ℕ). x ∷ l) (take_then n m xs)
+take_then (suc n) m (x ∷ xs) = ap (λ (l : List ℕ). x ∷ l) (take_then n m xs) ∙ grind arith
 
 pub passed_further : (all rest : List ℕ) (before after last : Option (List ℕ)) (n m : ℕ) → rest ≡ drop n all → Passed before after (take n all) → Passed after last (take m rest) → Passed before last (take (n + m) all)
 passed_further all rest before after last n m is p q =

@@ -1,5 +1,5 @@
 -- What a session that sends has sent.
-use Rattle.std.proofs.Common.{◌≡◌, ℕ, ◌+◌, ◌-◌, ◌<◌, ◌≤◌, List, [], ◌∷◌, ◌++◌, length, take, drop, refl, sym, ap, ◌∙◌, subst, append_assoc, arith, length-append, length-take}
+use Rattle.std.proofs.Common.{◌≡◌, ℕ, zero, suc, ◌+◌, ◌-◌, ◌<◌, ◌≤◌, List, [], ◌∷◌, ◌++◌, length, take, drop, refl, sym, ap, ◌∙◌, subst, append_assoc, arith, length-append, length-take}
 use Rattle.std.specs.Prelude.{Option, Some, None, IfSome}
 use Rattle.std.proofs.lemmas.List.{append-nil, take-append-drop, take_all, take_at, length-take-le, nil_from_length}
 use Rattle.udt_model.specs.Emissions.{IsPrefix}
@@ -29,7 +29,7 @@ read_then (Some left) after last some more (rest, is, cut) q =
     (r.0, r.1, cut ∙ ap (λ (l : List ℕ). some ++ l) r.2 ∙ sym (append_assoc some more r.0))
 
 -- a file that the source may have had: the one that it tells, or what was read
-file_of_source : Option (List ℕ) → List ℕ → List ℕ
+abbrev file_of_source : Option (List ℕ) → List ℕ → List ℕ
 file_of_source None done = done
 file_of_source (Some left) done = left
 
@@ -50,7 +50,7 @@ pub record IsSending (len more : ℕ) (left left_after before after : Option (Li
   pub sent : Passed before after done
 
 pub sending_first : (len : ℕ) (left before : Option (List ℕ)) → IsSending len len left left before before
-sending_first len left before = record { done = []; count = refl; read = read_none left; sent = passed_none before before refl }
+sending_first len left before = record { done = []; count = omega arith; read = read_none left; sent = passed_none before before refl }
 
 -- a prefix of so many bytes of the file
 prefix_within : (xs ys : List ℕ) (len : ℕ) → IsPrefix xs ys → length xs ≤ len → IsPrefix xs (take len ys)

@@ -2,8 +2,8 @@ use Rattle.std.proofs.Common.{◌≡◌, ◌+◌, ◌-◌, ◌^◌, ◌<◌, len
 use Rattle.udt_session.proofs.ReceiveLemmas.{IsReceiving}
 use Rattle.udt_session.proofs.receiving.recv_frame.Given as goal
 
-abbrev pub invariant-loop-reader : goal.invariant-loop-reader
-invariant-loop-reader g l = record {
+abbrev pub invariant-loop-pipe : goal.invariant-loop-pipe
+invariant-loop-pipe g l = record {
   sound : g.Q.Pipe.is_sound l.pipe;
   some : 0 < length l.buffer;
   receiving : IsReceiving l.reader (g.Q.Pipe.received l.fn.pipe) (g.Q.Pipe.received l.pipe) (g.K.Sink.taken l.fn.sink) (g.K.Sink.taken l.sink);
@@ -11,5 +11,5 @@ invariant-loop-reader g l = record {
   faults : g.K.Sink.faults l.sink ≡ g.K.Sink.faults l.fn.sink;
 }
 
-abbrev pub decreases-loop-reader : goal.decreases-loop-reader
-decreases-loop-reader g l = 12 + 2 ^ 64 - (length l.reader.head + l.reader.got)
+abbrev pub decreases-loop-pipe : goal.decreases-loop-pipe
+decreases-loop-pipe g l = 12 + 2 ^ 64 - (length l.reader.head + l.reader.got)
