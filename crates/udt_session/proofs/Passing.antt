@@ -25,11 +25,17 @@ passed_same before after last some p same = subst (λ (o : Option (List ℕ)). P
 pub passed_from : (before first after : Option (List ℕ)) (some : List ℕ) → first ≡ before → Passed first after some → Passed before after some
 passed_from before first after some same p = subst (λ (o : Option (List ℕ)). Passed o after some) same p
 
+take_nil : (n : ℕ) → take {A = ℕ} n [] ≡ []
+take_nil zero = refl
+take_nil (suc n) = refl
+
 -- the first bytes of a list and the next ones are its first bytes
 pub take_then : (n m : ℕ) (xs : List ℕ) → take n xs ++ take m (drop n xs) ≡ take (n + m) xs
 take_then zero m xs = grind arith
-take_then (suc n) m [] = grind arith
-take_then (suc n) m (x ∷ xs) = ap (λ (l : List ℕ). x ∷ l) (take_then n m xs) ∙ grind arith
+take_then (suc n) m [] = take_nil m ∙ sym (take_nil (suc n + m))
+take_then (suc n) m (x ∷ xs) =
+    let count : suc (n + m) ≡ suc n + m = omega arith in
+    ap (λ (l : List ℕ). x ∷ l) (take_then n m xs) ∙ ap (λ (k : ℕ). take k (x ∷ xs)) count
 
 pub passed_further : (all rest : List ℕ) (before after last : Option (List ℕ)) (n m : ℕ) → rest ≡ drop n all → Passed before after (take n all) → Passed after last (take m rest) → Passed before last (take (n + m) all)
 passed_further all rest before after last n m is p q =

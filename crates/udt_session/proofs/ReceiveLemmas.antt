@@ -156,7 +156,7 @@ frame_header fed (file, fits, frame) = (length file, fits, (take (length file) f
 -- ---- each piece brings the end nearer
 
 follows : (b : Bool) (B F : Type 0) → MatchBool b (¬ B) F → B → F
-follows true B F no b = absurd (no b)
+follows true B F none b = absurd (none b)
 follows false B F f b = f
 
 known : (reader : Reading) (fed : List ℕ) → WasFed reader fed → BeginsFrame fed → length reader.head + reader.got ≡ length fed

@@ -53,7 +53,7 @@ fn recv_frame<K: Sink, Q: Pipe, R: Wait + Copy + Send + Sync>(
         match pipe.recv(rt, buffer) {
             Ok(count) => match reader.feed(&buffer[..count]) {
                 Ok(bytes) => {
-                    if write_all(sink, bytes).is_err() {
+                    if let Err(Failed) = write_all(sink, bytes) {
                         return Err(SessionNo::FileFault);
                     }
                 }
