@@ -1,6 +1,6 @@
 -- What a session that receives has stored.
 use Rattle.std.proofs.Common.{◌≡◌, ℕ, zero, suc, ◌+◌, ◌-◌, ◌^◌, ◌<◌, ◌≤◌, ◌⊎◌, inl, inr, Bool, true, false, List, [], ◌∷◌, ◌++◌, length, take, drop, refl, sym, ap, ◌∙◌, subst, append_assoc, arith, length-append, length-take, length-drop}
-use Rattle.std.specs.Prelude.{Option, Some, None}
+use Rattle.std.specs.Prelude.{Option}
 use Rattle.std.specs.Int.{w64, from_be_bytes}
 use Rattle.std.specs.Bool.{MatchBool}
 use Rattle.std.proofs.lemmas.List.{append-nil, take-append-drop, take_all, take_at, drop_at, nil_from_length}
@@ -10,7 +10,7 @@ use Rattle.udt_framing.specs.Framing.{header_of, framed, framing_of, BeginsFrame
 use Rattle.udt_framing.specs.Readers.{Reading, FollowsFrame, WasFed}
 use Rattle.udt_session.specs.Told.{Passed}
 use Rattle.udt_session.specs.Sending.{SendsOf}
-use Rattle.udt_session.specs.Receiving.{IsToldBy, IsStoredOf, Stores, StoresAll, IsAnswer, Receives}
+use Rattle.udt_session.specs.Receiving.{IsToldBy, Stores, StoresAll, IsAnswer, Receives}
 use Rattle.udt_session.proofs.Passing.{passed_none, passed_then, passed_same, passed_from}
 
 -- a header has twelve bytes, and no two lengths have the same

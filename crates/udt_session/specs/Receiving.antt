@@ -1,5 +1,5 @@
 -- What a session that receives has received, stored and answered.
-use Rattle.std.specs.Prelude.{◌≡◌, ℕ, ◌^◌, ◌<◌, ◌≤◌, ◌⊎◌, List, [], ◌∷◌, ◌++◌, length, Option}
+use Rattle.std.specs.Prelude.{◌≡◌, ℕ, ◌^◌, ◌<◌, ◌≤◌, ◌⊎◌, List, [], ◌∷◌, length, Option}
 use Rattle.udt_model.specs.Emissions.{IsPrefix}
 use Rattle.udt_outside.specs.Faults.{Rose}
 use Rattle.udt_framing.specs.Framing.{header_of, framed, framing_of, BeginsFrame, file_of}

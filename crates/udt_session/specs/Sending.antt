@@ -1,9 +1,8 @@
 -- What a session that sends has sent of a file.
-use Rattle.std.specs.Prelude.{◌≡◌, ℕ, ◌<◌, ◌≤◌, List, [], ◌∷◌, ◌++◌, length, take, Option, IfSome}
+use Rattle.std.specs.Prelude.{◌≡◌, ℕ, ◌<◌, ◌≤◌, List, [], ◌∷◌, length, take, Option, IfSome}
 use Rattle.udt_model.specs.Emissions.{IsPrefix}
 use Rattle.udt_outside.specs.Faults.{Rose}
 use Rattle.udt_outside.specs.Options.{Tells}
-use Rattle.udt_framing.specs.Framing.{framed}
 use Rattle.udt_session.specs.Told.{Passed, WasRead}
 use Rattle.udt_session.specs.declared.fault.Fault.{Fault}
 use Rattle.udt_session.specs.declared.session.SessionNo.{SessionNo}

@@ -1,5 +1,5 @@
 use Rattle.std.proofs.Common.{◌≡◌, ◌<◌, ◌^◌, ◌++◌, length, take, true, refl, ◌∙◌, arith}
-use Rattle.std.proofs.lemmas.List.{length-take, length-take-le}
+use Rattle.std.proofs.lemmas.List.{length-take-le}
 use Rattle.udt_session.proofs.Passing.{passed_then}
 use Rattle.udt_session.proofs.ReceiveLemmas.{receiving_first, receiving_next, stores_so_far, stores_part, stores_none, stores_all, frame_header, nearer}
 use Rattle.udt_session.proofs.receiving.recv_frame.Goals as goal
@@ -65,7 +65,7 @@ pub returns-in-Some-clause-ok : goal.returns-in-Some-clause-ok
 returns-in-Some-clause-ok g c =
     let s = c.loop-pipe.invariant.receiving in
     let yes : c.whole.result ≡ true = grind (arith, c.loop-pipe-test.false) in
-    let fits : c.in-Some.len < 2 ^ 64 = ? in
+    let fits : c.in-Some.len < 2 ^ 64 = omega arith in
     stores_all _ _ _ _ _ s c.in-Some.len fits ((c.whole.ensures s.fed s.was).0 yes) (c.in-Some.ensures.some s.fed s.was)
 
 pub returns-in-None-clause-stores : goal.returns-in-None-clause-stores

@@ -1,4 +1,4 @@
-use Rattle.std.proofs.Common.{◌≡◌, length}
+use Rattle.std.proofs.Common.{◌≡◌}
 use Rattle.udt_session.proofs.SendLemmas.{IsSending}
 use Rattle.udt_session.proofs.sending.send_body.Given as goal
 
