@@ -1,5 +1,7 @@
 // Sessions worked by hand, over a pipe of two lists of bytes.
 
+ghost use Rattle.std.specs.Prelude.{◌≤◌, vec_len};
+
 use crate::{Fault, Pipe, SessionNo, recv_session, send_session};
 use std::alloc::Global;
 use std::sync::Wait;
@@ -7,43 +9,56 @@ use std::test::Fail;
 use udt_model::Cause;
 use udt_outside::{MemorySink, MemorySource};
 
-// the bytes that are to come, how many of them came, and the bytes that went. A call moves at most
-// three bytes, and the peer shuts down once all have come
+// the bytes that are to come, how many of them came, the bytes that went, and the last fault. A call
+// moves at most three bytes, and the peer shuts down once all have come
 #[derive(Drop)]
 struct ListPipe {
     coming: Vec<u8>,
     came: usize,
     went: Vec<u8>,
+    refusal: Option<Fault>,
+    ghost within: { came ≤ vec_len coming },
 }
 
 impl Pipe for ListPipe {
-    ghost use Rattle.std.specs.Prelude.{◌≡◌, ◌≤◌, ◌<◌, ℕ, List, Some, length, take, OnErr, IfOk, IfErr, None, Option};
-    ghost use Rattle.udt_outside.specs.Streams.{Takes};
+    ghost use Rattle.std.specs.Prelude.{◌≡◌, Some, take};
 
-    ghost sent = { λ p. None {A = List ℕ} };
+    ghost sent = { λ p. Some p.went.items };
 
-    ghost received = { λ p. None {A = List ℕ} };
+    ghost received = { λ p. Some (take p.came p.coming.items) };
 
     ghost is_sound = { λ p. Unit {0} };
 
-    ghost is_refused_by = { λ p fault. Unit {0} };
+    ghost is_refused_by = { λ p fault. p.refusal ≡ Some fault };
 
-    fn send<R: Wait + Copy + Send + Sync>(&mut self, rt: &R, bytes: &[u8]) -> Result<usize, Fault>
-    {
+    fn send<R: Wait + Copy + Send + Sync>(
+        &mut self,
+        rt: &R,
+        bytes: &[u8],
+    ) -> Result<usize, Fault> {
         let n = bytes.len().min(3);
         match self.went.extend_from_slice(&bytes[..n]) {
             Ok(()) => Ok(n),
-            Err(_) => Err(Fault::OutOfMemory),
+            Err(_) => {
+                self.refusal = Some(Fault::OutOfMemory);
+                Err(Fault::OutOfMemory)
+            }
         }
     }
 
-    fn recv<R: Wait + Copy + Send + Sync>(&mut self, rt: &R, into: &mut [u8]) -> Result<usize, Fault>
-    {
-        let n = into.len().min(3).min(self.coming.len() - self.came);
+    fn recv<R: Wait + Copy + Send + Sync>(
+        &mut self,
+        rt: &R,
+        into: &mut [u8],
+    ) -> Result<usize, Fault> {
+        let rest = &self.coming[self.came..];
+        let n = into.len().min(3).min(rest.len());
         if n == 0 {
-            return Err(Fault::ConnLost(Cause::PeerShutdown));
+            let lost = Fault::ConnLost(Cause::PeerShutdown);
+            self.refusal = Some(lost);
+            return Err(lost);
         }
-        into[..n].copy_from_slice(&self.coming[self.came..self.came + n]);
+        into[..n].copy_from_slice(&rest[..n]);
         self.came += n;
         Ok(n)
     }
@@ -54,6 +69,7 @@ fn pipe_of(alloc: Global, coming: &[u8]) -> Result<ListPipe, Fail> {
         coming: Vec::from_slice(alloc, coming)?,
         came: 0,
         went: Vec::new(alloc),
+        refusal: None,
     })
 }
 
