@@ -39,7 +39,7 @@ take_then (suc n) m (x ∷ xs) =
 pub passed_further : (all rest : List ℕ) (before after last : Option (List ℕ)) (n m : ℕ) → rest ≡ drop n all → Passed before after (take n all) → Passed after last (take m rest) → Passed before last (take (n + m) all)
 passed_further all rest before after last n m is p q =
     subst (λ (l : List ℕ). Passed before last l) (take_then n m all)
-      (passed_then before after last (take n all) (take m (drop n all)) p (subst (λ (l : List ℕ). Passed after last (take m l)) is q))
+    (passed_then before after last (take n all) (take m (drop n all)) p (subst (λ (l : List ℕ). Passed after last (take m l)) is q))
 
 pub within_further : (all rest : List ℕ) (n m : ℕ) → rest ≡ drop n all → n ≤ length all → m ≤ length rest → n + m ≤ length all
 within_further all rest n m is le more = omega (arith, ap length is, length-drop n all, le, more)

@@ -32,7 +32,11 @@ pub trait Pipe {
         ensures refused { IfErr result (λ fault. is_refused_by self.new fault) };
 
     /// Waits until bytes have come, moves the next ones to the front of `into`, and answers how many.
-    fn recv<R: Wait + Copy + Send + Sync>(&mut self, rt: &R, into: &mut [u8]) -> Result<usize, Fault>
+    fn recv<R: Wait + Copy + Send + Sync>(
+        &mut self,
+        rt: &R,
+        into: &mut [u8],
+    ) -> Result<usize, Fault>
         requires { is_sound self.old }
         ensures sound { is_sound self.new }
         ensures within { IfOk result (λ n. n ≤ length into.old) }

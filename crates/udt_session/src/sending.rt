@@ -43,7 +43,9 @@ fn room_of(buffer: &mut [u8], more: u64) -> &mut [u8]
     ensures some { 0 < length result.now }
     ensures most { length result.now ≤ more }
 {
-    let most = usize::try_from(more).unwrap_or(usize::MAX).min(buffer.len());
+    let most = usize::try_from(more)
+        .unwrap_or(usize::MAX)
+        .min(buffer.len());
     &mut buffer[..most]
 }
 

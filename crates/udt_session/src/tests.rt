@@ -31,11 +31,7 @@ impl Pipe for ListPipe {
 
     ghost is_refused_by = { λ p fault. p.refusal ≡ Some fault };
 
-    fn send<R: Wait + Copy + Send + Sync>(
-        &mut self,
-        rt: &R,
-        bytes: &[u8],
-    ) -> Result<usize, Fault> {
+    fn send<R: Wait + Copy + Send + Sync>(&mut self, rt: &R, bytes: &[u8]) -> Result<usize, Fault> {
         let n = bytes.len().min(3);
         match self.went.extend_from_slice(&bytes[..n]) {
             Ok(()) => Ok(n),
@@ -99,8 +95,11 @@ fn sends_a_file_and_hears_the_answer(rt: HostRuntime) -> Result<(), Fail> {
 fn fails_with_its_cause_where_it_sends(rt: HostRuntime) -> Result<(), Fail> {
     let lost = SessionNo::Lost(Fault::ConnLost(Cause::PeerShutdown));
     let short = SessionNo::FileShort { told: 4, read: 3 };
-    let answers: [(u64, &[u8], SessionNo); 3] =
-        [(3, b"k", SessionNo::BadFraming), (3, b"", lost), (4, b"K", short)];
+    let answers: [(u64, &[u8], SessionNo); 3] = [
+        (3, b"k", SessionNo::BadFraming),
+        (3, b"", lost),
+        (4, b"K", short),
+    ];
     for (len, answer, no) in answers {
         let mut pipe = pipe_of(rt.alloc(), answer)?;
         let mut source = source_of(rt.alloc(), b"ABC")?;
@@ -116,7 +115,10 @@ fn fails_with_its_cause_where_it_sends(rt: HostRuntime) -> Result<(), Fail> {
     let mut pipe = pipe_of(rt.alloc(), b"K")?;
     let sent = send_session(&rt, &mut source, 3, &mut pipe, &mut [0; 8]);
     assert_eq!(rt; sent, Err(SessionNo::FileFault));
-    assert_eq!(rt; pipe.went.as_slice(), b"UDTF\0\0\0\0\0\0\0\x03AB".as_slice());
+    assert_eq!(rt;
+        pipe.went.as_slice(),
+        b"UDTF\0\0\0\0\0\0\0\x03AB".as_slice()
+    );
     Ok(())
 }
 
@@ -129,7 +131,9 @@ fn receives_a_file_and_answers(rt: HostRuntime) -> Result<(), Fail> {
     ];
     for (frame, file) in frames {
         let mut pipe = pipe_of(rt.alloc(), frame)?;
-        let mut sink = MemorySink::new(rt.alloc(), 10, 2, Vec::new(rt.alloc())).expect(&rt, "memory");
+        let mut sink = MemorySink::new(rt.alloc(), 10, 2, Vec::new(rt.alloc())).expect(
+            &rt, "memory",
+        );
         let mut buffer = [0; 5];
         let received = recv_session(&rt, &mut sink, &mut pipe, &mut buffer);
         assert_eq!(rt; received, Ok(file.len() as u64));
@@ -149,11 +153,17 @@ fn answers_nothing_where_it_fails(rt: HostRuntime) -> Result<(), Fail> {
         (b"UDTX\0\0\0\0\0\0\0\x02AB", bad, b""),
         (b"UDTF\0\0\0\0\0\0\0\x02ABC", bad, b""),
         (b"UDTF\0\0\0\0\0\0\0\x04ABCDE", bad, b"ABC"),
-        (b"UDTF\0\0\0\0\0\0\0\x06ABCDEF", SessionNo::FileFault, b"ABCDE"),
+        (
+            b"UDTF\0\0\0\0\0\0\0\x06ABCDEF",
+            SessionNo::FileFault,
+            b"ABCDE",
+        ),
     ];
     for (frame, no, stored) in frames {
         let mut pipe = pipe_of(rt.alloc(), frame)?;
-        let mut sink = MemorySink::new(rt.alloc(), 5, 5, Vec::new(rt.alloc())).expect(&rt, "memory");
+        let mut sink = MemorySink::new(rt.alloc(), 5, 5, Vec::new(rt.alloc())).expect(
+            &rt, "memory",
+        );
         let received = recv_session(&rt, &mut sink, &mut pipe, &mut [0; 5]);
         assert_eq!(rt; received, Err(no), "after {frame:?}");
         assert_eq!(rt; sink.taken(), stored, "after {frame:?}");

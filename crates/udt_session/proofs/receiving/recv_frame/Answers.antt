@@ -38,7 +38,7 @@ loop-pipe-smaller g c =
     let s = c.loop-pipe.invariant.receiving in
     let size : length (take c.in-Ok.count c.recv.new.into) ≡ c.in-Ok.count = length-take-le c.in-Ok.count c.recv.new.into (omega (arith, c.in-Ok.ensures.within, c.recv.auto.into)) in
     nearer _ _ s.fed (take c.in-Ok.count c.recv.new.into) s.was s.begins (c.feed.ensures.next s.fed s.was) (c.in-Ok-feed.ensures.begins s.fed s.was)
-      (omega (arith, size, c.in-Ok.ensures.some c.loop-pipe.invariant.some))
+    (omega (arith, size, c.in-Ok.ensures.some c.loop-pipe.invariant.some))
 
 -- the piece ends every frame
 pub returns-in-Err-feed-clause-stores : goal.returns-in-Err-feed-clause-stores
