@@ -153,7 +153,7 @@ module _ (reader : Reading) (heard now kept stored_now : Option (List ℕ)) (s :
 pub frame_header : (fed : List ℕ) → IsFrame fed → (len : ℕ) × (len < 2 ^ 64) × IsPrefix (header_of len) fed
 frame_header fed (file, fits, frame) = (length file, fits, (take (length file) file, frame))
 
--- ---- each piece brings the end nearer
+-- ---- after each piece the end is nearer
 
 follows : (b : Bool) (B F : Type 0) → MatchBool b (¬ B) F → B → F
 follows true B F none b = absurd (none b)

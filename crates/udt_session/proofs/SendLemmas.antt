@@ -42,7 +42,7 @@ begins_with_read : (left after : Option (List ℕ)) (done : List ℕ) → WasRea
 begins_with_read None after done read = ([], sym (append-nil done))
 begins_with_read (Some left) after done (rest, is, cut) = (rest, cut)
 
--- of a source so many bytes were read and sent, and so many are to come
+-- bytes of a source were read and sent, and `more` are to come
 pub record IsSending (len more : ℕ) (left left_after before after : Option (List ℕ)) : Type 0 where
   pub done : List ℕ
   pub count : length done + more ≡ len
@@ -52,7 +52,7 @@ pub record IsSending (len more : ℕ) (left left_after before after : Option (Li
 pub sending_first : (len : ℕ) (left before : Option (List ℕ)) → IsSending len len left left before before
 sending_first len left before = record { done = []; count = omega arith; read = read_none left; sent = passed_none before before refl }
 
--- a prefix of so many bytes of the file
+-- a prefix that is short enough is one of the first bytes
 prefix_within : (xs ys : List ℕ) (len : ℕ) → IsPrefix xs ys → length xs ≤ len → IsPrefix xs (take len ys)
 prefix_within [] ys len p le = (take len ys, refl)
 prefix_within (x ∷ xs) ys zero p le = absurd (omega (arith, le))

@@ -8,7 +8,7 @@ use Rattle.udt_session.specs.declared.fault.Fault.{Fault}
 use Rattle.udt_session.specs.declared.session.SessionNo.{SessionNo}
 use Rattle.udt_session.specs.declared.session.SessionNo.TheVariants as no
 
--- the bytes begin with the header of a length, and no more than so many are meant
+-- the bytes begin with the header of a length, and it is at least this count
 pub record IsToldBy (got : List ℕ) (count : ℕ) : Type 0 where
   pub len : ℕ
   pub fits : len < 2 ^ 64

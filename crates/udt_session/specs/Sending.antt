@@ -20,7 +20,7 @@ pub record SendsPrefix (made_of : List ℕ → List ℕ) (left before after : Op
   pub own : Tells left file
   pub sends : SendsOf (made_of file) before after
 
--- and all of it: the source had so many bytes, and these were read
+-- and all of it: the source had `len` bytes, and these were read
 pub record SendsAll (len : ℕ) (made_of : List ℕ → List ℕ) (left left_after before after : Option (List ℕ)) : Type 0 where
   pub file : List ℕ
   pub own : Tells left file
@@ -34,8 +34,8 @@ pub record HeardOther (before after : Option (List ℕ)) : Type 0 where
   pub other : ¬ (byte ≡ 75)
   pub heard : Passed before after (byte ∷ [])
 
--- why it failed: the pipe stands refused, the count of the source's faults rose, the source ended after so
--- many bytes, or another byte than K was answered
+-- why it failed: the pipe stands refused, the count of the source's faults rose, the source ended after that number of
+-- bytes, or another byte than K was answered
 abbrev pub WhyNotSent : (Fault → Type 0) → ℕ → ℕ → Option (List ℕ) → ℕ → Option (List ℕ) → Option (List ℕ) → SessionNo → Type 0
 WhyNotSent IsRefused faults faults_after left len heard heard_after (no.Lost fault) = IsRefused fault
 WhyNotSent IsRefused faults faults_after left len heard heard_after no.FileFault = Rose faults faults_after

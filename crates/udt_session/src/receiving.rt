@@ -41,7 +41,8 @@ fn recv_frame<K: Sink, Q: Pipe, R: Wait + Copy + Send + Sync>(
     requires sound { Q.is_sound pipe.old }
     requires buffer { 0 < length buffer.old }
     ensures sound { Q.is_sound pipe.new }
-    ensures stores { Stores (Q.received pipe.old) (Q.received pipe.new) (K.taken sink.old) (K.taken sink.new) }
+    ensures stores { Stores (Q.received pipe.old) (Q.received pipe.new)
+        (K.taken sink.old) (K.taken sink.new) }
     ensures ok { IfOk result (λ len. StoresAll len (Q.received pipe.old) (Q.received pipe.new)
         (K.taken sink.old) (K.taken sink.new)) }
     ensures sent_kept { Q.sent pipe.new ≡ Q.sent pipe.old }
