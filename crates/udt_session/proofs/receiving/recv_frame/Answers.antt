@@ -1,7 +1,8 @@
 use Rattle.std.proofs.Common.{◌≡◌, ◌<◌, ◌^◌, ◌++◌, length, take, true, refl, ◌∙◌, arith}
 use Rattle.std.proofs.lemmas.List.{length-take-le}
 use Rattle.udt_session.proofs.Passing.{passed_then}
-use Rattle.udt_session.proofs.ReceiveLemmas.{receiving_first, receiving_next, stores_so_far, stores_part, stores_none, stores_all, frame_header, nearer}
+use Rattle.udt_session.proofs.ReceiveLemmas.{receiving_first, receiving_next, stores_so_far, stores_part, stores_none}
+use Rattle.udt_session.proofs.ReceiveLemmas.{stores_all, frame_header, nearer}
 use Rattle.udt_session.proofs.receiving.recv_frame.Goals as goal
 
 -- nothing came yet
@@ -18,7 +19,8 @@ loop-pipe-init g c = record {
 pub returns-in-Err-write_all-clause-stores : goal.returns-in-Err-write_all-clause-stores
 returns-in-Err-write_all-clause-stores g c =
     let s = c.loop-pipe.invariant.receiving in
-    stores_part _ _ _ _ _ s _ _ _ _ c.in-Ok.ensures.ok (c.in-Ok-feed.ensures.begins s.fed s.was) (c.in-Ok-feed.ensures.value s.fed s.was) c.write_all.ensures.taken
+    stores_part _ _ _ _ _ s _ _ _ _ c.in-Ok.ensures.ok (c.in-Ok-feed.ensures.begins s.fed s.was)
+          (c.in-Ok-feed.ensures.value s.fed s.was) c.write_all.ensures.taken
 
 -- all of them were
 pub loop-pipe-preserved : goal.loop-pipe-preserved
@@ -27,7 +29,8 @@ loop-pipe-preserved g c =
     record {
       sound = c.recv.ensures.sound;
       some = omega (arith, c.loop-pipe.invariant.some, c.recv.auto.into);
-      receiving = receiving_next _ _ _ _ _ s _ _ _ _ _ (c.feed.ensures.next s.fed s.was) c.in-Ok.ensures.ok (c.in-Ok-feed.ensures.begins s.fed s.was) (c.in-Ok-feed.ensures.value s.fed s.was) c.in_default.ensures.ok;
+      receiving = receiving_next _ _ _ _ _ s _ _ _ _ _ (c.feed.ensures.next s.fed s.was) c.in-Ok.ensures.ok
+            (c.in-Ok-feed.ensures.begins s.fed s.was) (c.in-Ok-feed.ensures.value s.fed s.was) c.in_default.ensures.ok;
       sent = c.recv.ensures.sent_kept ∙ c.loop-pipe.invariant.sent;
       faults = c.in_default.ensures.faults_kept ∙ c.loop-pipe.invariant.faults;
     }
@@ -36,8 +39,10 @@ loop-pipe-preserved g c =
 pub loop-pipe-smaller : goal.loop-pipe-smaller
 loop-pipe-smaller g c =
     let s = c.loop-pipe.invariant.receiving in
-    let size : length (take c.in-Ok.count c.recv.new.into) ≡ c.in-Ok.count = length-take-le c.in-Ok.count c.recv.new.into (omega (arith, c.in-Ok.ensures.within, c.recv.auto.into)) in
-    nearer _ _ s.fed (take c.in-Ok.count c.recv.new.into) s.was s.begins (c.feed.ensures.next s.fed s.was) (c.in-Ok-feed.ensures.begins s.fed s.was)
+    let size : length (take c.in-Ok.count c.recv.new.into) ≡ c.in-Ok.count = length-take-le c.in-Ok.count c.recv.new.into
+          (omega (arith, c.in-Ok.ensures.within, c.recv.auto.into)) in
+    nearer _ _ s.fed (take c.in-Ok.count c.recv.new.into) s.was s.begins (c.feed.ensures.next s.fed s.was)
+          (c.in-Ok-feed.ensures.begins s.fed s.was)
     (omega (arith, size, c.in-Ok.ensures.some c.loop-pipe.invariant.some))
 
 -- the piece ends every frame

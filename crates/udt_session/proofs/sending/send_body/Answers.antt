@@ -12,7 +12,8 @@ pub returns-in-Err-send_all-clause-sent : goal.returns-in-Err-send_all-clause-se
 returns-in-Err-send_all-clause-sent g c =
     let size : length (take c.in-Ok.count c.read.new.into) ≤ c.loop-more.more =
     omega (arith, length-take c.in-Ok.count c.read.new.into, c.in-Ok.ensures.within, c.room_of-room.ensures.most) in
-    sending_part _ _ _ _ _ _ c.loop-more.invariant.sending _ _ _ (read_some _ _ _ _ c.in-Ok.ensures.ok) size c.send_all.ensures.sent
+    sending_part _ _ _ _ _ _ c.loop-more.invariant.sending _ _ _ (read_some _ _ _ _ c.in-Ok.ensures.ok) size
+          c.send_all.ensures.sent
 
 -- a piece was read and sent
 pub loop-more-preserved : goal.loop-more-preserved
@@ -21,7 +22,8 @@ loop-more-preserved g c =
     length-take-le c.in-Ok.count c.read.new.into (omega (arith, c.in-Ok.ensures.within)) in
     record {
       sound = c.send_all.ensures.sound;
-      sending = sending_next _ _ _ _ _ _ c.loop-more.invariant.sending _ _ _ c.in-Ok.count (read_some _ _ _ _ c.in-Ok.ensures.ok) size
+      sending = sending_next _ _ _ _ _ _ c.loop-more.invariant.sending _ _ _ c.in-Ok.count (read_some _ _ _ _
+            c.in-Ok.ensures.ok) size
           (omega (arith, c.in-Ok.ensures.within, c.room_of-room.ensures.most)) c.in_default.ensures.ok;
       received = c.send_all.ensures.received_kept ∙ c.loop-more.invariant.received;
       faults = c.in-Ok.ensures.faults_kept ∙ c.loop-more.invariant.faults;
