@@ -7,7 +7,7 @@ use Rattle.udt_model.specs.declared.answers.Origin.{Origin}
 use Rattle.udt_model.specs.declared.answers.Origin.TheVariants as origin
 use Rattle.udt_model.specs.declared.answers.Peer.{Peer}
 use Rattle.udt_model.specs.Emissions.{emitted}
-use Rattle.udt_model.specs.History.{History, Item, after_items}
+use Rattle.udt_model.specs.History.{Item, after_items}
 use Rattle.udt_model.specs.Honest.{WasEmitted, IsHonest}
 use Rattle.udt_model.specs.Phases as phase
 use Rattle.udt_model.specs.Rate.{Ways}
