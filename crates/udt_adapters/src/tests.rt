@@ -1,0 +1,3 @@
+// The adapters over the real system.
+
+mod time;
