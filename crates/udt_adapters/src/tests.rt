@@ -1,3 +1,4 @@
 // The adapters over the real system.
 
+mod ports;
 mod time;
