@@ -1,4 +1,6 @@
 // The adapters over the real system.
 
+mod clock;
+mod files;
 mod ports;
-mod time;
+mod spawner;
