@@ -46,9 +46,10 @@ impl<R: rt::Files> Files<R> {
 
 impl<R: rt::Files> Folder for Files<R> {
     ghost use Rattle.std.specs.Prelude.{◌≡◌, ◌≤◌, None, OnErr, OnOk, IfOk};
-    ghost use Rattle.udt_outside.specs.Faults.{Rose, with_faults};
+    ghost use Rattle.udt_outside.specs.Faults.{with_faults};
     ghost use Rattle.udt_outside.specs.Options.{Tells};
-    ghost use Rattle.udt_outside.specs.Folders.{IfMade, OnExists};
+    ghost use Rattle.udt_outside.specs.Folders.{IfMade};
+    ghost use Rattle.udt_adapters.specs.Counts.{one_more, met_after};
 
     type In = Input<R::File>;
 
@@ -67,7 +68,7 @@ impl<R: rt::Files> Folder for Files<R> {
     fn open_read(&mut self, name: &str) -> Result<(u64, Input<R::File>), Failed>
         ensures faults_stay { self.old.failed ≤ self.new.failed }
         ensures faults_kept { OnOk result (self.new.failed ≡ self.old.failed) }
-        ensures failed { OnErr result (Rose self.old.failed self.new.failed) }
+        ensures failed { OnErr result (self.new.failed ≡ one_more self.old.failed) }
         ensures met_kept { self.new.met ≡ self.old.met }
         ensures no_faults { IfOk result (λ r. r.1.failed ≡ 0) }
         ensures told { IfOk result (λ r. Tells self.new.told r.0) }
@@ -89,9 +90,10 @@ impl<R: rt::Files> Folder for Files<R> {
     fn create(&mut self, name: &str) -> Result<Create<Output<R::File>>, Failed>
         ensures faults_stay { self.old.failed ≤ self.new.failed }
         ensures faults_kept { OnOk result (self.new.failed ≡ self.old.failed) }
-        ensures failed { OnErr result (Rose self.old.failed self.new.failed) }
+        ensures failed { OnErr result (self.new.failed ≡ one_more self.old.failed) }
         ensures met_stay { self.old.met ≤ self.new.met }
-        ensures exists { IfOk result (λ c. OnExists c (Rose self.old.met self.new.met)) }
+        ensures exists { IfOk result (λ c. self.new.met ≡ met_after self.old.met c) }
+        ensures met_kept { OnErr result (self.new.met ≡ self.old.met) }
         ensures no_faults { IfOk result (λ c. IfMade c (λ out. out.failed ≡ 0)) }
         ensures told_kept { self.new.told ≡ self.old.told }
     {
@@ -116,10 +118,9 @@ impl<R: rt::Files> Folder for Files<R> {
         ensures met_kept { self.new.met ≡ self.old.met }
         ensures told_kept { self.new.told ≡ self.old.told }
     {
-        self.failed = self.failed.saturating_add(file.failed());
-        if file.writer().sync_all().is_err() {
-            self.failed = self.failed.saturating_add(1);
-        }
+        let unstored = file.writer().sync_all().is_err();
+        let faults = file.failed().saturating_add(u64::from(unstored));
+        self.failed = self.failed.saturating_add(faults);
     }
 
     fn done(&mut self, file: Input<R::File>)

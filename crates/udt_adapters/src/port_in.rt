@@ -86,8 +86,8 @@ fn is_quiet(kind: ErrorKind) -> bool {
 impl PortIn for UdpIn {
     ghost use Rattle.std.specs.Prelude.{◌≡◌, ◌≤◌, None, length, refl, OnErr, OnOk, IfOk};
     ghost use Rattle.std.proofs.Common.{◌∙◌};
-    ghost use Rattle.udt_outside.specs.Faults.{Rose};
-    ghost use Rattle.udt_outside.specs.Ports.{Fits, QuietRose};
+    ghost use Rattle.udt_outside.specs.Ports.{Fits};
+    ghost use Rattle.udt_adapters.specs.Counts.{one_more, quiets_after};
 
     ghost faults = { λ e. e.failed };
 
@@ -106,9 +106,10 @@ impl PortIn for UdpIn {
         requires { length into.old ≡ 65536 }
         ensures faults_stay { self.old.failed ≤ self.new.failed }
         ensures faults_kept { OnOk result (self.new.failed ≡ self.old.failed) }
-        ensures failed { OnErr result (Rose self.old.failed self.new.failed) }
+        ensures failed { OnErr result (self.new.failed ≡ one_more self.old.failed) }
         ensures quiets_stay { self.old.quiets ≤ self.new.quiets }
-        ensures quiet { IfOk result (λ heard. QuietRose heard self.old.quiets self.new.quiets) }
+        ensures quiet { IfOk result (λ heard. self.new.quiets ≡ quiets_after self.old.quiets heard) }
+        ensures quiets_kept { OnErr result (self.new.quiets ≡ self.old.quiets) }
         ensures within { IfOk result (λ heard. Fits heard 65536) }
         ensures same { self.new.socket ≡ self.old.socket }
     {

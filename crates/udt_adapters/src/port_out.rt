@@ -34,7 +34,7 @@ impl UdpOut {
 impl PortOut for UdpOut {
     ghost use Rattle.std.specs.Prelude.{◌≡◌, ◌≤◌, None, refl, OnErr, OnOk};
     ghost use Rattle.std.proofs.Common.{◌∙◌};
-    ghost use Rattle.udt_outside.specs.Faults.{Rose};
+    ghost use Rattle.udt_adapters.specs.Counts.{one_more};
 
     ghost faults = { λ e. e.failed };
 
@@ -50,7 +50,7 @@ impl PortOut for UdpOut {
     ) -> Result<(), Failed>
         ensures faults_stay { self.old.failed ≤ self.new.failed }
         ensures faults_kept { OnOk result (self.new.failed ≡ self.old.failed) }
-        ensures failed { OnErr result (Rose self.old.failed self.new.failed) }
+        ensures failed { OnErr result (self.new.failed ≡ one_more self.old.failed) }
         ensures same { self.new.socket ≡ self.old.socket }
     {
         match self.socket.send_to(bytes, system_addr(to)) {

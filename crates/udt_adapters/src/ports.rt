@@ -54,7 +54,7 @@ impl<R: Net> UdpPorts<R> {
 
 impl<R: Net> Ports for UdpPorts<R> {
     ghost use Rattle.std.specs.Prelude.{◌≡◌, ◌≤◌, None, OnErr, OnOk, IfOk};
-    ghost use Rattle.udt_outside.specs.Faults.{Rose};
+    ghost use Rattle.udt_adapters.specs.Counts.{one_more};
 
     type In = UdpIn;
 
@@ -77,7 +77,7 @@ impl<R: Net> Ports for UdpPorts<R> {
     fn open(&mut self, port: u16, family: Family) -> Result<(UdpIn, UdpOut), Failed>
         ensures faults_stay { self.old.failed ≤ self.new.failed }
         ensures faults_kept { OnOk result (self.new.failed ≡ self.old.failed) }
-        ensures failed { OnErr result (Rose self.old.failed self.new.failed) }
+        ensures failed { OnErr result (self.new.failed ≡ one_more self.old.failed) }
         ensures no_faults_in { IfOk result (λ ends. ends.0.failed ≡ 0) }
         ensures no_quiets { IfOk result (λ ends. ends.0.quiets ≡ 0) }
         ensures no_faults_out { IfOk result (λ ends. ends.1.failed ≡ 0) }

@@ -22,7 +22,7 @@ impl ThreadSpawner {
 
 impl<J: Work + Drop> Spawner<J> for ThreadSpawner {
     ghost use Rattle.std.specs.Prelude.{◌≡◌, ◌≤◌, Some, None, OnErr, OnOk, IfOk};
-    ghost use Rattle.udt_outside.specs.Faults.{Rose};
+    ghost use Rattle.udt_adapters.specs.Counts.{one_more};
 
     ghost faults = { λ s. s.refused };
 
@@ -30,7 +30,7 @@ impl<J: Work + Drop> Spawner<J> for ThreadSpawner {
         requires { F.pre start job }
         ensures faults_stay { self.old.refused ≤ self.new.refused }
         ensures faults_kept { OnOk result (self.new.refused ≡ self.old.refused) }
-        ensures failed { OnErr result (Rose self.old.refused self.new.refused) }
+        ensures failed { OnErr result (self.new.refused ≡ one_more self.old.refused) }
         ensures ok { IfOk result (λ given. F.post start job (Some given)) }
         ensures refused { OnErr result (F.post start job None) }
     {

@@ -2,7 +2,7 @@
 
 ghost use Rattle.std.specs.Prelude.{◌≡◌, ◌≤◌, ◌<◌, length, None, OnErr, OnOk, IfOk};
 ghost use Rattle.std.specs.Io.KnownBytes.{ReadConsumes, WriteAppends};
-ghost use Rattle.udt_outside.specs.Faults.{Rose};
+ghost use Rattle.udt_adapters.specs.Counts.{one_more};
 
 use std::io::{Read, Write};
 use udt_outside::{Failed, Sink, Source};
@@ -39,7 +39,7 @@ impl<R: Read> Source for Input<R> {
     fn read(&mut self, into: &mut [u8]) -> Result<usize, Failed>
         ensures faults_stay { self.old.failed ≤ self.new.failed }
         ensures faults_kept { OnOk result (self.new.failed ≡ self.old.failed) }
-        ensures failed { OnErr result (Rose self.old.failed self.new.failed) }
+        ensures failed { OnErr result (self.new.failed ≡ one_more self.old.failed) }
         ensures within { IfOk result (λ n. n ≤ length into.old) }
         ensures known { ReadConsumes
             (R.remaining self.old.reader) (R.remaining self.new.reader) result into.new }
@@ -94,7 +94,7 @@ impl<W: Write> Sink for Output<W> {
     fn write(&mut self, bytes: &[u8]) -> Result<usize, Failed>
         ensures faults_stay { self.old.failed ≤ self.new.failed }
         ensures faults_kept { OnOk result (self.new.failed ≡ self.old.failed) }
-        ensures failed { OnErr result (Rose self.old.failed self.new.failed) }
+        ensures failed { OnErr result (self.new.failed ≡ one_more self.old.failed) }
         ensures within { IfOk result (λ n. n ≤ length bytes.now) }
         ensures some { IfOk result (λ n. 0 < length bytes.now → 0 < n) }
         ensures known { WriteAppends
