@@ -58,7 +58,8 @@ impl UdpIn {
         if self.wait != Some(wait) {
             let micros = u64::from(wait.max(1));
             self.wait = None;
-            self.socket.set_read_timeout(Some(Duration::from_micros(micros)))?;
+            self.socket
+                .set_read_timeout(Some(Duration::from_micros(micros)))?;
             self.wait = Some(wait);
         }
         Ok(())
