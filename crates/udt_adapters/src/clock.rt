@@ -7,8 +7,8 @@ use std::rt;
 use std::time::Instant;
 use udt_outside::Clock;
 
-/// A clock that shows the microseconds since the first of its kind was made, by the system's
-/// monotonic clock.
+/// A clock that shows the microseconds since it was made, by the system's monotonic clock. One got
+/// by `another` has the same beginning.
 #[derive(Drop)]
 pub struct SystemClock<R> {
     rt: R,
