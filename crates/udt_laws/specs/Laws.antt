@@ -1,20 +1,35 @@
 -- The main theorems, as statements about histories and records, over any rate control.
 use Rattle.std.specs.Prelude.{◌≡◌, ◌⊎◌, ℕ, ◌+◌, ◌-◌, ◌%◌, ◌^◌, ◌<◌, ◌≤◌, List, [], ◌∷◌, ◌++◌, drop, length, map, Some, Ok, slice_get, true}
 use Rattle.std.specs.List.{Contains, concat}
+use Rattle.udt_model.specs.declared.answers.Heard.TheVariants as heard
+use Rattle.udt_model.specs.declared.packets.AckBody.{AckBody}
 use Rattle.udt_model.specs.declared.packets.Flags.{Flags}
 use Rattle.udt_model.specs.declared.packets.Kind.TheVariants.{Stream, Message}
 use Rattle.udt_model.specs.declared.packets.Shake.{Shake}
 use Rattle.udt_model.specs.declared.addresses.Addr.{Addr}
 use Rattle.udt_model.specs.Emissions.{IsPrefix, emitted, sent, arrivals, IsMadeOf}
+use Rattle.udt_model.specs.Events.{Arrive, DidHear}
 use Rattle.udt_model.specs.Handshakes.{asked as asks}
-use Rattle.udt_model.specs.History.{AskedMessage, ShownMessage, History, IsLegal, state_of, start_of, accepted, delivered, acked, arrived, asked, shown, placed_offsets, dropped_offsets}
+use Rattle.udt_model.specs.History.{Item, AskedMessage, ShownMessage, History, IsLegal, state_of, start_of, accepted, delivered, acked, arrived, asked, shown, placed_offsets, dropped_offsets}
 use Rattle.udt_model.specs.Honest.{IsHonest}
 use Rattle.udt_model.specs.Numbers.{sequence_number}
 use Rattle.udt_model.specs.Rate.{Ways}
 use Rattle.udt_model.specs.Records.{Enrolled, IsSocket, EndpointRecord, StandsAt, PeerPair, is_bound, names_sender, own_peer, ArePaired, AreLawful}
 use Rattle.udt_model.specs.SendBlocks.{KeptBlock}
 use Rattle.udt_model.specs.State.{Datagram, Emission}
-use Rattle.udt_model.specs.Wire.{Packet, Block, Handshake, destination, read, target}
+use Rattle.udt_model.specs.Wire.{Packet, Block, Handshake, Ack, destination, read, target}
+
+-- an ACK arrived, and the socket accepted it
+pub record AcceptsAck (item : Item) : Type 0 where
+  pub from : Addr
+  pub bytes : List ℕ
+  pub number : ℕ
+  pub stamp : ℕ
+  pub dest : ℕ
+  pub body : AckBody
+  pub arrives : item.event.act ≡ Arrive from bytes
+  pub reads : read bytes ≡ Ok (Ack number stamp dest body)
+  pub answers : item.reply ≡ DidHear heard.Ack
 
 module _ {C : Type 0} where
   -- the socket carries a stream of bytes
@@ -109,11 +124,13 @@ module _ {C : Type 0} (w : Ways C) where
       → names_sender dest (asks shake.ask) ≡ true
       → (shake.id ≡ socket.own) × (shake.isn ≡ socket.history.opening.isn)
 
-  -- the socket has placed a block, taken a message drop request, or has a block acknowledged
+  -- the socket has placed a block, taken a message drop request, has a block acknowledged, or accepted an ACK, which may
+  -- acknowledge no block
   abbrev pub HasHeard : History C → Type 0
   HasHeard h =
       ((offset : ℕ) × Contains (placed_offsets w h) offset)
-      ⊎ (((offset : ℕ) × Contains (dropped_offsets w h) offset) ⊎ (0 < acked w h))
+      ⊎ (((offset : ℕ) × Contains (dropped_offsets w h) offset)
+      ⊎ ((0 < acked w h) ⊎ ((item : Item) × Contains h.items item × AcceptsAck item)))
 
   -- a socket stands where this one names its peer and names this one as its own. Both carry the same, both begin at
   -- one offset, and each has the initial sequence number of the other

@@ -36,16 +36,16 @@ pub fn named<C: Control>()
     ensures { Named C.ways }
 {}
 
-/// Where no datagram is forged and none outlives 2^30 packets, a socket that has placed a block, taken
-/// a message drop request or has a block acknowledged is the own peer of its own peer. Both carry the
-/// same, begin at one offset, and have each other's initial sequence number.
+/// Where records are lawful, no datagram is forged and none outlives 2^30 packets, a socket that has placed
+/// a block, taken a message drop request, accepted an ACK or has a block acknowledged is the own peer of
+/// its own peer. Both carry the same, begin at one offset, and have each other's initial sequence number.
 pub fn mutual_adoption<C: Control>()
     ensures { MutualAdoption C.ways }
 {}
 
-/// Where no datagram is forged and none outlives 2^30 packets, what a stream socket delivers is a
-/// prefix of what its own peer accepted, and no more of its blocks are acknowledged than have
-/// arrived there.
+/// Where records are lawful, no datagram is forged and none outlives 2^30 packets, what a stream socket
+/// delivers is a prefix of what its own peer accepted, and no more of its blocks are acknowledged than
+/// have arrived there.
 pub fn prefix<C: Control>()
     ensures { Prefix C.ways }
 {}
@@ -68,9 +68,9 @@ pub fn pair_honest<C: Control>()
     ensures { PairHonest C.ways }
 {}
 
-/// Where no datagram is forged and none outlives 2^30 packets, a message socket shows messages that
-/// its own peer accepted, each whole and at most once, and those that must be delivered in order in
-/// their order. What is acknowledged of the peer has arrived, or was dropped.
+/// Where records are lawful, no datagram is forged and none outlives 2^30 packets, a message socket shows
+/// messages that its own peer accepted, each whole and at most once, and those that must be delivered in
+/// order in their order. What is acknowledged of the peer has arrived, or was dropped.
 pub fn messages<C: Control>()
     ensures { Messages C.ways }
 {}

@@ -27,11 +27,10 @@ use Rattle.udt_world.specs.declared.network.ScriptSocket.{ScriptSocket}
 use Rattle.udt_world.specs.Views.{Moves, Shows, Sight, View, sight_of, sight_of_history, view_of}
 use Rattle.udt_world.specs.Wiring.{place_seen, sights_of, waiting_at}
 use Rattle.udt_world.proofs.AlikeLemmas.{quiet-same}
-use Rattle.udt_world.proofs.CallLemmas.{some_at}
 use Rattle.udt_world.proofs.EventLemmas.{accept_outs, moves_shown, no_datagrams_text, shown_at}
 use Rattle.udt_world.proofs.FirstLemmas.{position-set}
 use Rattle.udt_world.proofs.PlaceLemmas.{same_word}
-use Rattle.udt_world.proofs.PushLemmas.{first_passes}
+use Rattle.udt_world.proofs.PushLemmas.{first_passes, item_at}
 use Rattle.udt_world.proofs.WiredLemmas.{sight-at}
 
 first-waits : (ids : List ℕ) (id : ℕ) → Accepted (Ok id) ≡ Accepted (first_offered ids) → Contains ids id
@@ -93,7 +92,7 @@ module _ {C : Type 0} (w : Ways C) where
   renamed_shown m mid new id name shows some few renamed =
       let count : length mid.sockets ≡ length m.sockets =
       ap length shows.sockets_are ∙ length-map m.sockets (sight_of_history w) in
-      let known = some_at m.sockets (id - 1) (omega (arith, some, few, count)) in
+      let known = item_at m.sockets (id - 1) (omega (arith, some, few, count)) in
       let seen : slice_get mid.sockets (id - 1) ≡ Some (sight_of_history w known.0) =
       ap (λ (l : List (Sight C)). slice_get l (id - 1)) shows.sockets_are
       ∙ (slice_get-map (sight_of_history w) m.sockets (id - 1) ∙ ap (option_map (sight_of_history w)) known.1) in

@@ -18,12 +18,12 @@ use Rattle.udt_world.specs.declared.network.Network.{Network}
 use Rattle.udt_world.specs.declared.network.ScriptSocket.{ScriptSocket}
 use Rattle.udt_world.specs.Views.{Sight, sight_of}
 use Rattle.udt_world.specs.Wiring.{HasAddress, IsNew, IsUnadopted, IsWired, KeepsAddresses, Knows, adopts, listens, meets, is_here, peer_in, place_seen, place_under, sights_of, waiting_at, with_told}
-use Rattle.udt_world.proofs.AddedLemmas.{enrolled-knows, few-adopted, first-more, get-end, may-enrol, others-know}
+use Rattle.udt_world.proofs.AddedLemmas.{enrolled-knows, few-adopted, first-more, may-enrol, others-know}
 use Rattle.udt_world.proofs.EndpointLemmas.{other-turned}
 use Rattle.udt_world.proofs.FirstLemmas.{Only, replaced-cases}
 use Rattle.udt_world.proofs.FollowLemmas.{AreOnce, Follows, MayFollow, once-kept}
 use Rattle.udt_world.proofs.PlaceLemmas.{is_same_word, same_word}
-use Rattle.udt_world.proofs.PushLemmas.{IsOneMore, Before, Last, get-push, push_either}
+use Rattle.udt_world.proofs.PushLemmas.{IsOneMore, Before, Last, get-last, get-push, push_either}
 use Rattle.udt_world.proofs.ToldLemmas.{and-false, told-knows}
 
 set-end : {A : Type 0} (xs : List A) (x y : A) → slice_set (xs ++ x ∷ []) (length xs) y ≡ xs ++ y ∷ []
@@ -77,7 +77,7 @@ module _ {C : Type 0} (sights : List (Sight C)) (next : Sight C) (once : AreOnce
   pub added-once : AreOnce (sights ++ next ∷ [])
   added-once =
       subst AreOnce (set-end sights bare next)
-      (once-kept more (length sights) bare next (get-end sights bare) bare-once goes may-go)
+      (once-kept more (length sights) bare next (get-last sights bare (length sights) refl) bare-once goes may-go)
 
   -- its endpoint knows it
   pub told-added : {R : Type 0} (t : Table R) (host : Addr) (what : R) → Knows t sights host → next.host ≡ host
@@ -88,7 +88,7 @@ module _ {C : Type 0} (sights : List (Sight C)) (next : Sight C) (once : AreOnce
       let room : length more ≤ MOST_ENROLLED = omega (arith, few, length_push sights bare) in
       subst (λ (l : List (Sight C)). Knows (with_told (with_enrolled t (length sights + 1) what) (length sights + 1) next) l host)
       (set-end sights bare next)
-      (told-knows (with_enrolled t (length sights + 1) what) more host (length sights) bare next (get-end sights bare) stands room
+      (told-knows (with_enrolled t (length sights + 1) what) more host (length sights) bare next (get-last sights bare (length sights) refl) stands room
       (enrolled-knows sights bare host t what knows here live quiet alone refl) bare-once goes may-go)
 
 -- ---- the network
@@ -277,7 +277,7 @@ module _ {C : Type 0} (old : Network C) (socket : ScriptSocket C) (wired : IsWir
   enrolling-at = set-same old.endpoints.items socket.endpoint home (record home { routes = routes }) found
 
   added-at : slice_get (old.sockets.items ++ socket ∷ []) place ≡ Some socket
-  added-at = ap (slice_get (old.sockets.items ++ socket ∷ [])) last ∙ get-end old.sockets.items socket
+  added-at = get-last old.sockets.items socket place last
 
   -- and has room for its pair
   pub room-added : (later : ScriptSocket C) (e : Endpoint) → slice_get (old.sockets.items ++ socket ∷ []) place ≡ Some later

@@ -15,7 +15,7 @@ use Rattle.udt_world.specs.Views.{Sight}
 use Rattle.udt_world.specs.Wiring.{Knows, adopts, first_with, is_any, is_here, listens, meets, one_if, peer_in, sight_with}
 use Rattle.udt_world.proofs.KeyLemmas.{is_same_id, length_inserted, other_id, rising_inserted, value_inserted}
 use Rattle.udt_world.proofs.FirstLemmas.{sum-small, with-place}
-use Rattle.udt_world.proofs.PushLemmas.{push_other}
+use Rattle.udt_world.proofs.PushLemmas.{get-last, push_other}
 use Rattle.udt_world.proofs.ToldLemmas.{found-some, one-small}
 
 get-other : {A : Type 0} (xs : List A) (x : A) (k : ℕ) → (k ≡ length xs → ⊥) → slice_get (xs ++ x ∷ []) k ≡ slice_get xs k
@@ -23,10 +23,6 @@ get-other [] x zero apart = absurd (apart refl)
 get-other [] x (suc k) apart = refl
 get-other (y ∷ xs) x zero apart = refl
 get-other (y ∷ xs) x (suc k) apart = get-other xs x k (λ e. apart (ap suc e))
-
-pub get-end : {A : Type 0} (xs : List A) (x : A) → slice_get (xs ++ x ∷ []) (length xs) ≡ Some x
-get-end [] x = refl
-get-end (y ∷ xs) x = get-end xs x
 
 module _ {C : Type 0} (sights : List (Sight C)) (s : Sight C) where
   -- a test that the new one fails finds what it found
@@ -118,7 +114,7 @@ module _ {C R : Type 0} (sights : List (Sight C)) (s : Sight C) (host : Addr) (t
 
       by : (id : ℕ) → (id ≡ new_id) ⊎ (id ≡ new_id → ⊥)
           → is_some (cond (is_eq (nat_cmp id new_id)) (Some what) (what_of t id)) ≡ is_any (is_here host) (sight_with (sights ++ s ∷ []) id)
-      by id (inl is) = rw (is, is_same_id new_id, with-place (sights ++ s ∷ []) (length sights), get-end sights s, here, live) refl
+      by id (inl is) = rw (is, is_same_id new_id, with-place (sights ++ s ∷ []) (length sights), get-last sights s (length sights) refl, here, live) refl
       by zero (inr apart) = rw (other_id 0 new_id apart) (known 0)
       by (suc k) (inr apart) =
           let one : suc k ≡ k + 1 = omega arith in

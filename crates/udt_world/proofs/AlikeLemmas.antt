@@ -1,5 +1,5 @@
 -- A network stays wired where a socket becomes one of which an endpoint knows the same.
-use Rattle.std.proofs.Common.{◌≡◌, ℕ, zero, suc, ◌+◌, ◌≤◌, ◌<◌, ◌||◌, Bool, List, [], ◌∷◌, Some, None, Option, is_some, length, map, refl, ap, ◌∙◌, sym, subst, arith, inl, inr}
+use Rattle.std.proofs.Common.{◌≡◌, ℕ, ◌+◌, ◌≤◌, ◌<◌, ◌||◌, Bool, List, Some, None, Option, is_some, length, map, refl, ap, ◌∙◌, sym, subst, arith, inl, inr}
 use Rattle.std.specs.Global.{Global}
 use Rattle.std.specs.Prelude.{slice_get, slice_set, vec_len, Vec}
 use Rattle.std.specs.List.{Contains}
@@ -306,12 +306,6 @@ quiet-same w s e after reply is answers listens meets =
     let met : first_met s.met (meets_by e.act (step w s.state e).reply) ≡ s.met =
     ap (λ (r : Reply). first_met s.met (meets_by e.act r)) (sym answers) ∙ (ap (first_met s.met) meets ∙ first-none s.met) in
     rw (listened, met, is) refl
-
--- a place in a list has an element
-pub there-is : {X : Type 0} (xs : List X) (i : ℕ) → i < length xs → (x : X) × (slice_get xs i ≡ Some x)
-there-is [] i within = absurd (omega (arith, within))
-there-is (x ∷ xs) zero within = (x, refl)
-there-is (x ∷ xs) (suc i) within = there-is xs i (omega (arith, within))
 
 -- each socket has the endpoint that it had
 pub ends-kept : {C : Type 0} (xs : List (ScriptSocket C)) (place : ℕ) (x y : ScriptSocket C) → slice_get xs place ≡ Some x

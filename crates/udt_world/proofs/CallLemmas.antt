@@ -1,5 +1,5 @@
 -- A call of a socket does what the definitions say: the places at its host are those that are seen.
-use Rattle.std.proofs.Common.{◌≡◌, ℕ, zero, suc, ◌+◌, ◌<◌, Bool, true, false, List, [], ◌∷◌, ◌++◌, length, Some, None, Option, refl, ap, ◌∙◌, sym, arith, option_map}
+use Rattle.std.proofs.Common.{◌≡◌, ℕ, ◌+◌, ◌<◌, Bool, true, false, List, ◌++◌, length, Some, None, Option, refl, ap, ◌∙◌, sym, arith, option_map}
 use Rattle.std.specs.Prelude.{slice_get, is_some, vec_len, ◌||◌, ◌&&◌, if◌then◌else◌}
 use Rattle.std.proofs.lemmas.List.{length-map}
 use Rattle.std.proofs.lemmas.Option.{same_Some, slice_get_within}
@@ -24,12 +24,8 @@ use Rattle.udt_world.specs.Wiring.{IsWired, Knows, first_with, is_any, is_here, 
 use Rattle.udt_world.proofs.EventLemmas.{event_shown, shown_at}
 use Rattle.udt_world.proofs.FirstLemmas.{with-place}
 use Rattle.udt_world.proofs.KnownLemmas.{known_seen}
+use Rattle.udt_world.proofs.PushLemmas.{item_at}
 use Rattle.udt_world.proofs.WiredLemmas.{sight-at}
-
-pub some_at : {A : Type 0} (xs : List A) (i : ℕ) → i < length xs → (x : A) × (slice_get xs i ≡ Some x)
-some_at [] i within = absurd (omega (arith, within))
-some_at (x ∷ xs) zero within = (x, refl)
-some_at (x ∷ xs) (suc i) within = some_at xs i (omega (arith, within))
 
 module _ {C : Type 0} where
   -- the endpoint of a socket knows what is seen at its host
@@ -156,7 +152,7 @@ module _ {C : Type 0} (w : Ways C) where
 
   pub known_at : (n : model.Network C) (network : Network C) (place : ℕ) → Shows w n (view_of network)
       → place < length network.sockets.items → (known : model.ScriptSocket C) × (slice_get n.sockets place ≡ Some known)
-  known_at n network place shows within = some_at n.sockets place (rw (count_same n network shows) within)
+  known_at n network place shows within = item_at n.sockets place (rw (count_same n network shows) within)
 
   module _ (n : model.Network C) (view : View C) (shows : Shows w n view) (place : ℕ) (socket : model.ScriptSocket C)
       (there : slice_get n.sockets place ≡ Some socket) (sight : Sight C) (found : slice_get view.sockets place ≡ Some sight) where

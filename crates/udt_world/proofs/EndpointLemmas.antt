@@ -5,6 +5,7 @@ use Rattle.std.specs.Global.{Global}
 use Rattle.udt_model.specs.declared.addresses.Addr.{Addr}
 use Rattle.udt_model.specs.Addresses.{same_addr}
 use Rattle.udt_model.proofs.AddressLemmas.{same_addr-is}
+use Rattle.udt_laws.proofs.scripts.ReplacedOne.{append-first}
 use Rattle.udt_laws.proofs.scripts.UnadoptedPair.{same-addr}
 use Rattle.udt_routes.specs.Tables.{empty_table}
 use Rattle.udt_world.specs.declared.hosts.TheConstants.{MOST_ENROLLED}
@@ -13,7 +14,7 @@ use Rattle.udt_world.specs.declared.network.Network.{Network}
 use Rattle.udt_world.specs.Views.{Sight}
 use Rattle.udt_world.specs.Wiring.{HasAddress, IsWired, KeepsAddresses, Knows, sights_of}
 use Rattle.udt_world.proofs.EmptyLemmas.{empty_knows}
-use Rattle.udt_world.proofs.PushLemmas.{IsOneMore, Before, Last, each_fails, first_passes, get-first, get-last, get-push}
+use Rattle.udt_world.proofs.PushLemmas.{IsOneMore, Before, Last, each_fails, first_passes, get-last, get-push}
 use Rattle.udt_world.proofs.WiredLemmas.{mapped}
 
 -- other addresses aren't equal
@@ -46,7 +47,7 @@ module _ {C : Type 0} (old : Network C) (endpoints : Vec Endpoint Global) (addr 
   pub endpoint-stands : KeepsAddresses old later
   endpoint-stands place host at = record {
     endpoint = at.endpoint;
-    found = rw grown (get-first old.endpoints.items (new ∷ []) place at.endpoint at.found);
+    found = rw grown (append-first old.endpoints.items (new ∷ []) place at.endpoint at.found);
     addr_is = at.addr_is;
   }
 

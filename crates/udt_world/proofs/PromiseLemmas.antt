@@ -37,13 +37,12 @@ use Rattle.udt_world.specs.Done.{DoesLine}
 use Rattle.udt_world.specs.Views.{HasEvent, RepliesTo, Shows, Sight, View, after_event, sight_of, sight_of_history, view_of}
 use Rattle.udt_world.specs.Wiring.{FitsPhase, IsNew, IsWired, MayHappen, adopts, first_with, new_sight, peer_in, place_seen, sights_of}
 use Rattle.udt_world.proofs.ArriveLemmas.{not_followed}
-use Rattle.udt_world.proofs.CallLemmas.{some_at}
 use Rattle.udt_world.proofs.EventLemmas.{event_shown, shown_at}
 use Rattle.udt_world.proofs.FirstLemmas.{first-set}
 use Rattle.udt_world.proofs.HeardLemmas.{KeepsOpening, promised-keeps}
 use Rattle.udt_world.proofs.NewLemmas.{made-new, new_socket, opened-shown}
 use Rattle.udt_world.proofs.NumberLemmas.{number_free}
-use Rattle.udt_world.proofs.PushLemmas.{get-last}
+use Rattle.udt_world.proofs.PushLemmas.{get-last, item_at}
 use Rattle.udt_world.proofs.WiredLemmas.{sight-at}
 
 -- ---- the initial sequence number of a handshake that was read
@@ -314,7 +313,7 @@ module _ {C : Type 0} (w : Ways C) where
   there-does n place happens old new before after shows h =
       let count : length old.sockets ≡ length n.sockets =
       ap length shows.sockets_are ∙ length-map n.sockets (sight_of_history w) in
-      let known = some_at n.sockets place (omega (arith, count, slice_get_within old.sockets place h.sight h.found)) in
+      let known = item_at n.sockets place (omega (arith, count, slice_get_within old.sockets place h.sight h.found)) in
       rw known.1 (event_shown w n place known.0 happens old new before after shows known.1 h)
 
   -- one thing after another

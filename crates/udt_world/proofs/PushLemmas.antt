@@ -7,17 +7,13 @@ use Rattle.udt_world.proofs.PlaceLemmas.{none_of, position-cons, position-first,
 
 -- ---- items
 
+-- an item stands at each place within
 pub item_at : {A : Type 0} (xs : List A) (k : ℕ) → k < length xs → (x : A) × (slice_get xs k ≡ Some x)
 item_at [] k within = absurd (omega (arith, within))
 item_at (x ∷ xs) zero within = (x, refl)
 item_at (x ∷ xs) (suc k) within = item_at xs k (omega (arith, within))
 
--- what stood at a place stands there still
-pub get-first : {A : Type 0} (xs ys : List A) (k : ℕ) (x : A) → slice_get xs k ≡ Some x → slice_get (xs ++ ys) k ≡ Some x
-get-first [] ys k x at = absurd (cc)
-get-first (y ∷ xs) ys zero x at = at
-get-first (y ∷ xs) ys (suc k) x at = get-first xs ys k x at
-
+-- and the last at the last place
 pub get-last : {A : Type 0} (xs : List A) (x : A) (k : ℕ) → k ≡ length xs → slice_get (xs ++ x ∷ []) k ≡ Some x
 get-last [] x zero is = refl
 get-last [] x (suc k) is = absurd (omega (arith, is))

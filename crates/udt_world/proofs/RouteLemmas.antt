@@ -24,9 +24,8 @@ use Rattle.udt_world.specs.declared.arrivals.Route.TheVariants as goes_to
 use Rattle.udt_world.specs.Done.{GoesTo, IsRoute, IsRoutedAs}
 use Rattle.udt_world.specs.Views.{Sight, View, Shows, sight_of_history}
 use Rattle.udt_world.specs.Wiring.{MayHappen, adopts, first_with, is_any, is_here, listens, meets, peer_in, seen_at}
-use Rattle.udt_world.proofs.CallLemmas.{some_at}
 use Rattle.udt_world.proofs.KnownLemmas.{known_seen, route_same}
-use Rattle.udt_world.proofs.PushLemmas.{first_passes}
+use Rattle.udt_world.proofs.PushLemmas.{first_passes, item_at}
 
 -- ---- among what is seen
 
@@ -167,7 +166,7 @@ module _ {C : Type 0} (w : Ways C) (n : model.Network C) (view : View C) (shows 
         ap length shows.sockets_are,
         length-map n.sockets (sight_of_history w),
       ) in
-      let known = some_at n.sockets (id - 1) within in
+      let known = item_at n.sockets (id - 1) within in
       let some : (id == 0) ≡ false = ne_eqb id 0 (λ e. absurd (omega (arith, here.some, e))) in
       (known.0, ap (slice_get n.sockets) place_is ∙ known.1, planned there ∙ rw (goes, some, known.1, place_is) refl)
 

@@ -39,9 +39,9 @@ use Rattle.udt_world.specs.Runs.{count_in, Counts, IsRun, IsSet}
 use Rattle.udt_world.specs.Views.{Sight, View, Shows, Moves, Answers, sight_of, sight_of_history, view_of}
 use Rattle.udt_world.specs.Wiring.{IsWired, MayHappen}
 use Rattle.udt_world.proofs.ArriveLemmas.{arrive-gives, not_followed, paired-settled, settled-promises}
-use Rattle.udt_world.proofs.CallLemmas.{some_at}
 use Rattle.udt_world.proofs.CountedLemmas.{counted-length}
 use Rattle.udt_world.proofs.EventLemmas.{shown_at, moves_shown, reply_shown, tick_reply}
+use Rattle.udt_world.proofs.PushLemmas.{item_at}
 
 -- two facts of a result give a third
 pub on_ok_both : {T E P Q R : Type 0} (r : Result T E) → (P → Q → R) → OnOk r P → OnOk r Q → OnOk r R
@@ -464,7 +464,7 @@ module _ {C : Type 0} (w : Ways C) where
   pub datagram_at : (old : code_run.Run C) (number : ℕ) → number < length old.network.datagrams.items
       → (datagram : model.ScriptDatagram) × (slice_get (view_of old.network).datagrams number ≡ Some datagram)
   datagram_at old number within =
-      some_at (view_of old.network).datagrams number (omega (arith, length-map old.network.datagrams.items datagram_of, within))
+      item_at (view_of old.network).datagrams number (omega (arith, length-map old.network.datagrams.items datagram_of, within))
 
   module _ (run : Run C) (old new : code_run.Run C) (now kind number : ℕ) (is : IsRun w run old)
       (number_is : number ≡ delivered_number kind (draw old.state) (length old.network.datagrams.items))

@@ -9,7 +9,7 @@ use Rattle.udt_laws.specs.Laws.{IsStream, CarriesMessages, HasHeard, AreInStep, 
 use Rattle.udt_laws.specs.Scripts.{HasPeerThere}
 
 module _ {C : Type 0} (w : Ways C) where
-  -- where no line gives bytes of its own, each socket of these lines that has heard of its own peer, handshakes aside, is the
+  -- where no line gives bytes of its own, each socket of these lines that has so heard of its own peer is the
   -- own peer of the socket that stands there, and both agree
   abbrev pub AllAdoptBack : Option (List (List ℕ)) → Type 0
   AllAdoptBack (Some lines) =

@@ -95,7 +95,11 @@ fn plays_a_line_of_each_form(rt: HostRuntime) {
 
 #[test]
 fn answers_bytes_that_no_socket_sent(rt: HostRuntime) {
-    let arrivals: [(&[u8], &[u8]); 21] = [
+    let arrivals: [(&[u8], &[u8]); 22] = [
+        (
+            b"raw 2000 10.0.0.1:9000 10.0.0.2:9000 8000000000000000000000000000000200000004000000010000000500000030000000040000000100000009000000000a000009000000000000000000000000",
+            b"b arrive stale\n",
+        ),
         (
             b"raw 2000 10.0.0.1:9000 10.0.0.2:9000 00000005800000010000000000000002",
             b"b arrive badlength\n",

@@ -1,13 +1,16 @@
 -- What a socket hears of its peer, handshakes aside: where each such arrival shows something, so does whatever the
 -- socket placed, dropped or counts as acknowledged.
-use Rattle.std.proofs.Common.{◌≡◌, ℕ, true, false, List, [], ◌∷◌, Ok, refl, ap, ◌∙◌, sym, inl, inr, ◌⊎◌}
+use Rattle.std.proofs.Common.{◌≡◌, ℕ, true, false, List, [], ◌∷◌, ◌++◌, Ok, refl, ap, ◌∙◌, sym, subst, inl, inr, ◌⊎◌}
 use Rattle.std.specs.Prelude.{Result, ◌==◌, if◌then◌else◌}
 use Rattle.std.specs.List.{Contains}
 use Rattle.std.proofs.lemmas.Bool.{and_parts, eqb-true}
 use Rattle.std.proofs.lemmas.List.Elements.{Contains-append_cases}
 use Rattle.udt_model.specs.declared.addresses.Addr.{Addr}
+use Rattle.udt_model.specs.declared.answers.Heard.{Heard}
 use Rattle.udt_model.specs.declared.answers.Heard.TheVariants as heard
+use Rattle.udt_model.specs.declared.answers.Origin.{Origin}
 use Rattle.udt_model.specs.declared.answers.Peer.{Peer}
+use Rattle.udt_model.specs.declared.packets.AckBody.{AckBody}
 use Rattle.udt_model.specs.declared.packets.Malformed.{Malformed}
 use Rattle.udt_model.specs.Addresses.{same_addr}
 use Rattle.udt_model.specs.Arrivals.{heard_now, is_own, on_own, on_connected, on_read}
@@ -15,20 +18,23 @@ use Rattle.udt_model.specs.Counted.{count_foreign}
 use Rattle.udt_model.specs.Events.{Act, Arrive, Event, Reply, DidHear, answered, at_moment}
 use Rattle.udt_model.specs.History.{Item, after_items, AreLegal, placed_by, dropped_by, offset_of_packet, offsets_of_request, placed_from, dropped_from}
 use Rattle.udt_model.specs.Honest.{WasEmitted, IsHonestAct, AreHonest}
+use Rattle.udt_model.specs.Phases as phase
+use Rattle.udt_model.specs.Phases.{Phase}
 use Rattle.udt_model.specs.Rate.{Ways}
 use Rattle.udt_model.specs.Records.{EndpointRecord}
-use Rattle.udt_model.specs.State.{State}
+use Rattle.udt_model.specs.State.{State, Emission}
 use Rattle.udt_model.specs.Step.{on_act, step}
 use Rattle.udt_model.specs.Wire.{Packet, Block, Ack, DropAsk, is_handshake, destination, read}
 use Rattle.udt_model.proofs.AddressLemmas.{same_addr-is}
-use Rattle.udt_model.proofs.ArrivalLemmas.{arrival-shows, packet-shows}
+use Rattle.udt_model.proofs.ArrivalLemmas.{Shakes, GivesCookie, Promises, Refuses, TakesCookie, IsRefused, Adopts, AnswersAdopted, arrival-shows, packet-shows}
 use Rattle.udt_model.proofs.PhaseLemmas.{is_settled}
 use Rattle.udt_model.proofs.StepLemmas.{step-keeps}
+use Rattle.udt_laws.specs.Laws.{AcceptsAck}
 use Rattle.udt_laws.proofs.acked_has_arrived.AckedWasNamed.{AcksAct, AllAck, items-acked}
 use Rattle.udt_laws.proofs.delivered_is_carried.DeliversPlacedBlocks.{MeetsAct, AllMeet}
 use Rattle.udt_laws.proofs.laid_messages.KeepsLayout.{MeetsLayout, AllMeetLayout}
 use Rattle.udt_laws.proofs.laid_messages.Layout.{LaidMessage}
-use Rattle.udt_model.proofs.Members.{none-contained}
+use Rattle.udt_model.proofs.Members.{contained-cases, none-contained}
 
 module _ {C : Type 0} where
   -- an arrival from the peer for this socket that is no handshake shows this
@@ -129,20 +135,20 @@ module _ {C : Type 0} (w : Ways C) where
         linked = λ peer from_whom emissions unsettled is same. absurd (cc);
       }) placed
 
-  dropped-connected : (s : State C) (from : Addr) (message stamp dest first last : ℕ)
-      → (on_connected w s from (DropAsk message stamp dest first last)).reply ≡ DidHear heard.Dropped
-      → IsFor s from (DropAsk message stamp dest first last)
-  dropped-connected s from message stamp dest first last same =
-      let packet = DropAsk message stamp dest first last in
+  -- what a connected socket doesn't take for foreign is from the peer, for this socket
+  connected-for : (s : State C) (from : Addr) (packet : Packet) (answer : Heard) → is_handshake packet ≡ false
+      → (answer ≡ heard.Foreign → ⊥) → (on_connected w s from packet).reply ≡ DidHear answer → IsFor s from packet
+  connected-for s from packet answer plain differs same =
       elim (is_own s from packet) as (λ own. is_own s from packet ≡ own → (
       if own
       then on_own w (heard_now s) packet
       else answered (record s { counters = count_foreign s.counters }) (DidHear heard.Foreign)).reply
-      ≡ DidHear heard.Dropped → IsFor s from packet) [
-        | true ↦ λ own answer.
-            let parts = and_parts (same_addr from s.peer.addr) (dest == s.own) own in
-            record { sender = same_addr-is from s.peer.addr parts.0; dest = eqb-true dest s.own parts.1 }
-        | false ↦ λ own answer. absurd (cc)
+      ≡ DidHear answer → IsFor s from packet) [
+        | true ↦ λ own is.
+            let parts = and_parts (same_addr from s.peer.addr) _ own in
+            let dest : (destination packet == s.own) ≡ true = rw plain at parts.1 in
+            record { sender = same_addr-is from s.peer.addr parts.0; dest = eqb-true (destination packet) s.own dest }
+        | false ↦ λ own is. absurd (differs cc)
       ] refl same
 
   -- and so is a message drop request that is taken
@@ -156,7 +162,109 @@ module _ {C : Type 0} (w : Ways C) where
         stale = λ same. absurd (cc);
         shaken = λ next peer from_whom answer emissions placed drops unsettled shakes same. absurd (drops cc);
         linked = λ peer from_whom emissions unsettled links same. absurd (cc);
-      }) packet s.phase refl refl (λ connected. dropped-connected s from message stamp dest first last) dropped
+      }) packet s.phase refl refl (λ connected. connected-for s from packet heard.Dropped refl (λ same. cc)) dropped
+
+  -- no handshake is answered as an ACK
+  shakes-other : (s : State C) (from : Addr) (result : Result Packet Malformed) (next : Phase) (peer : Peer)
+      (from_whom : Origin) (answer : Heard) (emissions : List Emission)
+      → Shakes s from result next peer from_whom answer emissions → answer ≡ heard.Ack → ⊥
+  shakes-other s from result _ _ _ _ _ (GivesCookie b stamp shake told is reads asks some judges) same = cc
+  shakes-other s from result _ _ _ _ _ (Promises b stamp shake is reads asks some judges) same = cc
+  shakes-other s from result _ _ _ _ _ (Refuses b stamp shake told is reads asks some judges) same = cc
+  shakes-other s from result _ _ _ _ _ (TakesCookie c again stamp dest shake is reads sees) same = cc
+  shakes-other s from result _ _ _ _ _ (IsRefused c again stamp dest shake is reads sees) same = cc
+  shakes-other s from result _ _ _ _ _ (Adopts m again stamp dest shake peer is reads sees) same = cc
+  shakes-other s from result _ _ _ _ _ (AnswersAdopted m again stamp dest shake is reads sees) same = cc
+
+  -- an ACK that is accepted is from the peer, for this socket, which is connected
+  record IsAccepted (s : State C) (from : Addr) (packet : Packet) : Type 0 where
+    is_for : IsFor s from packet
+    stands : s.phase ≡ phase.Connected
+
+  accepted-for : (s : State C) (from : Addr) (number stamp dest : ℕ) (body : AckBody)
+      → (on_read w s from (Ok (Ack number stamp dest body))).reply ≡ DidHear heard.Ack
+      → IsAccepted s from (Ack number stamp dest body)
+  accepted-for s from number stamp dest body accepted =
+      let packet = Ack number stamp dest body in
+      packet-shows w s from (Ok packet) (λ outcome. outcome.reply ≡ DidHear heard.Ack → IsAccepted s from packet)
+      (record {
+        stale = λ same. absurd (cc);
+        shaken = λ next peer from_whom answer emissions placed drops unsettled shakes same. absurd
+            (shakes-other s from (Ok packet) next peer from_whom answer emissions shakes cc);
+        linked = λ peer from_whom emissions unsettled links same. absurd (cc);
+      }) packet s.phase refl refl
+      (λ connected same. record { is_for = connected-for s from packet heard.Ack refl (λ foreign. cc) same; stands = connected })
+      accepted
+
+  accepted-by_step : (s : State C) (event : Event) (from : Addr) (raw : List ℕ) (number stamp dest : ℕ) (body : AckBody)
+      → event.act ≡ Arrive from raw → read raw ≡ Ok (Ack number stamp dest body)
+      → (step w s event).reply ≡ DidHear heard.Ack → IsAccepted (at_moment s event.now) from (Ack number stamp dest body)
+  unfolding step
+  accepted-by_step s event from raw number stamp dest body arrives reads accepted =
+      accepted-for (at_moment s event.now) from number stamp dest body
+      (ap (λ (result : Result Packet Malformed). (on_read w (at_moment s event.now) from result).reply) (sym reads)
+      ∙ (ap (λ (act : Act). (on_act w (at_moment s event.now) act).reply) (sym arrives) ∙ accepted))
+
+  -- such an ACK was emitted, and came to the state to which the items before it lead
+  pub record CameAck (net : List (EndpointRecord C)) (addr : Addr) (s : State C) (items : List Item) : Type 0 where
+    pub front : List Item
+    pub rest : List Item
+    pub joined : items ≡ front ++ rest
+    pub from : Addr
+    pub bytes : List ℕ
+    pub packet : Packet
+    pub was : WasEmitted w net (after_items w s front) from addr bytes
+    pub reads : read bytes ≡ Ok packet
+    pub plain : is_handshake packet ≡ false
+    pub sender : from ≡ (after_items w s front).peer.addr
+    pub dest : destination packet ≡ (after_items w s front).own
+    pub stands : (after_items w s front).phase ≡ phase.Connected
+
+  module _ (net : List (EndpointRecord C)) (addr : Addr) where
+    first-came : (s : State C) (first : Item) (items : List Item) → first.reply ≡ (step w s first.event).reply
+        → IsHonestAct w net addr s first.event.act → AcceptsAck first → CameAck net addr s (first ∷ items)
+    unfolding after_items
+    first-came s first items legal honest accepts =
+        let is = accepted-by_step s first.event accepts.from accepts.bytes accepts.number accepts.stamp accepts.dest
+        accepts.body accepts.arrives accepts.reads (sym legal ∙ accepts.answers) in
+        record {
+          front = [];
+          rest = first ∷ items;
+          joined = refl;
+          from = accepts.from;
+          bytes = accepts.bytes;
+          packet = Ack accepts.number accepts.stamp accepts.dest accepts.body;
+          was = subst (IsHonestAct w net addr s) accepts.arrives honest;
+          reads = accepts.reads;
+          plain = refl;
+          sender = is.is_for.sender;
+          dest = is.is_for.dest;
+          stands = is.stands;
+        }
+
+    pub ack-came : (s : State C) (items : List Item) (item : Item) → AreLegal w s items → AreHonest w net addr s items
+        → Contains items item → AcceptsAck item → CameAck net addr s items
+    unfolding AreLegal AreHonest after_items
+    ack-came s [] item legal honest among accepts = absurd (none-contained item among)
+    ack-came s (first ∷ items) item legal honest among accepts = elim (contained-cases first items item among) [
+      | inl same ↦ first-came s first items legal.0 honest.0 (subst (λ (i : Item). AcceptsAck i) (sym same) accepts)
+      | inr later ↦
+          let came = ack-came (step w s first.event).after items item legal.2 honest.1 later accepts in
+          record {
+            front = first ∷ came.front;
+            rest = came.rest;
+            joined = ap (λ (l : List Item). first ∷ l) came.joined;
+            from = came.from;
+            bytes = came.bytes;
+            packet = came.packet;
+            was = came.was;
+            reads = came.reads;
+            plain = came.plain;
+            sender = came.sender;
+            dest = came.dest;
+            stands = came.stands;
+          }
+    ]
 
   module _ (X : Type 0) where
     placed-by_reply : (s : State C) (now : ℕ) (from : Addr) (raw : List ℕ) (result : Result Packet Malformed)

@@ -127,6 +127,7 @@ module _ {C : Type 0} (w : Ways C) where
           never = record {
             config = config;
             quiet = never.1;
+            begins = begins_unlinked w socket.own isn config now h in_range opens legal;
             still = never.0;
             begun = opened_start w socket.own isn config now h in_range opens legal;
           };

@@ -14,6 +14,7 @@ use Rattle.udt_model.specs.Events.{Outcome, at_moment}
 use Rattle.udt_model.specs.History.{Item, History, after_items, state_of, start_of, IsLegal, acked, arrived, gapless}
 use Rattle.udt_model.specs.History.{placed_offsets}
 use Rattle.udt_model.specs.Opening.{connected, opened, opening, IsOpened, IsOpening}
+use Rattle.udt_model.specs.Phases as phase
 use Rattle.udt_model.specs.Rate.{Ways}
 use Rattle.udt_model.specs.Records.{Way, Opened, Paired, PairedAt, IsWay, opened_by, Enrolled, IsSocket, peer_by, own_peer}
 use Rattle.udt_model.specs.SendHalf.{Sending}
@@ -23,13 +24,14 @@ use Rattle.udt_model.specs.Wire.{Packet, is_handshake, read}
 use Rattle.udt_model.proofs.ConnectedBy.{opened-met}
 use Rattle.udt_model.proofs.HistoryLemmas.{after_items-append}
 use Rattle.udt_model.proofs.PeerLemmas.{IsKnown, has_peer, way-known, items-known}
+use Rattle.udt_model.proofs.PhaseLemmas.{speaks}
 use Rattle.udt_model.proofs.SettlingLemmas.{IsHandshake, AreQuiet, GoesOnAs, goes_on, IsConnectedAt, items-begin, opened-unlinked}
 use Rattle.udt_model.proofs.ShakeLemmas.{peer-fits, way-own}
 use Rattle.udt_model.proofs.SpellingLemmas.{read-shake_spelling}
 use Rattle.udt_model.proofs.StepLemmas.{KeepsName, same_name, step-keeps_name, after_items-keeps_name}
 use Rattle.udt_model.proofs.UnlinkedLemmas.{IsUnlinked}
 use Rattle.udt_laws.proofs.sockets.Begins.{Begins}
-use Rattle.udt_laws.proofs.sockets.IdleFronts.{AreIdle, front-idle, unlinked-uncontrolled, Within, Beyond, splits-meet}
+use Rattle.udt_laws.proofs.sockets.IdleFronts.{AreIdle, front-idle, front-unlinked, unlinked-uncontrolled, Within, Beyond, splits-meet}
 use Rattle.udt_laws.proofs.sockets.Opened.{opening-begins}
 use Rattle.udt_laws.proofs.sockets.SuitedPeers.{AgreesIn, items-agree, unlinked-some, IsSuited, links-suited}
 
@@ -67,6 +69,7 @@ module _ {C : Type 0} (w : Ways C) where
   pub record NeverConnected (h : History C) : Type 0 where
     pub config : Config
     pub quiet : AreQuiet w h.opening h.items
+    pub begins : IsUnlinked w config 0 h.opening
     pub still : IsUnlinked w config 0 (state_of w h)
     pub begun : start_of h ≡ 0
 
@@ -194,7 +197,13 @@ module _ {C : Type 0} (w : Ways C) where
 
     opened-parts : NeverConnected h ⊎ ConnectedPart h
     opened-parts = elim (items-begin w config 0 h.opening h.items begins_unlinked legal) [
-      | inl never ↦ inl (record { config = config; quiet = never.1; still = never.0; begun = opened_start })
+      | inl never ↦ inl (record {
+        config = config;
+        quiet = never.1;
+        begins = begins_unlinked;
+        still = never.0;
+        begun = opened_start;
+      })
       | inr at ↦ inr (connected_part at)
     ]
 
@@ -241,6 +250,16 @@ module _ {C : Type 0} (w : Ways C) where
     ]
 
   module _ (h : History C) (never : NeverConnected h) where
+    -- no items of it lead to a connection
+    pub never-stands : (front rest : List Item) → h.items ≡ front ++ rest
+        → (after_items w h.opening front).phase ≡ phase.Connected → ⊥
+    never-stands front rest joined stands =
+        let none = unlinked-uncontrolled w never.config 0 (state_of w h) never.still in
+        let before = front-unlinked w never.config 0 h.opening front rest never.begins
+        (ap (λ (items : List Item). (after_items w h.opening items).sending.control) (sym joined) ∙ none) in
+        let mute = ap speaks (sym stands) ∙ before.mute in
+        absurd (cc)
+
     -- a socket that was never connected has nothing acknowledged
     pub never-acked : acked w h ≡ 0
     never-acked = omega (arith, ap (λ (sending : Sending C). sending.blocks.first) never.still.sending, never.begun)

@@ -137,7 +137,7 @@ module _ {C : Type 0} (w : Ways C) where
 
   module _ (config : Config) (start : ℕ) where
     -- while no control is given, a state without a connection stays so
-    front-unlinked : (s : State C) (front more : List Item) → IsUnlinked w config start s
+    pub front-unlinked : (s : State C) (front more : List Item) → IsUnlinked w config start s
         → (after_items w s (front ++ more)).sending.control ≡ None → IsUnlinked w config start (after_items w s front)
     unfolding after_items
     front-unlinked s [] more unlinked none = unlinked
