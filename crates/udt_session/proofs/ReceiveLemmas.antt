@@ -77,7 +77,7 @@ begins_none : BeginsFrame []
 begins_none = (0, [], omega arith, (framed 0 [], refl))
 
 pub receiving_first : (reader : Reading) (heard kept : Option (List ℕ)) → WasFed reader []
-      → IsReceiving reader heard heard kept kept
+    → IsReceiving reader heard heard kept kept
 receiving_first reader heard kept was = record {
   fed = [];
   was = was;
@@ -99,12 +99,12 @@ module _ (reader : Reading) (heard now kept stored_now : Option (List ℕ)) (s :
 
   -- a piece came, and a part of its bytes of the file was stored
   pub stores_part : (next kept_next : Option (List ℕ)) (piece bytes : List ℕ) → Passed now next piece
-        → BeginsFrame (s.fed ++ piece) → file_of (s.fed ++ piece) ≡ file_of s.fed ++ bytes → SendsOf bytes stored_now
-        kept_next → Stores heard next kept kept_next
+      → BeginsFrame (s.fed ++ piece) → file_of (s.fed ++ piece) ≡ file_of s.fed ++ bytes → SendsOf bytes stored_now
+      kept_next → Stores heard next kept kept_next
   stores_part next kept_next piece bytes passed begins value sends =
       let whole : file_of (s.fed ++ piece) ≡ (file_of s.fed ++ sends.part) ++ sends.prefix.0 =
       value ∙ ap (λ (l : List ℕ). file_of s.fed ++ l) sends.prefix.1 ∙ sym (append_assoc (file_of s.fed) sends.part
-            sends.prefix.0) in
+      sends.prefix.0) in
       let less = prefix_count (file_of s.fed ++ sends.part) (file_of (s.fed ++ piece)) (sends.prefix.0, whole) in
       record {
         got = s.fed ++ piece;
@@ -112,7 +112,7 @@ module _ (reader : Reading) (heard now kept stored_now : Option (List ℕ)) (s :
         is_stored = record {
           prefix = (sends.prefix.0, whole);
           within = λ some. told_less (s.fed ++ piece) (length (file_of (s.fed ++ piece))) (length (file_of s.fed ++
-                sends.part)) less (told_begins (s.fed ++ piece) begins (omega (arith, some, less)));
+              sends.part)) less (told_begins (s.fed ++ piece) begins (omega (arith, some, less)));
         };
         received = passed_then heard now next s.fed piece s.received passed;
         taken = passed_then kept stored_now kept_next (file_of s.fed) sends.part s.taken sends.sent;
@@ -133,33 +133,33 @@ module _ (reader : Reading) (heard now kept stored_now : Option (List ℕ)) (s :
 
   -- a piece came, and all its bytes of the file were stored
   pub receiving_next : (after : Reading) (next kept_next : Option (List ℕ)) (piece bytes : List ℕ)
-        → WasFed after (s.fed ++ piece) → Passed now next piece → BeginsFrame (s.fed ++ piece) → file_of (s.fed ++ piece) ≡
-        file_of s.fed ++ bytes → Passed stored_now kept_next bytes → IsReceiving after heard next kept kept_next
+      → WasFed after (s.fed ++ piece) → Passed now next piece → BeginsFrame (s.fed ++ piece) → file_of (s.fed ++ piece) ≡
+      file_of s.fed ++ bytes → Passed stored_now kept_next bytes → IsReceiving after heard next kept kept_next
   receiving_next after next kept_next piece bytes was passed begins value stored = record {
     fed = s.fed ++ piece;
     was = was;
     begins = begins;
     received = passed_then heard now next s.fed piece s.received passed;
     taken = subst (λ (l : List ℕ). Passed kept kept_next l) (sym value) (passed_then kept stored_now kept_next (file_of
-          s.fed) bytes s.taken stored);
+        s.fed) bytes s.taken stored);
   }
 
   -- the whole frame came
   pub stores_all : (len : ℕ) → len < 2 ^ 64 → IsFrame s.fed → IsPrefix (header_of len) s.fed
-        → StoresAll len heard now kept stored_now
+      → StoresAll len heard now kept stored_now
   stores_all len fits (file, file_fits, frame) (rest, is) =
       let whole : take (length file) file ≡ file = take_all (length file) file (omega arith) in
       let its : take 12 s.fed ≡ header_of (length file) = ap (take 12) frame ∙ take_at (header_of (length file)) (take
-            (length file) file) 12 (length-header (length file)) in
+      (length file) file) 12 (length-header (length file)) in
       let own : take 12 s.fed ≡ header_of len = ap (take 12) is ∙ take_at (header_of len) rest 12 (length-header len) in
       let same : len ≡ length file = header-same len (length file) fits file_fits (sym own ∙ its) in
       let rest_is : file_of s.fed ≡ file = ap (drop 12) frame ∙ drop_at (header_of (length file)) (take (length file) file)
-            12 (length-header (length file)) ∙ whole in
+      12 (length-header (length file)) ∙ whole in
       record {
         file = file;
         size = same;
         received = subst (λ (n : ℕ). Passed heard now (framed n file)) (sym same) (subst (λ (l : List ℕ). Passed heard now
-              l) frame s.received);
+            l) frame s.received);
         taken = subst (λ (l : List ℕ). Passed kept stored_now l) rest_is s.taken;
       }
 
@@ -188,22 +188,27 @@ frame_size fed (len, file, fits, (rest, is)) =
     omega (arith, sizes, length-header len, length-take len file, fits)
 
 pub nearer : (reader after : Reading) (fed piece : List ℕ) → WasFed reader fed → BeginsFrame fed
-      → WasFed after (fed ++ piece) → BeginsFrame (fed ++ piece) → 0 < length piece → 12 + 2 ^ 64 - (length after.head +
-      after.got) < 12 + 2 ^ 64 - (length reader.head + reader.got)
+    → WasFed after (fed ++ piece) → BeginsFrame (fed ++ piece) → 0 < length piece → 12 + 2 ^ 64 - (length after.head +
+    after.got) < 12 + 2 ^ 64 - (length reader.head + reader.got)
 nearer reader after fed piece was begins was_after begins_after some =
     let one = known reader fed was begins in
     let two = known after (fed ++ piece) was_after begins_after in
     let size = length-append fed piece in
     let most = frame_size (fed ++ piece) begins_after in
-    least (12 + 2 ^ 64) (length reader.head + reader.got) (length after.head + after.got) (omega (arith, one, two, size,
-          some)) (omega (arith, two, most))
+    least (12 + 2 ^ 64) (length reader.head + reader.got) (length after.head + after.got) (omega (
+      arith,
+      one,
+      two,
+      size,
+      some,
+    )) (omega (arith, two, most))
 
 -- ---- the answer
 
 -- nothing was answered
 pub receives_unanswered : (heard heard_after kept kept_after said said_after : Option (List ℕ))
-      → Stores heard heard_after kept kept_after → said_after ≡ said → Receives heard heard_after kept kept_after said
-      said_after
+    → Stores heard heard_after kept kept_after → said_after ≡ said → Receives heard heard_after kept kept_after said
+    said_after
 receives_unanswered heard heard_after kept kept_after said said_after s same = record {
   got = s.got;
   stored = s.stored;
@@ -228,12 +233,12 @@ answer_of part got stored (inr all) whole = inr (all, whole)
 
 -- the whole frame came, its file was stored, and the answer, or nothing, was sent
 pub receives_answered : (len : ℕ) (heard heard_after kept kept_after said said_first said_after heard_last : Option (List
-      ℕ)) → len < 2 ^ 64 → StoresAll len heard heard_after kept kept_after → said_first ≡ said → SendsOf (75 ∷ [])
-      said_first said_after → heard_last ≡ heard_after → Receives heard heard_last kept kept_after said said_after
+    ℕ)) → len < 2 ^ 64 → StoresAll len heard heard_after kept kept_after → said_first ≡ said → SendsOf (75 ∷ [])
+    said_first said_after → heard_last ≡ heard_after → Receives heard heard_last kept kept_after said said_after
 receives_answered len heard heard_after kept kept_after said said_first said_after heard_last fits s same sends still =
     let whole : take (length s.file) s.file ≡ s.file = take_all (length s.file) s.file (omega arith) in
     let of_frame : file_of (framing_of s.file) ≡ s.file = drop_at (header_of (length s.file)) (take (length s.file) s.file)
-          12 (length-header (length s.file)) ∙ whole in
+    12 (length-header (length s.file)) ∙ whole in
     record {
       got = framing_of s.file;
       stored = s.file;
@@ -249,17 +254,7 @@ receives_answered len heard heard_after kept kept_after said said_first said_aft
       };
       is_answer = answer_of sends.part (framing_of s.file) s.file (one_byte sends.part sends.prefix) refl;
       received = passed_same heard heard_after heard_last (framing_of s.file) (subst (λ (n : ℕ). Passed heard heard_after
-            (framed n s.file)) s.size s.received) still;
+          (framed n s.file)) s.size s.received) still;
       taken = s.taken;
       sent = passed_from said said_first said_after sends.part same sends.sent;
     }
-
-pub stores_all_still : (len : ℕ) (heard heard_after kept kept_after heard_last : Option (List ℕ))
-      → StoresAll len heard heard_after kept kept_after → heard_last ≡ heard_after → StoresAll len heard heard_last kept
-      kept_after
-stores_all_still len heard heard_after kept kept_after heard_last s still = record {
-  file = s.file;
-  size = s.size;
-  received = passed_same heard heard_after heard_last (framed len s.file) s.received still;
-  taken = s.taken;
-}

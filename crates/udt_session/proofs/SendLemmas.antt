@@ -1,15 +1,15 @@
 -- What a session that sends has sent.
-use Rattle.std.proofs.Common.{◌≡◌, ℕ, zero, suc, ◌+◌, ◌-◌, ◌<◌, ◌≤◌, List, [], ◌∷◌, ◌++◌, length, take, drop, refl, sym, ap}
+use Rattle.std.proofs.Common.{◌≡◌, ℕ, zero, suc, ◌+◌, ◌-◌, ◌≤◌, List, [], ◌∷◌, ◌++◌, length, take, drop, refl, sym, ap}
 use Rattle.std.proofs.Common.{◌∙◌, subst, append_assoc, arith, length-append}
-use Rattle.std.specs.Prelude.{Option, Some, None, IfSome}
+use Rattle.std.specs.Prelude.{Option, Some, None}
 use Rattle.std.proofs.lemmas.List.{append-nil, take-append-drop, take_at}
 use Rattle.udt_model.specs.Emissions.{IsPrefix}
 use Rattle.udt_outside.specs.Options.{Tells}
-use Rattle.udt_outside.specs.Streams.{Gives, EndsOnlyWhenEmpty}
+use Rattle.udt_outside.specs.Streams.{Gives}
 use Rattle.udt_framing.specs.Framing.{header_of, framed}
 use Rattle.udt_session.specs.Told.{Passed, WasRead}
 use Rattle.udt_session.specs.Sending.{SendsOf, SendsPrefix, SendsAll}
-use Rattle.udt_session.proofs.Passing.{passed_none, passed_then, sends_whole}
+use Rattle.udt_session.proofs.Passing.{passed_then, sends_whole}
 
 -- nothing was read
 pub read_none : (left : Option (List ℕ)) → WasRead left left []
@@ -18,14 +18,14 @@ read_none (Some left) = (left, refl, refl)
 
 -- a read
 pub read_some : (left after : Option (List ℕ)) (buffer : List ℕ) (n : ℕ) → Gives left after buffer n
-      → WasRead left after (take n buffer)
+    → WasRead left after (take n buffer)
 read_some None after buffer n gives = tt
 read_some (Some left) after buffer n gives =
     (drop n left, gives.rest, sym (take-append-drop n left) ∙ ap (λ (l : List ℕ). l ++ drop n left) (sym gives.front))
 
 -- some bytes were read, and then others
 pub read_then : (left after last : Option (List ℕ)) (some more : List ℕ) → WasRead left after some
-      → WasRead after last more → WasRead left last (some ++ more)
+    → WasRead after last more → WasRead left last (some ++ more)
 read_then None after last some more p q = tt
 read_then (Some left) after last some more (rest, is, cut) q =
     let r : WasRead (Some rest) last more = subst (λ (o : Option (List ℕ)). WasRead o last more) is q in
@@ -42,7 +42,7 @@ is_own (Some left) done = refl
 
 -- it begins with what was read
 begins_with_read : (left after : Option (List ℕ)) (done : List ℕ) → WasRead left after done
-      → IsPrefix done (file_of_source left done)
+    → IsPrefix done (file_of_source left done)
 begins_with_read None after done read = ([], sym (append-nil done))
 begins_with_read (Some left) after done (rest, is, cut) = (rest, cut)
 
@@ -52,10 +52,6 @@ pub record IsSending (len more : ℕ) (left left_after before after : Option (Li
   pub count : length done + more ≡ len
   pub read : WasRead left left_after done
   pub sent : Passed before after done
-
-pub sending_first : (len : ℕ) (left before : Option (List ℕ)) → IsSending len len left left before before
-sending_first len left before = record { done = []; count = omega arith; read = read_none left; sent = passed_none before
-      before refl }
 
 -- a prefix that is short enough is one of the first bytes
 prefix_within : (xs ys : List ℕ) (len : ℕ) → IsPrefix xs ys → length xs ≤ len → IsPrefix xs (take len ys)
@@ -80,14 +76,14 @@ module _ (len more : ℕ) (left now before after : Option (List ℕ)) (s : IsSen
     sends = record {
       part = s.done;
       prefix = prefix_within s.done (file_of_source left s.done) len (begins_with_read left now s.done s.read) (omega
-            (arith, s.count));
+          (arith, s.count));
       sent = s.sent;
     };
   }
 
   -- a piece was read, and a part of it was sent
   pub sending_part : (last : Option (List ℕ)) (next : Option (List ℕ)) (piece : List ℕ) → WasRead now last piece
-        → length piece ≤ more → SendsOf piece after next → SendsPrefix (take len) left before next
+      → length piece ≤ more → SendsOf piece after next → SendsPrefix (take len) left before next
   sending_part last next piece read le sends =
       let done : List ℕ = s.done ++ piece in
       let all = read_then left now last s.done piece s.read read in
@@ -112,7 +108,7 @@ module _ (len more : ℕ) (left now before after : Option (List ℕ)) (s : IsSen
 
   -- a piece was read and sent
   pub sending_next : (last next : Option (List ℕ)) (piece : List ℕ) (n : ℕ) → WasRead now last piece → length piece ≡ n
-        → n ≤ more → Passed after next piece → IsSending len (more - n) left last before next
+      → n ≤ more → Passed after next piece → IsSending len (more - n) left last before next
   sending_next last next piece n read size le sent = record {
     done = s.done ++ piece;
     count = omega (arith, length-append s.done piece, s.count, size, le);
@@ -125,7 +121,7 @@ module _ (len more : ℕ) (left now before after : Option (List ℕ)) (s : IsSen
   sending_all none =
       let begins = begins_with_read left now s.done s.read in
       let exact : take len (file_of_source left s.done) ≡ s.done = prefix_exact s.done (file_of_source left s.done) len
-            begins (omega (arith, s.count, none)) in
+      begins (omega (arith, s.count, none)) in
       record {
         file = file_of_source left s.done;
         own = is_own left s.done;
@@ -134,22 +130,11 @@ module _ (len more : ℕ) (left now before after : Option (List ℕ)) (s : IsSen
         sent = subst (λ (l : List ℕ). Passed before after l) (sym exact) s.sent;
       }
 
--- the source was at its end: it had as many bytes as were read
-pub short_count : (len more : ℕ) (left now before after : Option (List ℕ)) (room : ℕ)
-      → IsSending len more left now before after → EndsOnlyWhenEmpty now room 0 → 0 < room → IfSome left (λ file. length
-      file ≡ len - more)
-short_count len more None now before after room s ends some = tt
-short_count len more (Some left) now before after room s ends some =
-    let rest : List ℕ = s.read.0 in
-    let told : EndsOnlyWhenEmpty (Some rest) room 0 = subst (λ (o : Option (List ℕ)). EndsOnlyWhenEmpty o room 0) s.read.1 ends in
-    let none : rest ≡ [] = told some refl in
-    omega (arith, ap length s.read.2, length-append s.done rest, ap length none, s.count)
-
 -- ---- the header before the file
 
 -- a part of the header alone
 pub header_part : (len : ℕ) (left before after : Option (List ℕ)) (head : List ℕ) → head ≡ header_of len
-      → SendsOf head before after → SendsPrefix (framed len) left before after
+    → SendsOf head before after → SendsPrefix (framed len) left before after
 header_part len left before after head is sends = record {
   file = file_of_source left [];
   own = is_own left [];
@@ -166,7 +151,7 @@ header_part len left before after head is sends = record {
 
 -- the header, and a part of the file
 pub header_then : (len : ℕ) (left before after last : Option (List ℕ)) (head : List ℕ) → head ≡ header_of len
-      → Passed before after head → SendsPrefix (take len) left after last → SendsPrefix (framed len) left before last
+    → Passed before after head → SendsPrefix (take len) left after last → SendsPrefix (framed len) left before last
 header_then len left before after last head is passed s = record {
   file = s.file;
   own = s.own;
@@ -177,14 +162,14 @@ header_then len left before after last head is passed s = record {
       ap (λ (l : List ℕ). header_of len ++ l) s.sends.prefix.1 ∙ sym (append_assoc (header_of len) s.sends.part s.sends.prefix.0),
     );
     sent = passed_then before after last (header_of len) s.sends.part (subst (λ (l : List ℕ). Passed before after l) is
-          passed) s.sends.sent;
+        passed) s.sends.sent;
   };
 }
 
 -- the header, and all of the file
 pub header_all : (len : ℕ) (left now before after last end : Option (List ℕ)) (head : List ℕ) → head ≡ header_of len
-      → Passed before after head → SendsAll len (take len) left now after last → end ≡ last → SendsAll len (framed len)
-      left now before end
+    → Passed before after head → SendsAll len (take len) left now after last → end ≡ last → SendsAll len (framed len)
+    left now before end
 header_all len left now before after last end head is passed s same = record {
   file = s.file;
   own = s.own;
@@ -192,11 +177,15 @@ header_all len left now before after last end head is passed s same = record {
   read = s.read;
   sent = subst (λ (o : Option (List ℕ)). Passed before o (framed len s.file)) (sym same)
       (passed_then before after last (header_of len) (take len s.file) (subst (λ (l : List ℕ). Passed before after l) is
-            passed) s.sent);
+      passed) s.sent);
 }
 
 -- all of it is a prefix
 pub all_prefix : (len : ℕ) (left now before after : Option (List ℕ)) → SendsAll len (framed len) left now before after
-      → SendsPrefix (framed len) left before after
-all_prefix len left now before after s = record { file = s.file; own = s.own; sends = sends_whole (framed len s.file)
-      before after s.sent }
+    → SendsPrefix (framed len) left before after
+all_prefix len left now before after s = record {
+  file = s.file;
+  own = s.own;
+  sends = sends_whole (framed len s.file)
+      before after s.sent;
+}

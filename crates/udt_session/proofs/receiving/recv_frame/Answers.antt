@@ -20,7 +20,7 @@ pub returns-in-Err-write_all-clause-stores : goal.returns-in-Err-write_all-claus
 returns-in-Err-write_all-clause-stores g c =
     let s = c.loop-pipe.invariant.receiving in
     stores_part _ _ _ _ _ s _ _ _ _ c.in-Ok.ensures.ok (c.in-Ok-feed.ensures.begins s.fed s.was)
-          (c.in-Ok-feed.ensures.value s.fed s.was) c.write_all.ensures.taken
+    (c.in-Ok-feed.ensures.value s.fed s.was) c.write_all.ensures.taken
 
 -- all of them were
 pub loop-pipe-preserved : goal.loop-pipe-preserved
@@ -30,7 +30,7 @@ loop-pipe-preserved g c =
       sound = c.recv.ensures.sound;
       some = omega (arith, c.loop-pipe.invariant.some, c.recv.auto.into);
       receiving = receiving_next _ _ _ _ _ s _ _ _ _ _ (c.feed.ensures.next s.fed s.was) c.in-Ok.ensures.ok
-            (c.in-Ok-feed.ensures.begins s.fed s.was) (c.in-Ok-feed.ensures.value s.fed s.was) c.in_default.ensures.ok;
+          (c.in-Ok-feed.ensures.begins s.fed s.was) (c.in-Ok-feed.ensures.value s.fed s.was) c.in_default.ensures.ok;
       sent = c.recv.ensures.sent_kept ∙ c.loop-pipe.invariant.sent;
       faults = c.in_default.ensures.faults_kept ∙ c.loop-pipe.invariant.faults;
     }
@@ -40,9 +40,9 @@ pub loop-pipe-smaller : goal.loop-pipe-smaller
 loop-pipe-smaller g c =
     let s = c.loop-pipe.invariant.receiving in
     let size : length (take c.in-Ok.count c.recv.new.into) ≡ c.in-Ok.count = length-take-le c.in-Ok.count c.recv.new.into
-          (omega (arith, c.in-Ok.ensures.within, c.recv.auto.into)) in
+    (omega (arith, c.in-Ok.ensures.within, c.recv.auto.into)) in
     nearer _ _ s.fed (take c.in-Ok.count c.recv.new.into) s.was s.begins (c.feed.ensures.next s.fed s.was)
-          (c.in-Ok-feed.ensures.begins s.fed s.was)
+    (c.in-Ok-feed.ensures.begins s.fed s.was)
     (omega (arith, size, c.in-Ok.ensures.some c.loop-pipe.invariant.some))
 
 -- the piece ends every frame

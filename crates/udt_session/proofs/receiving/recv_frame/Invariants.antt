@@ -7,7 +7,7 @@ invariant-loop-pipe g l = record {
   sound : g.Q.Pipe.is_sound l.pipe;
   some : 0 < length l.buffer;
   receiving : IsReceiving l.reader (g.Q.Pipe.received l.fn.pipe) (g.Q.Pipe.received l.pipe) (g.K.Sink.taken l.fn.sink)
-        (g.K.Sink.taken l.sink);
+      (g.K.Sink.taken l.sink);
   sent : g.Q.Pipe.sent l.pipe ≡ g.Q.Pipe.sent l.fn.pipe;
   faults : g.K.Sink.faults l.sink ≡ g.K.Sink.faults l.fn.sink;
 }

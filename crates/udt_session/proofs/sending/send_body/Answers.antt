@@ -13,7 +13,7 @@ returns-in-Err-send_all-clause-sent g c =
     let size : length (take c.in-Ok.count c.read.new.into) ≤ c.loop-more.more =
     omega (arith, length-take c.in-Ok.count c.read.new.into, c.in-Ok.ensures.within, c.room_of-room.ensures.most) in
     sending_part _ _ _ _ _ _ c.loop-more.invariant.sending _ _ _ (read_some _ _ _ _ c.in-Ok.ensures.ok) size
-          c.send_all.ensures.sent
+    c.send_all.ensures.sent
 
 -- a piece was read and sent
 pub loop-more-preserved : goal.loop-more-preserved
@@ -23,7 +23,7 @@ loop-more-preserved g c =
     record {
       sound = c.send_all.ensures.sound;
       sending = sending_next _ _ _ _ _ _ c.loop-more.invariant.sending _ _ _ c.in-Ok.count (read_some _ _ _ _
-            c.in-Ok.ensures.ok) size
+          c.in-Ok.ensures.ok) size
           (omega (arith, c.in-Ok.ensures.within, c.room_of-room.ensures.most)) c.in_default.ensures.ok;
       received = c.send_all.ensures.received_kept ∙ c.loop-more.invariant.received;
       faults = c.in-Ok.ensures.faults_kept ∙ c.loop-more.invariant.faults;

@@ -20,4 +20,4 @@ returns-clause-ok g c =
     let front : take n (c.copy_from_slice.new.self ++ drop n c.args.into.now) ≡ take n (drop p.came p.coming.items) =
     take_at c.copy_from_slice.new.self (drop n c.args.into.now) n size ∙ after in
     ap (λ (l : List ℕ). Some l) (sym (take_then p.came n p.coming.items) ∙ ap (λ (l : List ℕ). take p.came p.coming.items
-          ++ l) (sym front))
+    ++ l) (sym front))
