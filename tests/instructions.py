@@ -21,8 +21,13 @@ the two sockets. `PROGRAM flood PACKETS` has one NAK arrive so often, and then o
     allocations N more with a flood of twice as many
     a look-up among 1,024 IDs N instructions
     allocations N more with twice as many look-ups
+    send N instructions a call, N shared
+    arrive N instructions a call, N shared
+    recv N instructions a call, N shared
+    allocations N more with twice as many packets, alone and shared
 
-and ends with status 1 where a flood wasn't taken, or an ID wasn't found, as it should be.
+The last four are of `PROGRAM cell PACKETS`, which pushes the packets between two sockets, and then between two of the kind
+that threads share. It ends with status 1 where a flood wasn't taken, or an ID wasn't found, as it should be.
 """
 import os
 import re
@@ -34,6 +39,7 @@ PACKETS = 14_000
 PROGRAM = os.path.join(os.path.dirname(os.path.abspath(__file__)), "..", "crates", "udt_bench", "out", "udt_bench")
 LINES = {"send and pack": ["send", "pack"], "arrive and recv": ["arrive", "recv"], "tick": ["tick"]}
 FLOODS = {"a NAK": "flood::report_again", "a block": "flood::arrive_again"}
+SHARED = ["send", "arrive", "recv"]
 ALLOCATORS = ["rattle_alloc", "rattle_realloc"]
 
 
@@ -97,6 +103,12 @@ def counted(name, small, large):
     return sum(large.inclusive[it] - small.inclusive.get(it, 0) for it in found)
 
 
+def of_a_call(name, small, large):
+    """The instructions of one call of a function."""
+    found = large.of(rf"(\w+::)*{name}")
+    return counted(name, small, large) // sum(large.called[it] - small.called.get(it, 0) for it in found)
+
+
 def allocations(small, large):
     """How many more were made in the second run."""
     return sum(large.called.get(it, 0) - small.called.get(it, 0) for it in ALLOCATORS)
@@ -120,6 +132,7 @@ def main(given):
         pushed = profiles(program, "socket", packets, r"N packets, \d+ bytes received", folder)
         flooded = profiles(program, "flood", packets, "N reports, N blocks again", folder)
         routed = profiles(program, "routes", packets, "N look-ups, N found", folder)
+        shared = profiles(program, "cell", packets, r"(\d+) bytes received alone, \1 shared", folder)
     for line, calls in LINES.items():
         cost = sum(counted(f"socket::call_{it}", *pushed) for it in calls)
         print(f"{line} {cost // packets} instructions a packet")
@@ -130,6 +143,10 @@ def main(given):
     print(f"allocations {allocations(*flooded)} more with a flood of twice as many")
     print(f"a look-up among 1,024 IDs {counted('routes::look_up', *routed) // packets} instructions")
     print(f"allocations {allocations(*routed)} more with twice as many look-ups")
+    for it in SHARED:
+        alone, turned = (of_a_call(name, *shared) for name in (f"socket::call_{it}", f"cell::shared_{it}"))
+        print(f"{it} {alone} instructions a call, {turned} shared")
+    print(f"allocations {allocations(*shared)} more with twice as many packets, alone and shared")
 
 
 if __name__ == "__main__":

@@ -9,31 +9,30 @@ usage: play.py replay [CONTROL]             prints what the program prints for t
 CONTROL is native, fixed or aimd. The exit status is the program's: 2 where a line was refused.
 """
 import re
-import struct
 import sys
 
 from controls import CONTROLS, NATIVE
-from read import NUMBERS
-from sockets import NEVER, Opening, Refused, Socket
+from halves import NEVER, Opening, Refused
+from hosts import Dropped, Host
+from read import NUMBERS, read
+from shakes import KINDS, Peer, clamped, peer_of
+from sockets import Socket
+from texts import address_in, number_in
 
-HOSTS = ("10.0.0.1:9000", "10.0.0.2:9000")
+PAIR_HOSTS = ("10.0.0.1:9000", "10.0.0.2:9000")     # of a script from its first line on
 MOST_PAYLOAD = 8_956
 LEAST_BLOCKS, MOST_BLOCKS = 2, 65_536
 LAST_START = 1 << 59
 LAST_MOMENT = (1 << 53) - 1
 MOST_ROOM = 65_536
 MOST_SOCKETS = 1_024
+MOST_HOSTS = 64                 # besides those of the pairs
+LAST_COUNT = (1 << 32) - 1
 LONGEST_LINE = 65_536
 LONGEST_SCRIPT = 67_108_864
-SHORTEST_DATAGRAM = 16
 LAST_SEED = (1 << 32) - 1       # of the generated run
 MOST_TURNS = 400_000
 STATUS_PLAYED, STATUS_REFUSED = 0, 2
-
-
-def number_in(word, least, most):
-    """The number that a word spells, where it lies in a range."""
-    return int(word) if re.fullmatch("0|[1-9][0-9]*", word) and least <= int(word) <= most else None
 
 
 def moment_in(word):
@@ -58,33 +57,30 @@ def bytes_in(word):
     return bytes.fromhex(word.replace("-", "")) if re.fullmatch("-|([0-9a-f]{2})+", word) else None
 
 
-def is_address(word):
-    """Whether a word spells an address and a port."""
-    v4, v6 = re.fullmatch(r"([0-9.]+):([0-9]+)", word), re.fullmatch(r"\[([0-9a-fA-F:]+)\]:([0-9]+)", word)
-    if not (v4 or v6) or number_in((v4 or v6)[2], 0, 65_535) is None:
-        return False
-    if v4:
-        parts = v4[1].split(".")
-        return len(parts) == 4 and all(number_in(it, 0, 255) is not None for it in parts)
-    groups = lambda text: text.split(":") if text else []
-    halves = [groups(it) for it in v6[1].split("::")]
-    told = [it for half in halves for it in half]
-    if len(halves) > 2 or not all(re.fullmatch("[0-9a-fA-F]{1,4}", it) for it in told):
-        return False
-    return len(told) == 8 if len(halves) == 1 else len(told) < 8
+def count_in(word):
+    return number_in(word, 0, LAST_COUNT)
+
+
+def name_in(word):
+    return word if re.fullmatch("[a-z][a-z0-9]{0,15}", word) else None
 
 
 # (what the words after the moment of a call are)
-CALLS = {"send": [bytes_in], "recv": [room_in], "sendmsg": [ttl_in, order_in, bytes_in], "recvmsg": [room_in], "pack": [],
-         "tick": [], "close": [], "perf": []}
+CALLS = {"listen": [count_in], "connect": [address_in], "meet": [address_in], "accept": [name_in], "shake": [],
+         "send": [bytes_in], "recv": [room_in], "sendmsg": [ttl_in, order_in, bytes_in], "recvmsg": [room_in],
+         "pack": [], "tick": [], "close": [], "perf": []}
+# (with what sockets are opened: the most bytes of a block, the initial sequence number, the blocks, and the start)
+RANGES = [(1, MOST_PAYLOAD), (0, NUMBERS - 1), (LEAST_BLOCKS, MOST_BLOCKS), (0, LAST_START)]
 
 
 class Player:
-    """The sockets of a script, and the datagrams that they emitted."""
+    """The hosts and sockets of a script, and the datagrams that the sockets emitted."""
 
     def __init__(self, control=NATIVE):
         self.control = CONTROLS[control]
-        self.sockets, self.named, self.datagrams = [], {}, []
+        self.hosts = {it: Host(it) for it in PAIR_HOSTS}    # by address
+        self.named_hosts, self.named = {}, {}               # hosts and sockets by name
+        self.sockets, self.datagrams = [], []
 
     def line(self, line):
         """What a line prints, as lines. None where it is refused."""
@@ -95,26 +91,54 @@ class Player:
         form = line.split(" ")
         if len(form) < 3:
             return None
-        if form[1] in CALLS:
+        # (a host may be named like a call, and a socket like the first word of any line: the moment decides)
+        if form[1] in CALLS and moment_in(form[2]) is not None:
             return self.call_line(*form)
-        by_first = {"pair": self.pair_line, "deliver": self.deliver_line, "raw": self.raw_line}
+        by_first = {"pair": self.pair_line, "host": self.host_line, "open": self.open_line,
+                    "deliver": self.deliver_line, "raw": self.raw_line}
         return by_first[form[0]](*form[1:]) if form[0] in by_first else None
 
+    def is_new(self, name):
+        """Whether a word is a name that neither a host nor a socket has."""
+        return name_in(name) is not None and name not in self.named and name not in self.named_hosts
+
+    def has_room(self, count):
+        """Whether so many more sockets may be made."""
+        return len(self.sockets) + count <= MOST_SOCKETS
+
     def pair_line(self, kind, *rest):
-        if kind not in ("stream", "message") or len(rest) not in (5, 6):
+        if kind not in KINDS or len(rest) not in (5, 6):
             return None
-        ranges = [(1, MOST_PAYLOAD), (0, NUMBERS - 1), (LEAST_BLOCKS, MOST_BLOCKS), (0, LAST_START)]
-        values = [number_in(word, *within) for word, within in zip(rest[2:], ranges)]
-        new = [it for it in rest[:2] if re.fullmatch("[a-z][a-z0-9]{0,15}", it) and it not in self.named]
-        if None in values or len(set(new)) < 2 or len(self.sockets) + 2 > MOST_SOCKETS:
+        values = [number_in(word, *within) for word, within in zip(rest[2:], RANGES)]
+        are_new = rest[0] != rest[1] and self.is_new(rest[0]) and self.is_new(rest[1])
+        return self.pair(kind, rest[:2], *values) if None not in values and are_new and self.has_room(2) else None
+
+    def host_line(self, name, address, *rest):
+        address = address_in(address)
+        is_free = address is not None and address not in self.hosts and len(self.named_hosts) < MOST_HOSTS
+        if rest or not is_free or not self.is_new(name):
             return None
-        return self.pair(kind, rest[:2], *values)
+        self.hosts[address] = self.named_hosts[name] = Host(address)
+        return [f"host {name}"]
+
+    def open_line(self, kind, *rest):
+        if kind not in KINDS or len(rest) != 5 or rest[1] not in self.named_hosts:
+            return None
+        values = [number_in(word, *within) for word, within in zip(rest[2:], RANGES)]
+        if None in values or not self.is_new(rest[0]) or not self.has_room(1):
+            return None
+        opening = Opening(kind, *values, self.control)
+        socket = Socket(rest[0], len(self.sockets) + 1, self.named_hosts[rest[1]].address, opening)
+        self.enrol(socket)
+        return [f"open {socket.name} {socket.own}"]
 
     def call_line(self, name, call, moment, *rest):
-        if len(rest) != len(CALLS[call]) or name not in self.named or moment_in(moment) is None:
+        if len(rest) != len(CALLS[call]) or name not in self.named:
             return None
         values = [read_word(word) for read_word, word in zip(CALLS[call], rest)]
-        return None if None in values else self.call(self.named[name], call, int(moment), *values)
+        if None in values or (call == "accept" and not self.is_new(*values)):
+            return None
+        return self.call(self.named[name], call, int(moment), *values)
 
     def deliver_line(self, number, moment, *rest):
         if rest or number_in(number, 0, len(self.datagrams) - 1) is None or moment_in(moment) is None:
@@ -122,28 +146,41 @@ class Player:
         return self.arrival(int(moment), *self.datagrams[int(number)])
 
     def raw_line(self, moment, *rest):
-        if len(rest) != 3 or moment_in(moment) is None or not (is_address(rest[0]) and is_address(rest[1])):
+        if len(rest) != 3 or moment_in(moment) is None:
             return None
-        data = bytes_in(rest[2])
-        return None if data is None else self.arrival(int(moment), rest[0], rest[1], data)
+        sender, to, data = address_in(rest[0]), address_in(rest[1]), bytes_in(rest[2])
+        return None if None in (sender, to, data) else self.arrival(int(moment), sender, to, data)
+
+    def enrol(self, socket):
+        """A socket is on its host, and has a name unless it waits to be accepted."""
+        self.sockets.append(socket)
+        self.hosts[socket.host].enrol(socket)
+        if socket.name != str(socket.own):
+            self.named[socket.name] = socket
 
     def pair(self, kind, names, payload, isn, blocks, start=0):
         """Two sockets, each of which is the other's peer."""
-        opening, own = Opening(kind, payload, isn, blocks, start, self.control), len(self.sockets) + 1
-        ends = [(own, HOSTS[0], HOSTS[1], own + 1), (own + 1, HOSTS[1], HOSTS[0], own)]
-        for name, end in zip(names, ends):
-            self.named[name] = Socket(name, *end, opening)
-            self.sockets.append(self.named[name])
+        opening, own = Opening(kind, payload, isn, blocks, self.control, start), len(self.sockets) + 1
+        ends = [(own, PAIR_HOSTS[0], PAIR_HOSTS[1], own + 1), (own + 1, PAIR_HOSTS[1], PAIR_HOSTS[0], own)]
+        for name, (ident, host, peer_host, peer_id) in zip(names, ends):
+            peer = Peer(peer_host, peer_id, isn, payload, clamped(blocks))
+            self.enrol(Socket.paired(name, ident, host, opening, peer))
+            self.hosts[host].adopt(self.sockets[-1])
         return [f"pair {names[0]} {own} {names[1]} {own + 1}"]
 
     def call(self, socket, name, moment, *values):
-        """A call of a socket, or a tick."""
-        socket.at(moment)
+        """A call of a socket, or a tick. Where its host has no place for what is asked, the socket isn't called."""
+        host = self.hosts[socket.host]
         try:
+            host.check_place(socket, name, *values)
+            socket.at(moment)
             answer, outs = self.answer(socket, name, *values)
+            host.take_place(socket, name, *values)
         except Refused as refused:
             answer, outs = str(refused), []
-        return [" ".join([socket.name, name, answer]).rstrip()] + [self.emitted(socket, data) for data in outs]
+        if socket.phase == "closed":
+            host.leave(socket.own)
+        return [" ".join([socket.name, name, answer]).rstrip()] + self.emitted(socket, outs)
 
     def answer(self, socket, name, *values):
         """What a call answers, and what it emits."""
@@ -151,29 +188,56 @@ class Player:
             return socket.pack()
         if name == "tick":
             return "", socket.tick()
-        told = getattr(socket, name)(*values)
+        told = getattr(socket, name)(*([] if name == "accept" else values))
+        if name == "accept":
+            return self.name_accepted(told, *values), []
         return told.hex() or "-" if isinstance(told, bytes) else "" if told is None else str(told), []
 
-    def emitted(self, socket, data):
-        """A datagram is on its way."""
-        self.datagrams.append((socket.host, socket.peer_host, data))
-        return f"datagram {len(self.datagrams) - 1} {socket.host} {socket.peer_host} {data.hex()}"
+    def name_accepted(self, ident, name):
+        """A socket that was offered gets its name."""
+        self.named[name] = self.sockets[ident - 1]
+        self.named[name].name = name
+        return f"{name} {ident}"
 
-    def arrival(self, moment, sender, host, data):
-        """A datagram goes to the socket at its host whose ID is its destination."""
-        if host not in HOSTS:
+    def emitted(self, socket, outs):
+        """Datagrams are on their way."""
+        first = len(self.datagrams)
+        self.datagrams += [(socket.host, to, data) for to, data in outs]
+        return [f"datagram {first + i} {socket.host} {to} {data.hex()}" for i, (to, data) in enumerate(outs)]
+
+    def arrival(self, moment, sender, to, data):
+        """A datagram reaches a socket of the host with this address, or none."""
+        if to not in self.hosts:
             return ["dropped host"]
-        if len(data) < SHORTEST_DATAGRAM:
-            return ["dropped short"]
-        dest = struct.unpack(">I", data[12:16])[0]
-        if dest == 0:
-            return ["dropped shake"]
-        socket = self.sockets[dest - 1] if dest <= len(self.sockets) else None
-        if not socket or socket.host != host or socket.phase == "closed":
-            return ["dropped id"]
+        packet = read(data)
+        try:
+            socket = self.hosts[to].target(sender, data, packet)
+        except Dropped as dropped:
+            return [f"dropped {dropped}"]
+        return self.given(socket, moment, sender, packet)
+
+    def given(self, socket, moment, sender, packet):
+        """A packet is given to a socket. Where that is a request which a listener takes, a new socket gets it too."""
         socket.at(moment)
-        word, outs = socket.arrive(sender, data)
-        return [f"{socket.name} arrive {word}"] + [self.emitted(socket, data) for data in outs]
+        word, outs = socket.arrive(sender, packet)
+        if word in ("adopted", "connected"):
+            self.hosts[socket.host].adopt(socket)
+        told = [f"{socket.name} arrive {word}"] + self.emitted(socket, outs)
+        return told + self.requested(socket, moment, sender, packet) if word == "request" else told
+
+    def requested(self, listener, moment, sender, packet):
+        """A socket is made for the client that is the sender, and offered, where there may be one more."""
+        if not self.has_room(1):
+            listener.opener.withdraw()
+            return [f"{listener.name} withdraw"]
+        config, own = listener.opening, len(self.sockets) + 1
+        peer = peer_of(config, sender, packet["shake"])
+        opening = Opening(config.kind, config.payload, peer.isn, config.blocks, config.control)
+        socket = Socket.paired(str(own), own, listener.host, opening, peer)
+        self.enrol(socket)
+        self.hosts[socket.host].adopt(socket)
+        listener.opener.offer(own)
+        return [f"{listener.name} offer {own}"] + self.given(socket, moment, sender, packet)
 
 
 def play(script, control=NATIVE):

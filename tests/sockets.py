@@ -1,390 +1,65 @@
-"""The socket of a script's pair: a stream or messages each way, connected from its opening on.
+"""A socket: a stream or messages each way, once it is connected, by handshakes or from its opening on.
 
-It is told of calls, arrivals and ticks, and answers each with words and the datagrams that it emits.
+It is told of calls, arrivals and ticks, and answers each with words and the datagrams that it emits, each with the
+address to which it goes.
 """
-import math
 import struct
 from collections import Counter
-from dataclasses import dataclass
 
-from read import NEAR, NUMBERS, TYPES, read
-from timing import SYN, Path, Window
+from halves import Receiver, Refused, Sender, words_of
+from read import TYPES
+from shakes import HEADERS, KINDS, REQUEST, RESPONSE, VERSION, Connecting, Listening, Meeting, field_of
+from texts import port_of
+from timing import Path
 
-PACKETS = 1 << 60               # the packets that a direction may ever have
-LAST_MESSAGE = (1 << 29) - 1    # 1 comes after it
-LAST_ACK_NUMBER = NUMBERS - 1   # 1 comes after it
-FIRST, LAST, ORDER = 1 << 31, 1 << 30, 1 << 29  # the flags of a message's first and last block, and of its order
-HEADERS = 44                    # bytes of a packet besides its payload
-LEAST_FLOW, GREATEST_FLOW = 2, 65_536
-PROBE = 16                      # after a sequence number that this divides the next packet follows at once
-LIGHT_ACK_BLOCKS = 64           # a light ACK comes after so many placed blocks
-ACK_HISTORY = 1_024             # full ACKs that are remembered
-FIRST_TRIPS = 2                 # round trips from the first report of a loss to the second
-MOST_TRIPS = (1 << 32) - 1
-LEAST_NAK_WORDS = 2
 LEAST_EXP_INTERVAL = 500_000    # microseconds, like all times here
-NEVER = math.inf                # when a message without a time to live expires
 MOST_EXP_COUNT, LEAST_SILENCE, GREATEST_SILENCE = 16, 3_000_000, 180_000_000
+MOST_BACKLOG = 1_024
+OPENERS = ("listening", "connecting", "meeting")    # the phases that take handshakes in their own way
+NO_WINDOW, NO_PERIOD = 16, 0                        # what is told of a rate control before there is one
 
 TYPE_NUMBERS = {name: number for number, name in TYPES.items()}
 COUNTERS = ("placed", "double", "below", "above", "control", "stale", "foreign", "malformed")
-
-
-def near(isn, base, number):
-    """The offset near the base that has this sequence number, or None."""
-    ahead = (number - isn - base) % NUMBERS
-    found = [n for n in (base + ahead, base + ahead - NUMBERS) if n >= 0 and abs(n - base) < NEAR]
-    return found[0] if found else None
 
 
 def words(*numbers):
     return struct.pack(">%dI" % len(numbers), *numbers)
 
 
-def clamped(blocks):
-    """A flow window."""
-    return max(LEAST_FLOW, min(GREATEST_FLOW, blocks))
-
-
-def runs(offsets):
-    """The longest ranges of consecutive offsets, in rising order."""
-    found = []
-    for offset in sorted(offsets):
-        if found and found[-1][1] == offset - 1:
-            found[-1] = (found[-1][0], offset)
-        else:
-            found.append((offset, offset))
-    return found
-
-
-def words_of(run):
-    """How many words of a NAK a range takes."""
-    return 1 if run[0] == run[1] else 2
-
-
-class Refused(Exception):
-    """Why a call is refused, in the words that are printed."""
-
-
-@dataclass
-class Opening:
-    """With what both sockets of a pair are opened."""
-
-    kind: str       # what they carry: a stream, or messages
-    payload: int    # the most bytes of a block
-    isn: int        # the initial sequence number both ways
-    blocks: int     # the room for blocks each way
-    start: int      # the offset at which both directions begin
-    control: type
-
-
-@dataclass
-class Message:
-    """A message that was accepted: its number, its first and last offset, and the moment after which it is dropped."""
-
-    number: int
-    first: int
-    last: int
-    expires: float
-
-
-class Sender:
-    """The sending half: accepted blocks, which are sent and kept until they are acknowledged."""
-
-    def __init__(self, opening, path):
-        self.opening, self.path = opening, path
-        self.acked = self.next = self.end = opening.start   # (each block below these: acknowledged, sent, accepted)
-        self.kept = {}                                      # flags, bytes and message, by offset
-        self.lost = set()
-        self.flow = clamped(opening.blocks)
-        self.control = opening.control(opening.payload + HEADERS, self.flow)
-        self.message = 1
-        self.due = 0                                        # when the next packet may go out, in nanoseconds
-        self.sent = self.resent = 0
-
-    def accept(self, given):
-        """Takes the bytes of a stream that fit, as blocks of one message, and says how many."""
-        left, free, payload = PACKETS - self.end, self.opening.blocks - len(self.kept), self.opening.payload
-        if given and left == 0:
-            raise Refused("refused 9001")
-        if given and free == 0:
-            raise Refused("again")
-        return self.keep(given[: min(free, left) * payload], 0, NEVER)
-
-    def accept_message(self, given, order, expires):
-        """Takes a message whole, and says how many bytes it has."""
-        blocks = -(-len(given) // self.opening.payload)
-        if blocks > self.opening.blocks:
-            raise Refused("refused 5012")
-        if blocks > PACKETS - self.end:
-            raise Refused("refused 9001")
-        if blocks > self.opening.blocks - len(self.kept):
-            raise Refused("again")
-        return self.keep(given, order, expires)
-
-    def keep(self, taken, order, expires):
-        """Keeps these bytes, if there are any, as the blocks of one message."""
-        if not taken:
-            return 0
-        payload = self.opening.payload
-        message = Message(self.message, self.end, self.end + (len(taken) - 1) // payload, expires)
-        for at in range(0, len(taken), payload):
-            ends = (FIRST if self.end == message.first else 0) + (LAST if self.end == message.last else 0)
-            self.kept[self.end] = ends + order * ORDER + message.number, taken[at : at + payload], message
-            self.end += 1
-        self.message = self.message % LAST_MESSAGE + 1
-        return len(taken)
-
-    def drop(self, now):
-        """The message of the least lost block, where it has expired. None of its blocks is sent any more."""
-        message = self.kept[min(self.lost)][2] if self.lost else None
-        if message is None or now <= message.expires:
-            return None
-        self.lost.difference_update(range(message.first, message.last + 1))
-        self.next = max(self.next, message.last + 1)
-        return message
-
-    def choose(self, now):
-        """The offset of the block that goes out: the least lost one, or the next one where both windows allow it."""
-        if self.lost:
-            offset = min(self.lost)
-            self.lost.remove(offset)
-            self.resent += 1
-        elif self.next < self.end and self.next - self.acked < min(self.flow, self.control.window):
-            offset = self.next
-            self.next += 1
-            self.sent += 1
-        else:
-            return None
-        begins_pair = (self.opening.isn + offset) % NUMBERS % PROBE == 0
-        self.due = 1000 * now + (0 if begins_pair else self.control.period)
-        return offset
-
-    def on_ack(self, body):
-        """Whether an ACK names an offset from the first kept one to the next. All blocks below it are released."""
-        offset = near(self.opening.isn, self.acked, body["ack"])
-        if offset is None or not self.acked <= offset <= self.next:
-            return False
-        newly = offset - self.acked
-        for released in range(self.acked, offset):
-            del self.kept[released]
-            self.lost.discard(released)
-        self.acked = offset
-        if body["form"] == "light":
-            self.flow = max(LEAST_FLOW, self.flow - newly)
-            return True
-        self.path.take_sample(body["rtt"])
-        self.flow = clamped(body["buffer"])
-        if body["form"] == "full":
-            self.path.take_rates(body["rate"], body["capacity"])
-            self.control.on_ack(newly, self.path)
-        return True
-
-    def sent_range(self, first, last):
-        """The offsets in flight that a range of a NAK names, or None where it names others."""
-        isn, acked = self.opening.isn, self.acked
-        first, last = near(isn, acked, first), near(isn, acked, last)
-        if last is None or not acked <= last < self.next or (first is not None and first > last):
-            return None
-        return range(acked if first is None else max(first, acked), last + 1)
-
-    def on_nak(self, ranges):
-        """Whether a NAK names a packet in flight. What it names is lost."""
-        named = [it for it in (self.sent_range(*ends) for ends in ranges) if it]
-        if not named:
-            return False
-        self.lost.update(*named)
-        self.control.on_nak(min(it[0] for it in named), self.next, self.path)
-        return True
-
-    def on_timeout(self):
-        """Whether packets are in flight. All of them are lost."""
-        if self.next == self.acked:
-            return False
-        self.lost.update(range(self.acked, self.next))
-        self.control.on_timeout(self.path)
-        return True
-
-
-@dataclass
-class Report:
-    """When a loss was reported last, and how many round trips later it is reported again."""
-
-    moment: int
-    trips: int = FIRST_TRIPS
-
-
-class Receiver:
-    """The receiving half: placed blocks, which are kept until they are read."""
-
-    def __init__(self, opening, path):
-        self.opening, self.path = opening, path
-        self.base = self.top = self.confirmed = opening.start   # (not read yet; highest that arrived, plus one)
-        self.placed = {}                                        # flags and bytes, by offset; None once consumed
-        self.given = 0                                          # bytes of the base's block that were read already
-        self.lost = {}                                          # reports, by offset
-        self.arrivals, self.pairs = Window(), Window()
-        self.last_data = None                                   # the moment of the last data packet
-        self.fresh = 0                                          # blocks placed since the last ACK
-        self.history = {}                                       # offset and moment of full ACKs, by their numbers
-        self.last_ack = None                                    # number, offset and moment of the last full ACK
-        self.ack_due, self.nak_due = SYN, path.interval()
-
-    def read(self, room):
-        """The first bytes that wait, as many as there is room for. A block whose bytes are all read is consumed."""
-        given = []
-        while room and self.base in self.placed:
-            block = self.placed[self.base][1]
-            given.append(block[self.given : self.given + room])
-            room -= len(given[-1])
-            self.given += len(given[-1])
-            if self.given == len(block):
-                self.consume([self.base])
-        return b"".join(given)
-
-    def consume(self, offsets):
-        """These offsets are done with. The base moves over all that are."""
-        self.placed.update(dict.fromkeys(offsets))
-        while self.base in self.placed and self.placed[self.base] is None:
-            del self.placed[self.base]
-            self.base, self.given = self.base + 1, 0
-
-    def message_at(self, first):
-        """The offsets of the message that is readable from this one on, or none."""
-        flags = self.placed[first][0]
-        waits = flags["order"] and any(offset not in self.placed for offset in range(self.base, first))
-        if not flags["first"] or waits:
-            return range(0)
-        last = first
-        while not self.placed[last][0]["last"]:
-            last += 1
-            if self.placed.get(last) is None or self.placed[last][0]["message"] != flags["message"]:
-                return range(0)
-        return range(first, last + 1)
-
-    def next_message(self):
-        """The offsets of the next message, or none."""
-        live = sorted(offset for offset, block in self.placed.items() if block is not None)
-        return next(filter(None, map(self.message_at, live)), range(0))
-
-    def read_message(self, room):
-        """The bytes of the next message, or none where no message is readable."""
-        offsets = self.next_message()
-        given = b"".join(self.placed[offset][1] for offset in offsets)
-        if len(given) > room:
-            raise Refused("refused 5012")
-        self.consume(offsets)
-        return given
-
-    def ack_offset(self):
-        """The first offset that has not arrived."""
-        return min(self.lost, default=self.top)
-
-    def measure(self, number, now):
-        """A data packet arrived, whatever becomes of it."""
-        if self.last_data is not None:
-            self.arrivals.push(now - self.last_data)
-            if number % PROBE == 1:
-                self.pairs.push(now - self.last_data)
-        self.last_data = now
-
-    def placing(self, offset):
-        """What becomes of a block at this offset."""
-        if offset is None or offset >= PACKETS:
-            return "above"
-        if offset < self.base:
-            return "below"
-        if offset >= self.base + self.opening.blocks:
-            return "above"
-        return "double" if offset in self.placed else "placed"
-
-    def on_block(self, number, flags, block, now):
-        """What becomes of a block; the range that is lost by it, or None; and whether a light ACK is due."""
-        self.measure(number, now)
-        offset = near(self.opening.isn, self.top, number)
-        outcome = self.placing(offset)
-        if outcome != "placed":
-            return outcome, None, False
-        self.placed[offset] = flags, block
-        gap = self.arrived(offset, offset, now)
-        self.fresh = (self.fresh + 1) % LIGHT_ACK_BLOCKS
-        return outcome, gap, self.fresh == 0
-
-    def arrived(self, first, last, now):
-        """These offsets are missing no more. The range that is lost by it, or None."""
-        gap = (self.top, first - 1) if first > self.top else None
-        self.lost.update({lost: Report(now) for lost in range(self.top, first)})
-        for offset in range(max(first, self.base), last + 1):
-            self.lost.pop(offset, None)
-        self.top = max(self.top, last + 1)
-        return gap
-
-    def on_drop(self, first, last, now):
-        """Whether a drop request takes offsets, and the range that is lost by it, or None."""
-        first, last = (near(self.opening.isn, self.top, number) for number in (first, last))
-        if first is None or last is None or first > last or last >= PACKETS:
-            return False, None
-        if not self.base <= last < self.base + self.opening.blocks:
-            return False, None
-        gap = self.arrived(first, last, now)
-        self.consume(range(max(first, self.base), last + 1))
-        return True, gap
-
-    def on_ack2(self, number, now):
-        """Whether an ACK2 answers an ACK that is remembered. It measures the round trip and confirms the offset."""
-        if number not in self.history:
-            return False
-        offset, moment = self.history.pop(number)
-        self.path.take_sample(now - moment)
-        self.confirmed = max(self.confirmed, offset)
-        return True
-
-    def is_known(self, offset, now):
-        """Whether the peer knows this ACK offset, or was told of it not long ago."""
-        if offset == self.confirmed:
-            return True
-        return self.last_ack is not None and offset == self.last_ack[1] and now - self.last_ack[2] < 2 * self.path.rtt
-
-    def tick_ack(self, now):
-        """Number, offset and free blocks of a full ACK, where one is due."""
-        if now < self.ack_due:
-            return None
-        self.ack_due, offset = now + SYN, self.ack_offset()
-        if self.is_known(offset, now):
-            return None
-        number = self.last_ack[0] % LAST_ACK_NUMBER + 1 if self.last_ack else 1
-        self.last_ack, self.fresh = (number, offset, now), 0
-        self.history[number] = offset, now
-        if len(self.history) > ACK_HISTORY:
-            del self.history[next(iter(self.history))]
-        return number, offset, max(LEAST_FLOW, self.opening.blocks - (offset - self.base))
-
-    def tick_nak(self, now):
-        """The ranges that are to be reported now."""
-        if now < self.nak_due:
-            return []
-        self.nak_due = now + self.path.interval()
-        room, told = max(LEAST_NAK_WORDS, self.opening.payload // 4), []
-        for run in runs(n for n, it in self.lost.items() if now - it.moment >= it.trips * self.path.rtt):
-            room -= words_of(run)
-            if room < 0:
-                break
-            told.append(run)
-            for offset in range(run[0], run[1] + 1):
-                self.lost[offset] = Report(now, min(self.lost[offset].trips + 1, MOST_TRIPS))
-        return told
+def control_word(kind):
+    """The first word of a control packet."""
+    return (1 << 31) + (TYPE_NUMBERS[kind] << 16)
 
 
 class Socket:
-    """One socket of a pair: its two halves, and the timers and counters of both."""
+    """One socket: what it makes of handshakes, and, once it is connected, its two halves and their timers."""
 
-    def __init__(self, name, own, host, peer_host, peer, opening):
-        self.name, self.own, self.host, self.peer_host, self.peer = name, own, host, peer_host, peer
-        self.opening, self.path = opening, Path()
-        self.sender, self.receiver = Sender(opening, self.path), Receiver(opening, self.path)
-        self.phase, self.cause, self.now = "connected", None, 0
+    def __init__(self, name, own, host, opening):
+        self.name, self.own, self.host, self.opening, self.path = name, own, host, opening, Path()
+        self.phase, self.cause, self.now = "opened", None, 0
+        self.opener = None                      # (listens, connects or meets, in the phase of this name)
+        self.peer = self.sender = self.receiver = None
+        self.repeats = {}                       # what a handshake that comes again is answered, by what it asks
         self.heard, self.exp_from, self.exp_count = 0, 0, 1
         self.counts = Counter()
+
+    @staticmethod
+    def paired(name, own, host, opening, peer):
+        """A socket that is connected from its opening on."""
+        socket = Socket(name, own, host, opening)
+        socket.peer = peer
+        socket.connected({REQUEST: RESPONSE})
+        return socket
+
+    def connected(self, repeats):
+        """The peer is known. The timers begin."""
+        self.phase, self.repeats = "connected", repeats
+        self.sender = Sender(self.opening, self.peer, self.path)
+        self.receiver = Receiver(self.opening, self.peer, self.path, self.now)
+        self.heard, self.exp_from, self.exp_count = self.now, self.now, 1
+
+    def fail(self, cause):
+        self.phase, self.cause = "failed", cause
 
     def at(self, moment):
         """A moment never goes back."""
@@ -394,40 +69,71 @@ class Socket:
         """Why a call is refused, where the socket isn't connected."""
         return Refused(f"refused 2001 {self.cause}" if self.phase == "broken" else "refused 2002")
 
-    # ---- calls
+    # ---- calls that open a connection
 
-    def check(self, kind):
-        """A socket that carries messages has no calls of a stream, and the other way round."""
+    def begin(self, is_given, phase, opener, *values):
+        """A phase begins in which handshakes are taken, where the values are in their ranges."""
+        if not is_given:
+            raise Refused("refused 5003")
+        if self.phase != "opened":
+            raise Refused("refused 5002")
+        self.phase, self.opener = phase, opener(self, *values)
+
+    def listen(self, backlog):
+        self.begin(1 <= backlog <= MOST_BACKLOG, "listening", Listening, backlog)
+
+    def connect(self, to):
+        self.begin(port_of(to) != 0, "connecting", Connecting, to)
+
+    def meet(self, to):
+        self.begin(port_of(to) != 0, "meeting", Meeting, to)
+
+    def accept(self):
+        """The ID of the socket that waits longest to be accepted."""
+        if self.phase == "broken":
+            raise self.cut_off()
+        if self.phase != "listening":
+            raise Refused("refused 5006")
+        if not self.opener.offered:
+            raise Refused("again")
+        return self.opener.offered.pop(0)
+
+    def shake(self):
+        """How far the connection is."""
+        if self.phase in ("failed", "broken"):
+            return f"refused {self.cause}" if self.phase == "failed" else str(self.cut_off())
+        return {"connecting": "waiting", "meeting": "waiting", "connected": "connected"}.get(self.phase, "idle")
+
+    # ---- calls of a connection
+
+    def check(self, kind, *phases):
+        """A socket that carries messages has no calls of a stream, and the other way round. It must be in a phase."""
         if kind != self.opening.kind:
             raise Refused("refused 5010" if kind == "stream" else "refused 5009")
+        if self.phase not in phases:
+            raise self.cut_off()
 
     def send(self, given):
         """How many of these bytes are accepted."""
-        self.check("stream")
-        if self.phase != "connected":
-            raise self.cut_off()
+        self.check("stream", "connected")
         return self.sender.accept(given)
 
     def sendmsg(self, ttl, order, given):
         """How many bytes the message has."""
-        self.check("message")
-        if self.phase != "connected":
-            raise self.cut_off()
+        self.check("message", "connected")
         return self.sender.accept_message(given, order, self.now + ttl)
 
     def recv(self, room):
         """The first bytes that wait."""
-        self.check("stream")
+        self.check("stream", "connected", "broken")
         return self.received(room, self.receiver.read)
 
     def recvmsg(self, room):
         """The next message."""
-        self.check("message")
+        self.check("message", "connected", "broken")
         return self.received(room, self.receiver.read_message)
 
     def received(self, room, read_into):
-        if self.phase not in ("connected", "broken"):
-            raise self.cut_off()
         given = read_into(room) if room else b""
         if room and not given:
             raise Refused("again") if self.phase == "connected" else self.cut_off()
@@ -438,29 +144,43 @@ class Socket:
 
     def perf(self):
         """What was measured and counted."""
-        control, sender = self.sender.control, self.sender
-        told = {"rtt": self.path.rtt, "var": self.path.rtt_var, "window": control.window, "period": control.period,
-                "sent": sender.sent, "resent": sender.resent, **{it: self.counts[it] for it in COUNTERS},
-                "acked": sender.acked}
+        sender = self.sender
+        window, period = (sender.control.window, sender.control.period) if sender else (NO_WINDOW, NO_PERIOD)
+        sent, resent, acked = (sender.sent, sender.resent, sender.acked) if sender else (0, 0, 0)
+        told = {"rtt": self.path.rtt, "var": self.path.rtt_var, "window": window, "period": period,
+                "sent": sent, "resent": resent, **{it: self.counts[it] for it in COUNTERS}, "acked": acked}
         return " ".join(f"{name} {value}" for name, value in told.items())
 
     # ---- packets that go out
 
-    def number_of(self, offset):
-        """The sequence number of an offset."""
-        return (self.opening.isn + offset) % NUMBERS
+    def header(self, first, second, dest):
+        return words(first, second, self.now % (1 << 32), dest)
 
-    def packet(self, first, second, *field):
-        return words(first, second, self.now % (1 << 32), self.peer, *field)
+    def packet(self, first, second, field):
+        """A packet for the peer."""
+        return self.peer.host, self.header(first, second, self.peer.id) + field
 
     def control_packet(self, kind, info, *field):
-        return self.packet((1 << 31) + (TYPE_NUMBERS[kind] << 16), info, *field)
+        return self.packet(control_word(kind), info, words(*field))
+
+    def own_shake(self, ask, payload=None):
+        """The fields of a handshake of this socket, with this payload or the one that it was opened with."""
+        return {"version": VERSION, "kind": KINDS[self.opening.kind], "isn": self.opening.isn,
+                "packet": (payload or self.opening.payload) + HEADERS, "flow": self.opening.blocks, "ask": ask,
+                "id": self.own, "cookie": 0}
+
+    def handshake(self, to, dest, shake):
+        return to, self.header(control_word("handshake"), 0, dest) + field_of(shake, to)
+
+    def answer(self, ask):
+        """A handshake for the peer, with what both agreed on."""
+        return self.handshake(self.peer.host, self.peer.id, self.own_shake(ask, self.peer.payload))
 
     def nak(self, ranges):
         """A loss report: one word for one offset, and two for more, the first of them with its first bit set."""
         field = []
         for run in ranges:
-            first, last = self.number_of(run[0]), self.number_of(run[1])
+            first, last = map(self.receiver.number_of, run)
             field += [first] if words_of(run) == 1 else [(1 << 31) + first, last]
         return self.control_packet("nak", 0, *field)
 
@@ -473,13 +193,13 @@ class Socket:
             return f"notyet {(self.sender.due + 999) // 1000}", []
         message = self.sender.drop(self.now)
         if message:
-            ends = self.number_of(message.first), self.number_of(message.last)
+            ends = self.sender.number_of(message.first), self.sender.number_of(message.last)
             return "drop", [self.control_packet("drop", message.number, *ends)]
         offset = self.sender.choose(self.now)
         if offset is None:
             return "nothing", []
         flags, block, _ = self.sender.kept[offset]
-        return "data", [self.packet(self.number_of(offset), flags) + block]
+        return "data", [self.packet(self.sender.number_of(offset), flags, block)]
 
     # ---- timers
 
@@ -488,6 +208,8 @@ class Socket:
         if self.phase == "closing":
             self.phase = "closed"
             return [self.control_packet("shutdown", 0)]
+        if self.phase in OPENERS:
+            return self.opener.tick()
         if self.phase != "connected":
             return []
         return self.acknowledge() + self.report() + self.watch()
@@ -499,7 +221,7 @@ class Socket:
         number, offset, free = due
         path, receiver = self.path, self.receiver
         told = path.rtt, path.rtt_var, free, receiver.arrivals.speed(), receiver.pairs.capacity()
-        return [self.control_packet("ack", number, self.number_of(offset), *told)]
+        return [self.control_packet("ack", number, receiver.number_of(offset), *told)]
 
     def report(self):
         ranges = self.receiver.tick_nak(self.now)
@@ -521,9 +243,9 @@ class Socket:
 
     # ---- packets that come in
 
-    def arrive(self, sender, data):
-        """What a datagram that reaches the socket is answered, and what is emitted. Each is counted once."""
-        word, outs = self.take(sender, read(data))
+    def arrive(self, sender, packet):
+        """What a packet that reaches the socket is answered, and what is emitted. Each is counted once."""
+        word, outs = self.take(sender, packet)
         kind = {"badlength": "stale"}.get(word, word.split()[0])
         self.counts[kind if kind in COUNTERS else "control"] += 1
         return word, outs
@@ -531,10 +253,12 @@ class Socket:
     def take(self, sender, packet):
         if "malformed" in packet:
             return f"malformed {packet['malformed']}", []
+        kind = packet["packet"]
+        if self.phase in OPENERS and kind == "handshake":
+            return self.opener.take(sender, packet["dest"], packet["shake"])
         if self.phase != "connected":
             return "stale", []
-        kind = packet["packet"]
-        if sender != self.peer_host or (kind != "handshake" and packet["dest"] != self.own):
+        if sender != self.peer.host or (kind != "handshake" and packet["dest"] != self.own):
             return "foreign", []
         self.heard = self.exp_from = self.now
         self.exp_count = 1
@@ -548,17 +272,25 @@ class Socket:
             return "ack2" if self.receiver.on_ack2(packet["number"], self.now) else "stale", []
         if kind == "drop":
             return self.take_drop(packet["first"], packet["last"])
+        if kind == "handshake":
+            return self.take_again(packet["shake"])
         if kind == "shutdown":
             self.phase, self.cause = "broken", "shutdown"
-        return {"keepalive": "alive", "shutdown": "shutdown"}.get(kind, "stale"), []
+        return {"keepalive": "alive", "shutdown": "shutdown"}[kind], []
+
+    def take_again(self, shake):
+        """The peer didn't hear how its handshake was answered, or it is no handshake of the peer."""
+        answer = self.repeats.get(shake["ask"]) if shake["id"] == self.peer.id else None
+        return ("stale", []) if answer is None else ("answered", [self.answer(answer)])
 
     def take_block(self, number, flags, block):
         """A block is placed or not. A gap is reported at once, and a light ACK follows where it is due."""
-        if not 1 <= len(block) <= self.opening.payload:
+        if not 1 <= len(block) <= self.peer.payload:
             return "badlength", []
         outcome, gap, is_light = self.receiver.on_block(number, flags, block, self.now)
         report = [self.nak([gap])] if gap else []
-        ack = [self.control_packet("ack", 0, self.number_of(self.receiver.ack_offset()))] if is_light else []
+        offset = self.receiver.number_of(self.receiver.ack_offset())
+        ack = [self.control_packet("ack", 0, offset)] if is_light else []
         return outcome, report + ack
 
     def take_drop(self, first, last):

@@ -1,12 +1,14 @@
-//! A program that measures: `udt_bench turn` counts the turns that several threads take in a second, beside a lock of the standard library, `udt_bench loss` times the calls of the loss lists, `udt_bench buffers` what a block costs in the buffers of a socket, `udt_bench queues` how many entries go through the outbox in a second, `udt_bench routes` how many look-ups readers of the routes make in a second, and `udt_bench socket` and `udt_bench flood` have datagrams go between two sockets.
+//! A program that measures: `udt_bench turn` counts the turns that several threads take in a second, beside a lock of the standard library, `udt_bench loss` times the calls of the loss lists, `udt_bench buffers` what a block costs in the buffers of a socket, `udt_bench queues` how many entries go through the outbox in a second, `udt_bench routes` how many look-ups readers of the routes make in a second, `udt_bench socket` and `udt_bench flood` have datagrams go between two sockets, and `udt_bench cell` measures a socket that threads share.
 #![tactic(auto)]
 
 mod buffers;
+mod cell;
 mod flood;
 mod locks;
 mod loss;
 mod queues;
 mod routes;
+mod shares;
 mod socket;
 mod tally;
 mod turns;
@@ -51,6 +53,13 @@ fn main(rt: HostRuntime) -> io::Result<()> {
                 .and_then(|word| word.as_str().parse::<u32>().ok());
             socket::bench_socket(&rt, rt.alloc(), packets.unwrap_or(PACKETS))
         }
+        Some(word) if word.as_str() == "cell" => match words.next() {
+            Some(word) => {
+                let packets = word.as_str().parse::<u32>().unwrap_or(PACKETS);
+                cell::bench_cell(&rt, rt.alloc(), packets)
+            }
+            None => shares::bench(&rt, rt.alloc()),
+        },
         Some(word) if word.as_str() == "flood" => {
             let count = words
                 .next()
@@ -58,7 +67,7 @@ fn main(rt: HostRuntime) -> io::Result<()> {
             flood::bench_flood(&rt, rt.alloc(), count.unwrap_or(FLOOD))
         }
         _ => {
-            println!(rt; "usage: udt_bench turn|loss|buffers|queues|routes|socket|flood")?;
+            println!(rt; "usage: udt_bench turn|loss|buffers|queues|routes|socket|flood|cell")?;
             Ok(())
         }
     }

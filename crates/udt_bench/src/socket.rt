@@ -1,5 +1,5 @@
 //! Blocks from one socket to another, in memory.
-ghost use Rattle.std.specs.Prelude.{◌≡◌, ◌≤◌, ◌<◌};
+ghost use Rattle.std.specs.Prelude.{◌≡◌, ◌≤◌, ◌<◌, IfOk};
 
 use std::alloc::{AllocError, Global};
 use std::io;
@@ -65,12 +65,15 @@ struct Pair<C> {
 }
 
 /// One of two sockets, the other of which has this address and ID.
+#[tactic(auto, unfolding(udt_model::specs::Opening::opening))]
 pub fn open<C: Control + Drop>(
     alloc: Global,
     own: u32,
     addr: Addr,
     id: u32,
-) -> Result<Socket<C>, AllocError> {
+) -> Result<Socket<C>, AllocError>
+    ensures { IfOk result (λ socket. socket.count ≡ 0) }
+{
     let config = Config {
         kind: Kind::Stream,
         payload: BLOCK,
@@ -84,7 +87,10 @@ pub fn open<C: Control + Drop>(
         payload: BLOCK,
         flow: BLOCKS,
     };
-    Socket::paired(alloc, own, config, peer, 0).map_err(|_| AllocError)
+    match Socket::paired(alloc, own, config, peer, 0) {
+        Ok(socket) => Ok(socket),
+        Err(_) => Err(AllocError),
+    }
 }
 
 // Room for what an event emits.
@@ -130,8 +136,9 @@ pub fn call_send<C: Control>(socket: &mut Socket<C>, now: u64, bytes: &[u8]) {
     let _ = socket.send(now, bytes);
 }
 
+/// Takes bytes out of a socket. How many came.
 #[inline(never)]
-fn call_recv<C: Control>(socket: &mut Socket<C>, now: u64, into: &mut [u8]) -> u64 {
+pub fn call_recv<C: Control>(socket: &mut Socket<C>, now: u64, into: &mut [u8]) -> u64 {
     match socket.recv(now, into) {
         Ok(count) => count as u64,
         Err(_) => 0,
@@ -155,8 +162,9 @@ fn call_arrive<C: Control>(
     let _ = socket.arrive(now, from, bytes, answers);
 }
 
+/// Has the timers of a socket do what falls due.
 #[inline(never)]
-fn call_tick<C: Control>(socket: &mut Socket<C>, now: u64, outs: &mut Outs) {
+pub fn call_tick<C: Control>(socket: &mut Socket<C>, now: u64, outs: &mut Outs) {
     socket.tick(now, outs);
 }
 

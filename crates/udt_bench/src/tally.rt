@@ -1,6 +1,7 @@
 //! A number that counts the events, for a turn and for a lock.
 ghost use Rattle.std.specs.Prelude.{◌≡◌, ◌+◌, ◌^◌, ◌<◌, MatchBool, ℕ};
 
+use crate::locks::Eventful;
 use udt_turn::Story;
 
 // Above this no event is counted.
@@ -39,5 +40,11 @@ impl Tally {
         } else {
             false
         }
+    }
+}
+
+impl Eventful for Tally {
+    fn event(&mut self) {
+        self.add();
     }
 }

@@ -14,7 +14,14 @@ module _ {C : Type 0} where
   follows_goes w item e before after named f =
       let one = step_counts_one w before e.event f.few in
       let c = ap (λ (s : State C). s.count) f.value in
-      record { entry = e; named = named; legal = f.answers; value = f.value; count = c ∙ one; most = omega (arith, c, one, f.few) }
+      record {
+        entry = e;
+        named = named;
+        legal = f.answers;
+        value = f.value;
+        count = c ∙ one;
+        most = omega (arith, c, one, f.few);
+      }
 
   -- a count below 2^55 that isn't below the last one is the last one
   pub spent_is : (s : State C) → last_count ≤ s.count → s.count < 2 ^ 55 → s.count ≡ last_count

@@ -3,3 +3,4 @@ mod QuietLemmas
 mod ItemLemmas
 mod HeadlineLemmas
 pub mod LegalLemmas
+pub mod ConnectLemmas

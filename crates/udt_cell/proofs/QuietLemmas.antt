@@ -1,8 +1,6 @@
 -- The calls of an application emit nothing, and no event answers that the events are spent.
 use Rattle.std.proofs.Common.{◌≡◌, ℕ, ◌==◌, Bool, true, false, List, [], refl, sym, ◌∙◌, ap}
 use Rattle.std.specs.Prelude.{◌≢◌, Option, Some, None, Result, Ok, Err, length, nat_le, if◌then◌else◌}
-use Rattle.udt_model.specs.declared.answers.Phase.{Phase}
-use Rattle.udt_model.specs.declared.answers.Phase.TheVariants as phase
 use Rattle.udt_model.specs.declared.answers.Refusal.{Refusal}
 use Rattle.udt_model.specs.declared.answers.Refusal.TheVariants as refusal
 use Rattle.udt_model.specs.declared.answers.SendNo.{SendNo}
@@ -13,12 +11,16 @@ use Rattle.udt_model.specs.Calls.{send_in, send_as, recv_in, recv_as, taken_as, 
 use Rattle.udt_model.specs.Calls.{send_message_in, send_message_as, recv_message_in, recv_message_as, fitted, answer_message}
 use Rattle.udt_model.specs.Events.{Send, Recv, SendMessage, RecvMessage, Tick, Close, Measure, at_moment, event, outs_of}
 use Rattle.udt_model.specs.Events.{Sent, Received, SentMessage, ReceivedMessage, DidTick, DidClose}
+use Rattle.udt_model.specs.Connections.{repeats}
+use Rattle.udt_model.specs.Phases.{Phase, Link, Stands, Lost, Absent, link_of}
+use Rattle.udt_model.specs.Phases as phase
 use Rattle.udt_model.specs.Rate.{Ways}
 use Rattle.udt_model.specs.ReceiveBlocks.{WholeMessage, next_message}
 use Rattle.udt_model.specs.SendHalf.{send_answer, message_answer}
-use Rattle.udt_model.specs.State.{State}
+use Rattle.udt_model.specs.State.{State, Emission}
 use Rattle.udt_model.specs.Step.{step}
 use Rattle.udt_model.specs.Ticks.{tick_in}
+use Rattle.udt_model.proofs.PhaseLemmas.{repeats-show}
 use Rattle.udt_core.specs.Received.{received_in}
 
 -- ---- the answers of a send
@@ -43,7 +45,8 @@ if_unspent true none why bytes not e = cc
 if_unspent false true why bytes not e = not (cc)
 if_unspent false false why bytes not e = cc
 
-with_unspent : (why : Refusal) (room : ℕ) (bytes : List ℕ) → why ≢ refusal.EventsSpent → answer_with why room bytes ≢ Err refusal.EventsSpent
+with_unspent : (why : Refusal) (room : ℕ) (bytes : List ℕ) → why ≢ refusal.EventsSpent
+    → answer_with why room bytes ≢ Err refusal.EventsSpent
 with_unspent why room bytes not = if_unspent (room == 0) (length bytes == 0) why bytes not
 
 received_is : (a b : Result (List ℕ) Refusal) → Received a ≡ Received b → a ≡ b
@@ -67,108 +70,101 @@ received_message_is : (a b : Result (List ℕ) Refusal) → ReceivedMessage a �
 received_message_is a b e = cc
 
 module _ {C : Type 0} where
-  send_in_quiet : (s : State C) (bytes : List ℕ) (p : Phase) → [] ≡ outs_of (send_in s bytes p)
-  send_in_quiet s bytes phase.Connected = refl
-  send_in_quiet s bytes (phase.Broken why) = refl
-  send_in_quiet s bytes phase.Closing = refl
-  send_in_quiet s bytes phase.Closed = refl
+  send_in_quiet : (s : State C) (bytes : List ℕ) (p : Link) → [] ≡ outs_of (send_in s bytes p)
+  send_in_quiet s bytes Stands = refl
+  send_in_quiet s bytes (Lost why) = refl
+  send_in_quiet s bytes Absent = refl
 
-  send_in_unspent : (s : State C) (bytes : List ℕ) (p : Phase) (answer : Result ℕ Refusal)
+  send_in_unspent : (s : State C) (bytes : List ℕ) (p : Link) (answer : Result ℕ Refusal)
       → Sent answer ≡ (send_in s bytes p).reply → answer ≢ Err refusal.EventsSpent
-  send_in_unspent s bytes phase.Connected answer e spent =
+  send_in_unspent s bytes Stands answer e spent =
       taken_unspent (send_answer s.sending (length bytes)) (sym (sent_is _ _ e) ∙ spent)
-  send_in_unspent s bytes (phase.Broken why) answer e spent = cc
-  send_in_unspent s bytes phase.Closing answer e spent = cc
-  send_in_unspent s bytes phase.Closed answer e spent = cc
+  send_in_unspent s bytes (Lost why) answer e spent = cc
+  send_in_unspent s bytes Absent answer e spent = cc
 
   send_as_quiet : (s : State C) (bytes : List ℕ) (k : Kind) → [] ≡ outs_of (send_as s bytes k)
-  send_as_quiet s bytes kind.Stream = send_in_quiet s bytes s.phase
+  send_as_quiet s bytes kind.Stream = send_in_quiet s bytes (link_of s.phase)
   send_as_quiet s bytes kind.Message = refl
 
   send_as_unspent : (s : State C) (bytes : List ℕ) (k : Kind) (answer : Result ℕ Refusal)
       → Sent answer ≡ (send_as s bytes k).reply → answer ≢ Err refusal.EventsSpent
-  send_as_unspent s bytes kind.Stream answer e spent = send_in_unspent s bytes s.phase answer e spent
+  send_as_unspent s bytes kind.Stream answer e spent = send_in_unspent s bytes (link_of s.phase) answer e spent
   send_as_unspent s bytes kind.Message answer e spent = cc
 
-  send_message_in_quiet : (s : State C) (ttl : Option ℕ) (order : Bool) (bytes : List ℕ) (p : Phase)
+  send_message_in_quiet : (s : State C) (ttl : Option ℕ) (order : Bool) (bytes : List ℕ) (p : Link)
       → [] ≡ outs_of (send_message_in s ttl order bytes p)
-  send_message_in_quiet s ttl order bytes phase.Connected = refl
-  send_message_in_quiet s ttl order bytes (phase.Broken why) = refl
-  send_message_in_quiet s ttl order bytes phase.Closing = refl
-  send_message_in_quiet s ttl order bytes phase.Closed = refl
+  send_message_in_quiet s ttl order bytes Stands = refl
+  send_message_in_quiet s ttl order bytes (Lost why) = refl
+  send_message_in_quiet s ttl order bytes Absent = refl
 
   send_message_as_quiet : (s : State C) (ttl : Option ℕ) (order : Bool) (bytes : List ℕ) (k : Kind)
       → [] ≡ outs_of (send_message_as s ttl order bytes k)
   send_message_as_quiet s ttl order bytes kind.Stream = refl
-  send_message_as_quiet s ttl order bytes kind.Message = send_message_in_quiet s ttl order bytes s.phase
+  send_message_as_quiet s ttl order bytes kind.Message = send_message_in_quiet s ttl order bytes (link_of s.phase)
 
-  send_message_in_unspent : (s : State C) (ttl : Option ℕ) (order : Bool) (bytes : List ℕ) (p : Phase) (answer : Result ℕ Refusal)
+  send_message_in_unspent : (s : State C) (ttl : Option ℕ) (order : Bool) (bytes : List ℕ) (p : Link) (answer : Result ℕ Refusal)
       → SentMessage answer ≡ (send_message_in s ttl order bytes p).reply → answer ≢ Err refusal.EventsSpent
-  send_message_in_unspent s ttl order bytes phase.Connected answer e spent =
+  send_message_in_unspent s ttl order bytes Stands answer e spent =
       taken_unspent (message_answer s.sending (length bytes)) (sym (sent_message_is _ _ e) ∙ spent)
-  send_message_in_unspent s ttl order bytes (phase.Broken why) answer e spent = cc
-  send_message_in_unspent s ttl order bytes phase.Closing answer e spent = cc
-  send_message_in_unspent s ttl order bytes phase.Closed answer e spent = cc
+  send_message_in_unspent s ttl order bytes (Lost why) answer e spent = cc
+  send_message_in_unspent s ttl order bytes Absent answer e spent = cc
 
   send_message_as_unspent : (s : State C) (ttl : Option ℕ) (order : Bool) (bytes : List ℕ) (k : Kind) (answer : Result ℕ Refusal)
       → SentMessage answer ≡ (send_message_as s ttl order bytes k).reply → answer ≢ Err refusal.EventsSpent
   send_message_as_unspent s ttl order bytes kind.Stream answer e spent = cc
   send_message_as_unspent s ttl order bytes kind.Message answer e spent =
-      send_message_in_unspent s ttl order bytes s.phase answer e spent
+      send_message_in_unspent s ttl order bytes (link_of s.phase) answer e spent
 
-  recv_in_quiet : (s : State C) (room : ℕ) (p : Phase) → [] ≡ outs_of (recv_in s room p)
-  recv_in_quiet s room phase.Connected = refl
-  recv_in_quiet s room (phase.Broken why) = refl
-  recv_in_quiet s room phase.Closing = refl
-  recv_in_quiet s room phase.Closed = refl
+  recv_in_quiet : (s : State C) (room : ℕ) (p : Link) → [] ≡ outs_of (recv_in s room p)
+  recv_in_quiet s room Stands = refl
+  recv_in_quiet s room (Lost why) = refl
+  recv_in_quiet s room Absent = refl
 
-  recv_in_unspent : (s : State C) (room : ℕ) (p : Phase) (answer : Result (List ℕ) Refusal)
+  recv_in_unspent : (s : State C) (room : ℕ) (p : Link) (answer : Result (List ℕ) Refusal)
       → Received answer ≡ (recv_in s room p).reply → answer ≢ Err refusal.EventsSpent
-  recv_in_unspent s room phase.Connected answer e spent =
+  recv_in_unspent s room Stands answer e spent =
       with_unspent refusal.AgainRecv room (received_by s.receiving room) (λ (is : refusal.AgainRecv ≡ refusal.EventsSpent). cc)
       (sym (received_is _ _ e) ∙ spent)
-  recv_in_unspent s room (phase.Broken why) answer e spent =
-      with_unspent (refusal.ConnLost why) room (received_by s.receiving room) (λ (is : refusal.ConnLost why ≡ refusal.EventsSpent). cc)
+  recv_in_unspent s room (Lost why) answer e spent =
+      with_unspent (refusal.ConnLost why) room (received_by s.receiving room)
+      (λ (is : refusal.ConnLost why ≡ refusal.EventsSpent). cc)
       (sym (received_is _ _ e) ∙ spent)
-  recv_in_unspent s room phase.Closing answer e spent = cc
-  recv_in_unspent s room phase.Closed answer e spent = cc
+  recv_in_unspent s room Absent answer e spent = cc
 
   recv_as_quiet : (s : State C) (room : ℕ) (k : Kind) → [] ≡ outs_of (recv_as s room k)
-  recv_as_quiet s room kind.Stream = recv_in_quiet s room s.phase
+  recv_as_quiet s room kind.Stream = recv_in_quiet s room (link_of s.phase)
   recv_as_quiet s room kind.Message = refl
 
   recv_as_unspent : (s : State C) (room : ℕ) (k : Kind) (answer : Result (List ℕ) Refusal)
       → Received answer ≡ (recv_as s room k).reply → answer ≢ Err refusal.EventsSpent
-  recv_as_unspent s room kind.Stream answer e spent = recv_in_unspent s room s.phase answer e spent
+  recv_as_unspent s room kind.Stream answer e spent = recv_in_unspent s room (link_of s.phase) answer e spent
   recv_as_unspent s room kind.Message answer e spent = cc
 
-  recv_message_in_quiet : (s : State C) (room : ℕ) (p : Phase) → [] ≡ outs_of (recv_message_in s room p)
-  recv_message_in_quiet s room phase.Connected = refl
-  recv_message_in_quiet s room (phase.Broken why) = refl
-  recv_message_in_quiet s room phase.Closing = refl
-  recv_message_in_quiet s room phase.Closed = refl
+  recv_message_in_quiet : (s : State C) (room : ℕ) (p : Link) → [] ≡ outs_of (recv_message_in s room p)
+  recv_message_in_quiet s room Stands = refl
+  recv_message_in_quiet s room (Lost why) = refl
+  recv_message_in_quiet s room Absent = refl
 
   recv_message_as_quiet : (s : State C) (room : ℕ) (k : Kind) → [] ≡ outs_of (recv_message_as s room k)
   recv_message_as_quiet s room kind.Stream = refl
-  recv_message_as_quiet s room kind.Message = recv_message_in_quiet s room s.phase
+  recv_message_as_quiet s room kind.Message = recv_message_in_quiet s room (link_of s.phase)
 
-  recv_message_in_unspent : (s : State C) (room : ℕ) (p : Phase) (answer : Result (List ℕ) Refusal)
+  recv_message_in_unspent : (s : State C) (room : ℕ) (p : Link) (answer : Result (List ℕ) Refusal)
       → ReceivedMessage answer ≡ (recv_message_in s room p).reply → answer ≢ Err refusal.EventsSpent
-  recv_message_in_unspent s room phase.Connected answer e spent =
+  recv_message_in_unspent s room Stands answer e spent =
       message_unspent refusal.AgainRecv room (next_message s.receiving.blocks)
       (λ (is : refusal.AgainRecv ≡ refusal.EventsSpent). cc)
       (sym (received_message_is _ _ e) ∙ spent)
-  recv_message_in_unspent s room (phase.Broken why) answer e spent =
+  recv_message_in_unspent s room (Lost why) answer e spent =
       message_unspent (refusal.ConnLost why) room (next_message s.receiving.blocks)
       (λ (is : refusal.ConnLost why ≡ refusal.EventsSpent). cc)
       (sym (received_message_is _ _ e) ∙ spent)
-  recv_message_in_unspent s room phase.Closing answer e spent = cc
-  recv_message_in_unspent s room phase.Closed answer e spent = cc
+  recv_message_in_unspent s room Absent answer e spent = cc
 
   recv_message_as_unspent : (s : State C) (room : ℕ) (k : Kind) (answer : Result (List ℕ) Refusal)
       → ReceivedMessage answer ≡ (recv_message_as s room k).reply → answer ≢ Err refusal.EventsSpent
   recv_message_as_unspent s room kind.Stream answer e spent = cc
-  recv_message_as_unspent s room kind.Message answer e spent = recv_message_in_unspent s room s.phase answer e spent
+  recv_message_as_unspent s room kind.Message answer e spent = recv_message_in_unspent s room (link_of s.phase) answer e spent
 
 module _ {C : Type 0} (w : Ways C) where
   pub send_quiet : (s : State C) (now : ℕ) (bytes : List ℕ) → [] ≡ outs_of (step w s (event now (Send bytes)))
@@ -199,7 +195,8 @@ module _ {C : Type 0} (w : Ways C) where
       → Received (received_in answer into) ≡ (step w s (event now (Recv room))).reply → answer ≢ Err refusal.EventsSpent
   unfolding step
   recv_unspent s now room answer into e spent =
-      recv_as_unspent (at_moment s now) room (at_moment s now).kind (received_in answer into) e (ap (λ a. received_in a into) spent)
+      recv_as_unspent (at_moment s now) room (at_moment s now).kind (received_in answer into) e
+      (ap (λ a. received_in a into) spent)
 
   pub recv_message_quiet : (s : State C) (now room : ℕ) → [] ≡ outs_of (step w s (event now (RecvMessage room)))
   unfolding step
@@ -225,9 +222,20 @@ module _ {C : Type 0} (w : Ways C) where
   unfolding step
   perf_quiet s now = refl
 
+  repeats_done : (s : State C) (began again : ℕ) (next : Phase) (emission : Emission)
+      → DidTick ≡ (repeats s began again next emission).reply
+  repeats_done s began again next emission =
+      repeats-show s began again next emission (λ outcome. DidTick ≡ outcome.reply)
+      (record { fails = refl; again = refl; waits = refl })
+
   tick_in_done : (s : State C) (p : Phase) → DidTick ≡ (tick_in w s p).reply
+  tick_in_done s phase.Opened = refl
+  tick_in_done s (phase.Listening b) = refl
+  tick_in_done s (phase.Connecting c again) = repeats_done s c.caller.began again _ _
+  tick_in_done s (phase.Meeting m again) = repeats_done s m.caller.began again _ _
   tick_in_done s phase.Connected = refl
   tick_in_done s (phase.Broken why) = refl
+  tick_in_done s (phase.Failed why) = refl
   tick_in_done s phase.Closing = refl
   tick_in_done s phase.Closed = refl
 

@@ -1,5 +1,5 @@
 -- What a call of a shared socket does to the pass under which it is made.
-use Rattle.std.specs.Prelude.{◌≡◌, ℕ, List}
+use Rattle.std.specs.Prelude.{◌≡◌, ℕ, ◌<◌, List}
 use Rattle.udt_model.specs.Events.{Act, Reply, event}
 use Rattle.udt_model.specs.Rate.{Ways}
 use Rattle.udt_model.specs.State.{State, Datagram}
@@ -23,3 +23,8 @@ module _ {C : Type 0} (w : Ways C) {g : story.Ghosts (State C) Entry} where
   pub record FindsSpent (before after : Pass (State C) Entry g) : Type 0 where
     pub only : OnlySees (tale_of_sockets w) before after
     pub spent : (state_of after).count ≡ last_count
+
+  -- no item was added, though the socket takes further events
+  pub record FindsUnspent (before after : Pass (State C) Entry g) : Type 0 where
+    pub only : OnlySees (tale_of_sockets w) before after
+    pub unspent : (state_of after).count < last_count

@@ -1,5 +1,7 @@
 // A socket as the value of a turn, and its events as the entries of the turn's history.
 
+mod connections;
+
 use std::marker::Model;
 use udt_core::{Outs, Socket};
 use udt_model::{Addr, Heard, Packed, Perf, Refusal};
@@ -63,7 +65,8 @@ impl<C: Control> BoxedSocket<C> {
     ghost use Rattle.std.specs.Prelude.{IfOk, OnOk, OnErr, MatchBool};
     ghost use Rattle.udt_core.specs.Received.{received_in};
     ghost use Rattle.udt_model.specs.Events.{Send, Recv, SendMessage, RecvMessage, Pack, Tick, Close, Measure, Arrive, event};
-    ghost use Rattle.udt_model.specs.Events.{Sent, Received, SentMessage, ReceivedMessage, DidPack, DidTick, DidClose, DidMeasure, DidHear};
+    ghost use Rattle.udt_model.specs.Events.{Sent, Received, SentMessage, ReceivedMessage};
+    ghost use Rattle.udt_model.specs.Events.{DidPack, DidTick, DidClose, DidMeasure, DidHear};
     ghost use Rattle.udt_model.specs.Moments as moments;
     ghost use Rattle.udt_cell.specs.Entries.{entry, Follows, last_count};
 
@@ -82,7 +85,7 @@ impl<C: Control> BoxedSocket<C> {
     }
 
     // It takes no further event.
-    fn is_spent(&self) -> bool
+    pub(crate) fn is_spent(&self) -> bool
         ensures { MatchBool result (last_count ≤ self.now.count) (self.now.count < last_count) }
     {
         self.socket.count() >= LAST_COUNT

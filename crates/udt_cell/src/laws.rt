@@ -22,9 +22,9 @@ pub fn seen_is_legal<C: Control>(pass: &SocketPass<C>)
     let _ = pass;
 }
 
-/// Where no datagram is forged and none outlives 2^30 packets, what a shared stream socket has
-/// delivered, as one pass has seen it, is a prefix of what its own peer has accepted, as a pass of that
-/// one has seen it, and no more blocks are acknowledged than have arrived there.
+/// Where records are lawful that hold what both passes have seen as the histories of their sockets, no
+/// datagram is forged and none outlives 2^30 packets, what a shared stream socket has delivered is a prefix
+/// of what its own peer has accepted, and no more blocks are acknowledged than have arrived there.
 pub fn prefix<C: Control>(own: &SocketPass<C>, other: &SocketPass<C>)
     ensures { SeenInStep C.ways (seen_by own.now) (seen_by other.now) }
 {
@@ -33,9 +33,9 @@ pub fn prefix<C: Control>(own: &SocketPass<C>, other: &SocketPass<C>)
     udt_laws::prefix::<C>();
 }
 
-/// Where no datagram is forged and none outlives 2^30 packets, each message that a shared message socket
-/// has shown, as one pass has seen it, is one that its own peer was asked to send, as a pass of that one
-/// has seen it: whole, at most once, and in order where it must be.
+/// Where records are lawful that hold what both passes have seen as the histories of their sockets, no
+/// datagram is forged and none outlives 2^30 packets, each message that a shared message socket has shown is
+/// one that its own peer was asked to send: whole, at most once, and in order where it must be.
 pub fn messages<C: Control>(own: &SocketPass<C>, other: &SocketPass<C>)
     ensures { SeenMessages C.ways (seen_by own.now) (seen_by other.now) }
 {

@@ -18,6 +18,7 @@ use udt_rate::Control;
 use udt_turn::{Full, Look, Pass, Turn};
 
 mod calls;
+mod connections;
 mod leaving;
 mod work;
 

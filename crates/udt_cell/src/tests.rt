@@ -2,6 +2,8 @@
 ghost use Rattle.std.specs.Prelude.{◌<◌, ◌^◌, IfSome};
 ghost use Rattle.udt_turn.specs.Words.{IsPassOf};
 
+mod connections;
+
 use crate::{SharedSocket, SocketPass};
 use std::alloc::Global;
 use std::sync::{Mutex, Wait};

@@ -2,5 +2,6 @@ mod NakLemmas
 mod BlockLemmas
 pub mod EmittedLemmas
 pub mod TickLemmas
-pub mod ArriveLemmas
+pub mod MomentTimes
+pub mod ShakeMoments
 pub mod MomentLemmas

@@ -3,15 +3,14 @@ use Rattle.std.proofs.Common.{◌≡◌, ℕ, ◌+◌, ◌*◌, ◌<◌, ◌≤�
 use Rattle.std.specs.Prelude.{nat_lt, nat_le, ◌==◌, ◌||◌, if◌then◌else◌}
 use Rattle.std.proofs.lemmas.Bool.{lt-ltb, le-ltb, leb-true, leb-false, cases_lt, cases_Bool}
 use Rattle.udt_model.specs.declared.limits.TheConstants.{LAST_MOMENT, SYN}
-use Rattle.udt_model.specs.declared.answers.Cause.{Cause}
-use Rattle.udt_model.specs.declared.answers.Phase.{Phase}
-use Rattle.udt_model.specs.declared.answers.Phase.TheVariants as phase
+use Rattle.udt_model.specs.Phases.{Phase, link_of}
+use Rattle.udt_model.specs.Phases as phase
 use Rattle.udt_model.specs.declared.sockets.ExpOutcome.{ExpOutcome}
 use Rattle.udt_model.specs.declared.sockets.ExpOutcome.TheVariants as exp
 use Rattle.udt_model.specs.declared.sockets.SentAck.{SentAck}
-use Rattle.udt_model.specs.Calls.{emitted_by_packing}
+use Rattle.udt_model.specs.Calls.{emitted_by_packing, pack_in}
 use Rattle.udt_model.specs.Events.{Tick, Pack, DidTick, Outcome, event, at_moment, answered}
-use Rattle.udt_model.specs.Moments.{IsIdle, IsFirst, IsNextMoment, sooner, not_before, not_before_any, moment_in}
+use Rattle.udt_model.specs.Moments.{IsIdle, IsFirst, IsNextMoment, sooner, not_before, not_before_any, moment_in, next_moment}
 use Rattle.udt_model.specs.Rate.{Ways}
 use Rattle.udt_model.specs.ReceiveHalf.{Receiving}
 use Rattle.udt_model.specs.ReceiveReports.{AckOutcome, IsEarly, IsKnown, EmitsAck, ack_offset, is_just_acked, number_after, ack_outcome, after_ack_outcome, after_ack_timer, nak_report, after_nak_timer}
@@ -22,64 +21,8 @@ use Rattle.udt_model.specs.State.{State, Emission}
 use Rattle.udt_model.specs.Step.{step}
 use Rattle.udt_model.specs.Ticks.{after_reports, gives_up, exp_interval, exp_outcome, after_exp, tick_in}
 use Rattle.udt_model.specs.Timing.{RoundTrip, period_of}
-
--- ---- the soonest of moments
-
--- this moment comes before the other, where there is one
-abbrev pub IsBefore : ℕ → Option ℕ → Type 0
-IsBefore m other = (t : ℕ) → other ≡ Some t → m < t
-
-before-first : (m : ℕ) (a b : Option ℕ) → IsBefore m (sooner a b) → IsBefore m a
-before-first m None b is = λ t there. absurd (cc)
-before-first m (Some x) None is = is
-before-first m (Some x) (Some y) is = λ t there.
-    let same : x ≡ t = cc in
-    omega (arith, is (min x y) refl, same)
-
-before-second : (m : ℕ) (a b : Option ℕ) → IsBefore m (sooner a b) → IsBefore m b
-before-second m None b is = is
-before-second m (Some x) None is = λ t there. absurd (cc)
-before-second m (Some x) (Some y) is = λ t there.
-    let same : y ≡ t = cc in
-    omega (arith, is (min x y) refl, same)
-
-min-is : (x y : ℕ) → (min x y ≡ x) ⊎ (min x y ≡ y)
-min-is x y = elim (cases_lt x y) [ inl less ↦ inl (omega (arith, less)) | inr more ↦ inr (omega (arith, more)) ]
-
-sooner-is : (a b : Option ℕ) (t : ℕ) → sooner a b ≡ Some t → (a ≡ Some t) ⊎ (b ≡ Some t)
-sooner-is None b t is = inr is
-sooner-is (Some x) None t is = inl is
-sooner-is (Some x) (Some y) t is = elim (min-is x y) [
-  | inl first ↦ inl (ap (λ (z : ℕ). Some z) (sym first) ∙ is)
-  | inr second ↦ inr (ap (λ (z : ℕ). Some z) (sym second) ∙ is)
-]
-
--- a moment before one that is due later: the clock stands at the last moment of all at most
-early : (last due m : ℕ) → last ≤ m → IsBefore m (not_before last due) → min m LAST_MOMENT < due
-early last due m after is = elim (cases_Bool (nat_le due LAST_MOMENT)) [
-  | inl within ↦
-      let there : not_before last due ≡ Some (max last due) = rw within refl in
-      omega (arith, is (max last due) there, after)
-  | inr past ↦ omega (arith, leb-false due LAST_MOMENT past)
-]
-
--- a moment at which something is due
-pub record IsDue (last due t : ℕ) : Type 0 where
-  pub come : due ≤ t
-  pub after : last ≤ t
-  pub within : last ≤ LAST_MOMENT → t ≤ LAST_MOMENT
-
-not_before-is : (last due t : ℕ) → not_before last due ≡ Some t → IsDue last due t
-not_before-is last due t is = elim (cases_Bool (nat_le due LAST_MOMENT)) [
-  | inl within ↦
-      let there : not_before last due ≡ Some (max last due) = rw within refl in
-      let same : max last due ≡ t = cc in
-      let fits = leb-true due LAST_MOMENT within in
-      record { come = omega (arith, same); after = omega (arith, same); within = λ last_fits. omega (arith, same, fits, last_fits) }
-  | inr past ↦
-      let none : not_before last due ≡ None = rw past refl in
-      absurd (cc)
-]
+use Rattle.udt_core.proofs.MomentTimes.{IsBefore, before-first, before-second, sooner-is, early, not_before-is, last-at}
+use Rattle.udt_core.proofs.ShakeMoments.{client-is, meeting-is}
 
 -- ---- timers
 
@@ -278,10 +221,6 @@ module _ {C : Type 0} (w : Ways C) where
 
   -- ---- both
 
-  -- the state at a moment that isn't before the last one
-  last-at : (s : State C) (m : ℕ) → s.last ≤ LAST_MOMENT → s.last ≤ m → (at_moment s m).last ≡ min m LAST_MOMENT
-  last-at s m fits after = omega (arith, fits, after)
-
   tick-at : (s : State C) (m : ℕ) → s.phase ≡ phase.Connected → step w s (event m Tick) ≡ tick_in w (at_moment s m) phase.Connected
   unfolding step
   tick-at s m connected = rw connected refl
@@ -359,14 +298,11 @@ module _ {C : Type 0} (w : Ways C) where
       let closed : (step w s (event m Tick)).after.phase ≡ phase.Closed = rw closing refl in
       absurd (cc)
 
-  -- one that is broken or closed does nothing
-  broken-idle : (s : State C) (m : ℕ) (why : Cause) → s.phase ≡ phase.Broken why → IsIdle w s m
+  -- one that neither waits for a handshake nor has a connection does nothing
+  idle : (s : State C) (m : ℕ) → tick_in w (at_moment s m) s.phase ≡ answered (at_moment s m) DidTick
+      → (pack_in w (at_moment s m) (link_of s.phase)).emissions ≡ [] → IsIdle w s m
   unfolding step
-  broken-idle s m why broken = (rw broken refl, rw broken refl)
-
-  closed-idle : (s : State C) (m : ℕ) → s.phase ≡ phase.Closed → IsIdle w s m
-  unfolding step
-  closed-idle s m closed = (rw closed refl, rw closed refl)
+  idle s m ticks packs = (ticks, packs)
 
   connected-is : (s : State C) → s.last ≤ LAST_MOMENT → s.phase ≡ phase.Connected → (found : Option ℕ) → connected_moment s ≡ found → IsNextMoment w s found
   connected-is s fits connected None found = λ m after. idle-before s m fits connected after (λ t there. absurd (cc))
@@ -380,12 +316,21 @@ module _ {C : Type 0} (w : Ways C) where
             omega (arith, before, same));
       }
 
-  pub phase-is : (s : State C) → s.last ≤ LAST_MOMENT → (p : Phase) → s.phase ≡ p → IsNextMoment w s (moment_in w s p)
+  phase-is : (s : State C) → s.last ≤ LAST_MOMENT → (p : Phase) → s.phase ≡ p → IsNextMoment w s (moment_in w s p)
   phase-is s fits phase.Connected connected = connected-is s fits connected (connected_moment s) refl
-  phase-is s fits (phase.Broken why) broken = λ m after. broken-idle s m why broken
+  phase-is s fits phase.Opened opened = λ m after. idle s m (rw opened refl) (rw opened refl)
+  phase-is s fits (phase.Listening b) listens = λ m after. idle s m (rw listens refl) (rw listens refl)
+  phase-is s fits (phase.Connecting c again) asks = client-is w s c again fits asks
+  phase-is s fits (phase.Meeting p again) meets = meeting-is w s p again fits meets
+  phase-is s fits (phase.Broken why) broken = λ m after. idle s m (rw broken refl) (rw broken refl)
+  phase-is s fits (phase.Failed why) failed = λ m after. idle s m (rw failed refl) (rw failed refl)
   phase-is s fits phase.Closing closing = record {
     not_past = omega arith;
     does = closing-does s s.last closing;
     none_before = λ m after before. absurd (omega (arith, after, before));
   }
-  phase-is s fits phase.Closed closed = λ m after. closed-idle s m closed
+  phase-is s fits phase.Closed closed = λ m after. idle s m (rw closed refl) (rw closed refl)
+
+  pub moment-is : (s : State C) → s.last ≤ LAST_MOMENT → IsNextMoment w s (next_moment w s)
+  unfolding next_moment
+  moment-is s fits = phase-is s fits s.phase refl

@@ -7,12 +7,13 @@
 mod counts;
 mod memory;
 mod outs;
+mod phase;
 mod socket;
 
 pub use memory::OutOfMemory;
 pub use outs::Outs;
 pub use socket::{OpenNo, Socket};
-pub use udt_model::{Cause, Heard, Packed, Peer, Perf, Phase, Refusal};
+pub use udt_model::{Cause, Heard, Packed, Peer, Perf, Refusal, Shaken};
 pub use udt_rate::Control;
 
 #[cfg(test)]

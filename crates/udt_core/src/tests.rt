@@ -4,6 +4,8 @@
 ghost use Rattle.std.specs.Prelude.{◌≡◌, ◌^◌, ◌<◌};
 ghost use Rattle.udt_model.specs.declared.packets.Kind.TheVariants.{Stream};
 
+mod connections;
+
 use super::*;
 use std::alloc::Global;
 use std::process::Abort;

@@ -1,12 +1,12 @@
 // A client's part in handshakes.
 
-ghost use Rattle.std.specs.Prelude.{◌≡◌, ◌≤◌};
+ghost use Rattle.std.specs.Prelude.{◌≡◌, ◌^◌, ◌<◌, ◌≤◌};
 ghost use Rattle.udt_model.specs.declared.limits.TheConstants.{MOST_PAYLOAD};
 ghost use Rattle.udt_model.specs.Handshakes.{client_saw, takes_cookie, client_keeps, client_request};
 
 use crate::fields::{asked, peer_in, says, suits};
 use std::marker::Model;
-use udt_model::{Addr, Asked, Caller, ClientSaw, Config, Shake};
+use udt_model::{Addr, Asked, Caller, ClientSaw, Config, Peer, Shake};
 
 /// A client that waits for an answer: who asks, and the cookie that it was given.
 #[derive(Debug, Drop)]
@@ -22,16 +22,17 @@ impl Model for ClientShake {
 
     ghost view = { λ c. record { caller = c.caller; cookie = c.cookie } };
 
-    ghost use Rattle.std.specs.Prelude.{◌≤◌};
-    ghost use Rattle.udt_model.specs.declared.limits.TheConstants.{MOST_PAYLOAD};
+    ghost use Rattle.udt_handshake.specs.Callers.{IsCaller};
 
-    ghost invariant = { λ c. c.caller.config.payload ≤ MOST_PAYLOAD };
+    ghost invariant = { λ c. IsCaller c.caller };
 }
 
 impl ClientShake {
     /// A client that asks this address, from this moment on in microseconds.
     pub fn new(config: Config, own: u32, isn: u32, to: Addr, now: u64) -> ClientShake
+        requires some { 0 < config.payload }
         requires payload { config.payload ≤ MOST_PAYLOAD }
+        requires isn { isn < 2 ^ 31 }
         ensures { result ≡ record {
           caller = record { config = config; own = own; isn = isn; to = to; began = now };
           cookie = 0;
@@ -53,6 +54,7 @@ impl ClientShake {
     pub fn on_shake(&mut self, dest: u32, shake: &Shake, from: Addr) -> ClientSaw
         ensures value { result ≡ client_saw self.old dest shake.now from }
         ensures next { self.new ≡ client_keeps self.old shake.now result }
+        ensures some { (peer : Peer) → result ≡ ClientSaw.Connected peer → 0 < peer.payload }
     {
         if !(from.is_same(self.caller.to) && dest == self.caller.own) {
             return ClientSaw::Stale;
@@ -79,9 +81,17 @@ impl ClientShake {
         ClientSaw::Cookie
     }
 
+    /// Who asks.
+    pub fn caller(&self) -> Caller
+        ensures { result ≡ self.now.caller }
+    {
+        self.caller
+    }
+
     /// The request to send, with the cookie that was given, or 0.
     pub fn request(&self) -> Shake
-        ensures { result ≡ client_request self.now }
+        ensures value { result ≡ client_request self.now }
+        ensures number { result.isn < 2 ^ 31 }
     {
         says(
             &self.caller,

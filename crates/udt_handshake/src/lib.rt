@@ -13,6 +13,7 @@ mod meet;
 mod tests;
 
 pub use client::ClientShake;
+pub use fields::{asked, peer_in, says};
 pub use listen::{ListenShake, cookie};
 pub use meet::MeetShake;
 pub use udt_model::{ClientSaw, MeetSaw, Peer, Verdict};

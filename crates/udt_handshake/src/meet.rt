@@ -1,6 +1,7 @@
 // A meeting socket's part in handshakes.
 
-ghost use Rattle.std.specs.Prelude.{◌≡◌, ◌≤◌, ◌==◌, Option, None, if◌then◌else◌};
+ghost use Rattle.std.specs.Prelude.{◌≡◌, ◌^◌, ◌<◌, ◌≤◌, ◌==◌, Option, Some, None, if◌then◌else◌};
+ghost use Rattle.udt_model.specs.declared.handshakes.TheConstants.{SIZE_OVER_PAYLOAD};
 ghost use Rattle.udt_model.specs.declared.limits.TheConstants.{MOST_PAYLOAD};
 ghost use Rattle.udt_model.specs.declared.handshakes.MeetSaw.TheVariants as meet;
 ghost use Rattle.udt_model.specs.Handshakes.{meet_saw, meet_keeps, meet_request, meets_first, meets_answer, meets_agreement};
@@ -31,7 +32,9 @@ impl Model for MeetShake {
 impl MeetShake {
     /// A socket that meets this address, from this moment on in microseconds.
     pub fn new(config: Config, own: u32, isn: u32, to: Addr, now: u64) -> MeetShake
+        requires some { 0 < config.payload }
         requires payload { config.payload ≤ MOST_PAYLOAD }
+        requires isn { isn < 2 ^ 31 }
         ensures { result ≡ record {
           caller = record { config = config; own = own; isn = isn; to = to; began = now };
           adopted = None;
@@ -56,6 +59,7 @@ impl MeetShake {
     pub fn on_shake(&mut self, dest: u32, shake: &Shake, from: Addr) -> MeetSaw
         ensures value { result ≡ meet_saw self.old dest shake.now from }
         ensures next { self.new ≡ meet_keeps self.old result }
+        ensures some { (peer : Peer) → result ≡ MeetSaw.Connected peer → 0 < peer.payload }
     {
         if !(from.is_same(self.caller.to) && suits(&self.caller.config, shake)) {
             return MeetSaw::Stale;
@@ -72,6 +76,7 @@ impl MeetShake {
 
     // A first handshake.
     fn on_first(&mut self, from: Addr, shake: &Shake) -> MeetSaw
+        requires size { SIZE_OVER_PAYLOAD < shake.now.packet }
         ensures value { result ≡ meets_first self.old from shake.now self.old.adopted }
         ensures next { self.new ≡ meet_keeps self.old result }
     {
@@ -88,6 +93,7 @@ impl MeetShake {
 
     // An answer.
     fn on_answer(&mut self, from: Addr, shake: &Shake) -> MeetSaw
+        requires size { SIZE_OVER_PAYLOAD < shake.now.packet }
         ensures value { result ≡ meets_answer self.old from shake.now self.old.adopted }
         ensures next { self.new ≡ meet_keeps self.old result }
     {
@@ -114,9 +120,24 @@ impl MeetShake {
         }
     }
 
+    /// Who meets.
+    pub fn caller(&self) -> Caller
+        ensures { result ≡ self.now.caller }
+    {
+        self.caller
+    }
+
+    /// The peer that was adopted.
+    pub fn adopted(&self) -> Option<Peer>
+        ensures { result ≡ self.now.adopted }
+    {
+        self.adopted
+    }
+
     /// The handshake to send: a first one while nobody was adopted, and an answer afterwards.
     pub fn request(&self) -> Shake
-        ensures { result ≡ meet_request self.now }
+        ensures value { result ≡ meet_request self.now }
+        ensures number { result.isn < 2 ^ 31 }
     {
         match self.adopted {
             None => says(&self.caller, self.caller.config.payload, Asked::Meets, 0),

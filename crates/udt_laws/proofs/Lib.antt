@@ -1,8 +1,10 @@
 pub mod sockets
 pub mod delivered_is_carried
 pub mod sent_blocks
+pub mod adoption
 pub mod delivered_prefix
 pub mod acked_has_arrived
 pub mod pairs
-pub mod scripts
 pub mod laid_messages
+pub mod scripts
+pub mod honest

@@ -3,3 +3,4 @@ pub mod GivenIsOfBlocks
 pub mod ReportsLeave
 pub mod DeliversPlacedBlocks
 pub mod DeliveredIsCarried
+pub mod SocketsDeliver

@@ -4,5 +4,6 @@ pub mod ReportsFit
 pub mod NakRanges
 pub mod EmissionsRead
 pub mod SentBlocks
+pub mod SocketsSend
 pub mod GoesToPeer
 pub mod NamedWasSent

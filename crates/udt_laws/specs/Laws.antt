@@ -1,21 +1,35 @@
 -- The main theorems, as statements about histories and records, over any rate control.
-use Rattle.std.specs.Prelude.{◌≡◌, ℕ, ◌+◌, ◌-◌, ◌%◌, ◌^◌, ◌<◌, ◌≤◌, List, [], ◌∷◌, ◌++◌, drop, length, map, Some, Ok, slice_get, true, false}
+use Rattle.std.specs.Prelude.{◌≡◌, ◌⊎◌, ℕ, ◌+◌, ◌-◌, ◌%◌, ◌^◌, ◌<◌, ◌≤◌, List, [], ◌∷◌, ◌++◌, drop, length, map, Some, Ok, slice_get, true}
 use Rattle.std.specs.List.{Contains, concat}
+use Rattle.udt_model.specs.declared.answers.Heard.TheVariants as heard
+use Rattle.udt_model.specs.declared.packets.AckBody.{AckBody}
 use Rattle.udt_model.specs.declared.packets.Flags.{Flags}
 use Rattle.udt_model.specs.declared.packets.Kind.TheVariants.{Stream, Message}
+use Rattle.udt_model.specs.declared.packets.Shake.{Shake}
 use Rattle.udt_model.specs.declared.addresses.Addr.{Addr}
 use Rattle.udt_model.specs.Emissions.{IsPrefix, emitted, sent, arrivals, IsMadeOf}
-use Rattle.udt_model.specs.History.{AskedMessage, ShownMessage, History, IsLegal, state_of, start_of, accepted, delivered, acked, arrived, asked, shown, placed_offsets, dropped_offsets}
+use Rattle.udt_model.specs.Events.{Arrive, DidHear}
+use Rattle.udt_model.specs.Handshakes.{asked as asks}
+use Rattle.udt_model.specs.History.{Item, AskedMessage, ShownMessage, History, IsLegal, state_of, start_of, accepted, delivered, acked, arrived, asked, shown, placed_offsets, dropped_offsets}
 use Rattle.udt_model.specs.Honest.{IsHonest}
-use Rattle.udt_model.specs.Lines.{AreEmitted}
-use Rattle.udt_model.specs.Network.{ScriptSocket}
 use Rattle.udt_model.specs.Numbers.{sequence_number}
 use Rattle.udt_model.specs.Rate.{Ways}
-use Rattle.udt_model.specs.Records.{Enrolled, IsSocket, EndpointRecord, StandsAt, PeerPair, own_peer, ArePaired, AreLawful}
-use Rattle.udt_model.specs.Script.{size_of, network_after}
+use Rattle.udt_model.specs.Records.{Enrolled, IsSocket, EndpointRecord, StandsAt, PeerPair, is_bound, names_sender, own_peer, ArePaired, AreLawful}
 use Rattle.udt_model.specs.SendBlocks.{KeptBlock}
 use Rattle.udt_model.specs.State.{Datagram, Emission}
-use Rattle.udt_model.specs.Wire.{Packet, Block, is_handshake, destination, read, target}
+use Rattle.udt_model.specs.Wire.{Packet, Block, Handshake, Ack, destination, read, target}
+
+-- an ACK arrived, and the socket accepted it
+pub record AcceptsAck (item : Item) : Type 0 where
+  pub from : Addr
+  pub bytes : List ℕ
+  pub number : ℕ
+  pub stamp : ℕ
+  pub dest : ℕ
+  pub body : AckBody
+  pub arrives : item.event.act ≡ Arrive from bytes
+  pub reads : read bytes ≡ Ok (Ack number stamp dest body)
+  pub answers : item.reply ≡ DidHear heard.Ack
 
 module _ {C : Type 0} where
   -- the socket carries a stream of bytes
@@ -28,7 +42,8 @@ module _ {C : Type 0} where
 
   -- a datagram has the bytes of one that the socket emitted
   abbrev pub WasSentBy : Enrolled C → Datagram → Type 0
-  WasSentBy sender datagram = (sent_one : Datagram) × Contains (sent sender.history) sent_one × (sent_one.bytes ≡ datagram.bytes)
+  WasSentBy sender datagram =
+      (sent_one : Datagram) × Contains (sent sender.history) sent_one × (sent_one.bytes ≡ datagram.bytes)
 
   -- each datagram that came from this address for the receiver has the bytes of one that the sender emitted
   abbrev pub ComesFrom : Enrolled C → Addr → Enrolled C → Type 0
@@ -40,7 +55,8 @@ module _ {C : Type 0} where
   -- each datagram that came at all came from this address, and has the bytes of one that the sender emitted
   abbrev pub AllComesFrom : Enrolled C → Addr → Enrolled C → Type 0
   AllComesFrom receiver from sender =
-      (datagram : Datagram) → Contains (arrivals receiver.history) datagram → (datagram.addr ≡ from) × WasSentBy sender datagram
+      (datagram : Datagram) → Contains (arrivals receiver.history) datagram
+      → (datagram.addr ≡ from) × WasSentBy sender datagram
 
   -- the records of two endpoints with one socket each
   abbrev pub both_records : Addr → Enrolled C → Addr → Enrolled C → List (EndpointRecord C)
@@ -62,8 +78,8 @@ module _ {C : Type 0} (w : Ways C) where
 
   -- a data packet that was emitted carries the block of the one offset that it names, to the peer, under the sequence
   -- number of that offset
-  pub record CarriesBlock (h : History C) (blocks : List (List ℕ)) (emission : Emission) (number dest : ℕ) (payload : List ℕ)
-      : Type 0 where
+  pub record CarriesBlock (h : History C) (blocks : List (List ℕ)) (emission : Emission) (number dest : ℕ)
+      (payload : List ℕ) : Type 0 where
     pub offset : ℕ
     pub names : emission.offsets ≡ offset ∷ []
     pub not_before : start_of h ≤ offset
@@ -87,19 +103,59 @@ module _ {C : Type 0} (w : Ways C) where
   abbrev pub EmittedBlocks : Type 0
   EmittedBlocks = (socket : Enrolled C) → IsSocket w socket → IsStream socket.history → HasBlocks socket.history
 
-  -- All named: of a legal history all datagrams that it sent are emitted ones with the offsets that they name, in order
+  -- All named: of a legal history all datagrams that it sent are emitted ones with the offsets that they name, in
+  -- order
   abbrev pub AllNamed : Type 0
   AllNamed = (h : History C) → IsLegal w h → map (λ (emission : Emission). emission.datagram) (emitted w h) ≡ sent h
 
-  -- Addressed: what a socket emits that isn't a handshake goes to its own peer
+  -- Addressed: what a socket emits for its peer, answers and all that isn't a handshake, goes to its own peer
   abbrev pub Addressed : Type 0
   Addressed =
       (socket : Enrolled C) (emission : Emission) (packet : Packet) → IsSocket w socket
-      → Contains (emitted w socket.history) emission → read emission.datagram.bytes ≡ Ok packet → is_handshake packet ≡ false
+      → Contains (emitted w socket.history) emission → read emission.datagram.bytes ≡ Ok packet → is_bound packet ≡ true
       → own_peer w socket.history ≡ Some (record { addr = emission.datagram.addr; id = destination packet })
 
-  -- what is promised of a socket's history and that of its own peer: what the one delivered is a prefix of what the other
-  -- accepted, and no more blocks of the one are acknowledged than have arrived at the other
+  -- Named: a handshake that tells whose it is carries the ID and the initial sequence number of the socket that emits
+  -- it
+  abbrev pub Named : Type 0
+  Named =
+      (socket : Enrolled C) (emission : Emission) (stamp dest : ℕ) (shake : Shake) → IsSocket w socket
+      → Contains (emitted w socket.history) emission → read emission.datagram.bytes ≡ Ok (Handshake stamp dest shake)
+      → names_sender dest (asks shake.ask) ≡ true
+      → (shake.id ≡ socket.own) × (shake.isn ≡ socket.history.opening.isn)
+
+  -- the socket has placed a block, taken a message drop request, has a block acknowledged, or accepted an ACK, which may
+  -- acknowledge no block
+  abbrev pub HasHeard : History C → Type 0
+  HasHeard h =
+      ((offset : ℕ) × Contains (placed_offsets w h) offset)
+      ⊎ (((offset : ℕ) × Contains (dropped_offsets w h) offset)
+      ⊎ ((0 < acked w h) ⊎ ((item : Item) × Contains h.items item × AcceptsAck item)))
+
+  -- a socket stands where this one names its peer and names this one as its own. Both carry the same, both begin at
+  -- one offset, and each has the initial sequence number of the other
+  pub record HasMutualPeer (net : List (EndpointRecord C)) (addr : Addr) (socket : Enrolled C) (peer : PeerPair)
+      : Type 0 where
+    pub other : Enrolled C
+    pub stands : StandsAt net peer.addr other
+    pub own_is : other.own ≡ peer.id
+    pub back : own_peer w other.history ≡ Some (record { addr = addr; id = socket.own })
+    pub kind : other.history.opening.kind ≡ socket.history.opening.kind
+    pub start : start_of other.history ≡ start_of socket.history
+    pub isn : peer_isn socket.history ≡ other.history.opening.isn
+    pub back_isn : peer_isn other.history ≡ socket.history.opening.isn
+
+  -- Mutual adoption: where records are lawful and honest, this holds of each socket with an own peer that has so
+  -- heard of it
+  abbrev pub MutualAdoption : Type 0
+  MutualAdoption =
+      (net : List (EndpointRecord C)) (addr : Addr) (socket : Enrolled C) (peer : PeerPair)
+      → AreLawful w net → IsHonest w net
+      → StandsAt net addr socket → own_peer w socket.history ≡ Some peer → HasHeard socket.history
+      → HasMutualPeer net addr socket peer
+
+  -- what is promised of a socket's history and that of its own peer: what the one delivered is a prefix of what the
+  -- other accepted, and no more blocks of the one are acknowledged than have arrived at the other
   pub record AreInStep (own other : History C) : Type 0 where
     pub prefix : IsPrefix (delivered own) (accepted other)
     pub acknowledged : acked w own ≤ arrived w other
@@ -113,8 +169,8 @@ module _ {C : Type 0} (w : Ways C) where
       → StandsAt net peer.addr other → other.own ≡ peer.id
       → AreInStep socket.history other.history
 
-  -- Pair prefix: its first half for two sockets that were made as a pair, where the one emitted fewer than 2^30 datagrams
-  -- and the other got no others from there
+  -- Pair prefix: its first half for two sockets that were made as a pair, where the one emitted fewer than 2^30
+  -- datagrams and the other got no others from there
   abbrev pub PairPrefix : Type 0
   PairPrefix =
       (addr peer_addr : Addr) (receiver sender : Enrolled C) → IsSocket w receiver → IsSocket w sender
@@ -130,32 +186,21 @@ module _ {C : Type 0} (w : Ways C) where
       → ComesFrom socket peer_addr other → length (sent socket.history) < 2 ^ 30
       → acked w socket.history ≤ arrived w other.history
 
-  -- Pair honest: the records of two stream sockets that were made as a pair, of which each got from the other alone, and that
-  -- emitted fewer than 2^30 datagrams each, are lawful and honest
+  -- Pair honest: the records of two stream sockets that were made as a pair, of which each got from the other alone,
+  -- and that emitted fewer than 2^30 datagrams each, are lawful and honest
   abbrev pub PairHonest : Type 0
   PairHonest =
-      (addr other_addr : Addr) (socket other : Enrolled C) → (addr ≡ other_addr → ⊥) → IsSocket w socket → IsSocket w other
+      (addr other_addr : Addr) (socket other : Enrolled C) → (addr ≡ other_addr → ⊥) → IsSocket w socket
+      → IsSocket w other
       → ArePaired addr socket.own socket.way other_addr other.own other.way
       → IsStream socket.history → AllComesFrom socket other_addr other → AllComesFrom other addr socket
       → length (sent socket.history) < 2 ^ 30 → length (sent other.history) < 2 ^ 30
       → AreLawful w (both_records addr socket other_addr other) × IsHonest w (both_records addr socket other_addr other)
 
-  -- Script prefix: whatever the lines of a script deliver, lose, repeat and reorder, the same holds of each stream socket of
-  -- it and its own peer, where no line gives bytes of its own
-  abbrev pub ScriptPrefix : Type 0
-  ScriptPrefix =
-      (lines : List (List ℕ)) (place peer_place : ℕ) (script_socket peer : ScriptSocket C)
-      → length lines < 2 ^ 30 → AreEmitted lines
-      → slice_get (network_after w lines).sockets place ≡ Some script_socket
-      → slice_get (network_after w lines).sockets peer_place ≡ Some peer
-      → IsStream script_socket.history
-      → own_peer w script_socket.history ≡ Some (record { addr = peer.host; id = peer_place + 1 })
-      → AreInStep script_socket.history peer.history
-
   -- ---- messages
 
-  -- a message that was shown was asked: one was accepted whose first offset is that of the shown one, and each that was has
-  -- its bytes
+  -- a message that was shown was asked: one was accepted whose first offset is that of the shown one, and each that
+  -- was has its bytes
   pub record WasAsked (other : History C) (message : ShownMessage) : Type 0 where
     pub asked_one : AskedMessage
     pub among : Contains (asked w other) asked_one
@@ -170,10 +215,10 @@ module _ {C : Type 0} (w : Ways C) where
     pub at : asked_one.first ≡ first
     pub ordered : asked_one.order ≡ true
 
-  -- what is promised of a message socket's history and that of its own peer: each message that the one showed is one that
-  -- the other was asked to send, whole, so one that is dropped is shown whole or not at all; none is shown twice; those that
-  -- must be delivered in order are shown in order; and what is acknowledged of the other was placed at the one, or taken by
-  -- a message drop request
+  -- what is promised of a message socket's history and that of its own peer: each message that the one showed is one
+  -- that the other was asked to send, whole, so one that is dropped is shown whole or not at all; none is shown
+  -- twice; those that must be delivered in order are shown in order; and what is acknowledged of the other was placed
+  -- at the one, or taken by a message drop request
   pub record ShowsMessages (own other : History C) : Type 0 where
     pub whole : (message : ShownMessage) → Contains (shown w own) message → WasAsked other message
     pub once : (m n : ℕ) (one another : ShownMessage) → slice_get (shown w own) m ≡ Some one
@@ -192,15 +237,3 @@ module _ {C : Type 0} (w : Ways C) where
       → StandsAt net addr socket → CarriesMessages socket.history → own_peer w socket.history ≡ Some peer
       → StandsAt net peer.addr other → other.own ≡ peer.id
       → ShowsMessages socket.history other.history
-
-  -- Script messages: whatever the lines of a script deliver, lose, repeat and reorder, the same holds of each message socket
-  -- of it and its own peer, where no line gives bytes of its own
-  abbrev pub ScriptMessages : Type 0
-  ScriptMessages =
-      (lines : List (List ℕ)) (place peer_place : ℕ) (script_socket peer : ScriptSocket C)
-      → size_of lines < 2 ^ 30 → AreEmitted lines
-      → slice_get (network_after w lines).sockets place ≡ Some script_socket
-      → slice_get (network_after w lines).sockets peer_place ≡ Some peer
-      → CarriesMessages script_socket.history
-      → own_peer w script_socket.history ≡ Some (record { addr = peer.host; id = peer_place + 1 })
-      → ShowsMessages script_socket.history peer.history

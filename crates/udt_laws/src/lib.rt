@@ -1,9 +1,10 @@
 //! The main theorems of the protocol, each the contract of an empty function.
 #![tactic(auto)]
 
-ghost use Rattle.udt_laws.specs.Laws.{OneHistory, EmittedBlocks, AllNamed, Addressed};
-ghost use Rattle.udt_laws.specs.Laws.{Prefix, PairPrefix, PairArrived, PairHonest, ScriptPrefix};
-ghost use Rattle.udt_laws.specs.Laws.{Messages, ScriptMessages};
+ghost use Rattle.udt_laws.specs.Laws.{OneHistory, EmittedBlocks, AllNamed, Addressed, Named};
+ghost use Rattle.udt_laws.specs.Laws.{MutualAdoption, Prefix, PairPrefix, PairArrived, PairHonest};
+ghost use Rattle.udt_laws.specs.Laws.{Messages};
+ghost use Rattle.udt_laws.specs.Scripts.{ScriptLawful, ScriptAdoption, ScriptPrefix, ScriptMessages};
 
 use udt_rate::Control;
 
@@ -24,14 +25,27 @@ pub fn all_named<C: Control>()
     ensures { AllNamed C.ways }
 {}
 
-/// What a socket emits once it has a peer goes to that peer.
+/// What a socket emits for its peer, answers and all that isn't a handshake, goes to its own peer.
 pub fn addressed<C: Control>()
     ensures { Addressed C.ways }
 {}
 
-/// Where no datagram is forged and none outlives 2^30 packets, what a stream socket delivers is a
-/// prefix of what its own peer accepted, and no more of its blocks are acknowledged than have
-/// arrived there.
+/// A handshake that tells whose it is carries the ID and the initial sequence number of the socket
+/// that emits it.
+pub fn named<C: Control>()
+    ensures { Named C.ways }
+{}
+
+/// Where records are lawful, no datagram is forged and none outlives 2^30 packets, a socket that has placed
+/// a block, taken a message drop request, accepted an ACK or has a block acknowledged is the own peer of
+/// its own peer. Both carry the same, begin at one offset, and have each other's initial sequence number.
+pub fn mutual_adoption<C: Control>()
+    ensures { MutualAdoption C.ways }
+{}
+
+/// Where records are lawful, no datagram is forged and none outlives 2^30 packets, what a stream socket
+/// delivers is a prefix of what its own peer accepted, and no more of its blocks are acknowledged than
+/// have arrived there.
 pub fn prefix<C: Control>()
     ensures { Prefix C.ways }
 {}
@@ -54,21 +68,30 @@ pub fn pair_honest<C: Control>()
     ensures { PairHonest C.ways }
 {}
 
-/// Whatever the lines of a script deliver, both hold of each stream socket of it and its own peer,
-/// where no line gives bytes of its own.
-pub fn script_prefix<C: Control>()
-    ensures { ScriptPrefix C.ways }
-{}
-
-/// Where no datagram is forged and none outlives 2^30 packets, a message socket shows messages that
-/// its own peer accepted, each whole and at most once, and those that must be delivered in order in
-/// their order. What is acknowledged of the peer has arrived, or was dropped.
+/// Where records are lawful, no datagram is forged and none outlives 2^30 packets, a message socket shows
+/// messages that its own peer accepted, each whole and at most once, and those that must be delivered in
+/// order in their order. What is acknowledged of the peer has arrived, or was dropped.
 pub fn messages<C: Control>()
     ensures { Messages C.ways }
 {}
 
-/// Whatever the lines of a script deliver, this holds of each message socket of it and its own peer,
-/// where no line gives bytes of its own.
+/// Whatever the lines of a script say, and whatever bytes they give, the records of its sockets are
+/// lawful.
+pub fn script_lawful<C: Control>()
+    ensures { ScriptLawful C.ways }
+{}
+
+/// Mutual adoption for each socket of a script, where no line gives bytes of its own.
+pub fn script_adoption<C: Control>()
+    ensures { ScriptAdoption C.ways }
+{}
+
+/// Prefix for each stream socket of a script and its own peer, where no line gives bytes of its own.
+pub fn script_prefix<C: Control>()
+    ensures { ScriptPrefix C.ways }
+{}
+
+/// Messages for each message socket of a script and its own peer, where no line gives bytes of its own.
 pub fn script_messages<C: Control>()
     ensures { ScriptMessages C.ways }
 {}

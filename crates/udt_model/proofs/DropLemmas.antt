@@ -1,8 +1,7 @@
 -- Which offsets a message drop request takes, and that the blocks stay in order when it does, and when a message is received.
-use Rattle.std.proofs.Common.{◌≡◌, ℕ, zero, suc, ◌+◌, ◌-◌, ◌<◌, ◌≤◌, Bool, true, false, List, [], ◌∷◌, length, Some, None, refl, ap, ◌∙◌, sym, subst, inl, inr, arith}
+use Rattle.std.proofs.Common.{◌≡◌, ℕ, ◌+◌, ◌<◌, ◌≤◌, Bool, true, false, List, [], ◌∷◌, length, Some, None, refl, ap, ◌∙◌, subst, inl, inr, arith}
 use Rattle.std.specs.Prelude.{Option, ◌==◌, ◌&&◌, nat_lt, nat_le, if◌then◌else◌}
-use Rattle.std.proofs.lemmas.Bool.{and_parts, leb-true, ltb-true, cases_lt, cases_eq}
-use Rattle.std.proofs.lemmas.Bool.Decides.{nat_tests}
+use Rattle.std.proofs.lemmas.Bool.{and_parts, leb-true, ltb-true, cases_lt}
 use Rattle.std.proofs.lemmas.Option.{same_Some}
 use Rattle.udt_model.specs.declared.limits.TheConstants.{PACKET_LIMIT}
 use Rattle.udt_model.specs.Losses.{LostRange, Missing}
@@ -10,7 +9,7 @@ use Rattle.udt_model.specs.Numbers.{near}
 use Rattle.udt_model.specs.ReceiveBlocks.{PlacedBlock, ReceiveBlocks, WholeMessage, is_taken, next_message, after_message, after_found, after_read_message}
 use Rattle.udt_model.specs.ReceiveHalf.{Receiving, takes, range_taken, drop_range, with_taken, after_receive_message}
 use Rattle.udt_model.specs.ReceiveOrder.{IsInOrder}
-use Rattle.udt_model.specs.Readable.{AreParts, IsReadable}
+use Rattle.udt_model.specs.Readable.{AreParts}
 use Rattle.udt_model.proofs.InOrder.{IsTakable, consumed_in_order, skipped_in_order}
 use Rattle.udt_model.proofs.MessageLemmas.{contained-taken, search-readable}
 

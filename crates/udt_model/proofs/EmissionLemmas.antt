@@ -1,41 +1,96 @@
--- What a socket emits: blocks, message drop requests, ACKs, NAKs, ACK2s, keep-alives and a shutdown, each at a moment of its history.
-use Rattle.std.proofs.Common.{◌≡◌, ℕ, true, false, List, [], ◌∷◌, ◌++◌, Ok, refl, ap, sym, subst, inl, inr, arith}
-use Rattle.std.specs.Prelude.{Bool, Option, Some, None, Result, map}
+-- What a socket emits: blocks, message drop requests, ACKs, NAKs, ACK2s, keep-alives, handshakes and a shutdown, each
+-- at a moment of its history.
+use Rattle.std.proofs.Common.{◌≡◌, ℕ, true, false, List, [], ◌∷◌, ◌++◌, Ok, refl, ap, sym, inl, inr, arith}
+use Rattle.std.specs.Prelude.{Bool, Option, Some, None, ◌==◌, map, min}
 use Rattle.std.specs.List.{Contains, concat}
 use Rattle.std.proofs.lemmas.List.Elements.{Contains-append_cases, Contains-push_cases}
 use Rattle.udt_model.specs.declared.addresses.Addr.{Addr}
-use Rattle.udt_model.specs.declared.answers.Arrived.{Arrived}
-use Rattle.udt_model.specs.declared.answers.Phase.{Phase}
-use Rattle.udt_model.specs.declared.answers.Phase.TheVariants as phase
+use Rattle.udt_model.specs.declared.answers.Heard.{Heard}
+use Rattle.udt_model.specs.declared.answers.Origin.{Origin}
+use Rattle.udt_model.specs.declared.answers.Origin.TheVariants as origin
+use Rattle.udt_model.specs.declared.answers.Peer.{Peer}
+use Rattle.udt_model.specs.declared.handshakes.Asked.{Asked}
+use Rattle.udt_model.specs.declared.handshakes.Asked.TheVariants as asks
+use Rattle.udt_model.specs.declared.handshakes.MeetSaw.TheVariants as meet
+use Rattle.udt_model.specs.declared.handshakes.Verdict.TheVariants as verdict
+use Rattle.udt_model.specs.declared.packets.Shake.{Shake}
+use Rattle.udt_model.specs.Phases.{Phase, Backlog, Link, Stands, Lost, Absent, link_of, has_place}
+use Rattle.udt_model.specs.Phases as phase
 use Rattle.udt_model.specs.declared.packets.AckBody.{AckBody}
 use Rattle.udt_model.specs.declared.packets.AckBody.TheVariants.{Light, Buffer, Full}
 use Rattle.udt_model.specs.declared.packets.Flags.{Flags}
 use Rattle.udt_model.specs.declared.packets.Kind.{Kind}
 use Rattle.udt_model.specs.declared.packets.Kind.TheVariants as kind
-use Rattle.udt_model.specs.declared.packets.Malformed.{Malformed}
 use Rattle.udt_model.specs.declared.sockets.ExpOutcome.{ExpOutcome}
 use Rattle.udt_model.specs.declared.sockets.ExpOutcome.TheVariants as exp
 use Rattle.udt_model.specs.declared.sockets.SentAck.{SentAck}
 use Rattle.udt_model.specs.Arrivals.{heard_now, heard_of, emitted_by_gap, emitted_by_light, emitted_by_ack2, on_read}
-use Rattle.udt_model.specs.Calls.{stamp_of, emission as emits, block_emission, drop_emission, send_in, send_as, recv_in, recv_as, send_message_in, send_message_as, recv_message_in, recv_message_as, packed_so, pack_in, emitted_by_packing}
+use Rattle.udt_model.specs.Calls.{stamp_of, emission as emits, block_emission, drop_emission, send_in, send_as, recv_in, recv_as, send_message_in, send_message_as, recv_message_in, recv_message_as, pack_in, emitted_by_packing}
+use Rattle.udt_model.specs.Connections.{adopted_id, caller_of, shake_emission, repeats}
 use Rattle.udt_model.specs.Emissions.{emitted_by}
-use Rattle.udt_model.specs.Events.{Act, Send, Recv, SendMessage, RecvMessage, Pack, Tick, Close, Measure, Arrive, Event, Reply, DidHear, Outcome, at_moment}
+use Rattle.udt_model.specs.Events.{Act, Send, Recv, SendMessage, RecvMessage, Pack, Tick, Arrive, Event, Reply, DidHear, at_moment}
+use Rattle.udt_model.specs.Handshakes.{Connecting, Meeting, asked, says, judged, client_request, meet_saw, meet_request}
 use Rattle.udt_model.specs.History.{Item, after_items}
 use Rattle.udt_model.specs.Losses.{LostRange}
+use Rattle.udt_model.specs.Opening.{connected}
 use Rattle.udt_model.specs.Rate.{Ways}
 use Rattle.udt_model.specs.ReceiveHalf.{block_answer, after_block, gap_before, drop_range}
 use Rattle.udt_model.specs.ReceiveReports.{AckOutcome, IsEarly, IsKnown, EmitsAck, ack_outcome, full_ack, light_ack, ack_offset, nak_report}
 use Rattle.udt_model.specs.SendBlocks.{Message, KeptBlock}
 use Rattle.udt_model.specs.SendHalf.{Packing, Waits, Retransmits, Drops, Sends, Idles, packing}
-use Rattle.udt_model.specs.State.{State, Datagram, Emission}
+use Rattle.udt_model.specs.Shaking.{answer_again, meet_answer, agreement_to}
+use Rattle.udt_model.specs.State.{State, Emission}
 use Rattle.udt_model.specs.Step.{on_act, step}
 use Rattle.udt_model.specs.Ticks.{emitted_by_ack, numbers_of, ends_of, nak_of, emitted_by_reports, exp_outcome, emitted_by_exp, tick_in}
-use Rattle.udt_model.specs.Wire.{Packet, Block, KeepAlive, Ack, Nak, Shutdown, Ack2, DropAsk, read}
-use Rattle.udt_model.proofs.ArrivalLemmas.{arrival-shows}
+use Rattle.udt_model.specs.Wire.{Block, Handshake, KeepAlive, Ack, Nak, Shutdown, Ack2, DropAsk, read}
+use Rattle.udt_model.proofs.ArrivalLemmas.{Shakes, Links, arrival-shows}
+use Rattle.udt_model.proofs.ArrivalLemmas as arrives
+use Rattle.udt_model.proofs.PhaseLemmas.{stands-connected, repeats-show}
+
+module _ {C : Type 0} where
+  -- the handshakes that a socket in this state emits with an act: where each goes, the ID that it names there, and what
+  -- it says
+  pub data SendsShake (s : State C) (act : Act) : Addr → ℕ → Shake → Type 0 where
+    -- a client's request, with the cookie that it has or was just given
+    Requests : (c : Connecting) → (again cookie : ℕ) → s.phase ≡ phase.Connecting c again
+        → SendsShake s act c.caller.to 0 (client_request (record c { cookie = cookie }))
+    -- what a meeting socket says again and again
+    Meets : (m : Meeting) → (again : ℕ) → s.phase ≡ phase.Meeting m again
+        → SendsShake s act m.caller.to (adopted_id m.adopted) (meet_request m)
+    -- its answer to the peer that it has adopted before
+    AnswersPeer : (m : Meeting) → (again : ℕ) → (peer : Peer) → s.phase ≡ phase.Meeting m again → m.adopted ≡ Some peer
+        → SendsShake s act peer.addr peer.id (meet_request m)
+    -- its answer to the peer that it adopts
+    AnswersNew : (m : Meeting) → (again : ℕ) → (from : Addr) → (raw : List ℕ) → (stamp dest : ℕ) → (shake : Shake)
+        → (peer : Peer)
+        → s.phase ≡ phase.Meeting m again → act ≡ Arrive from raw → read raw ≡ Ok (Handshake stamp dest shake)
+        → meet_saw m dest shake from ≡ meet.Adopted peer
+        → SendsShake s act peer.addr peer.id (meet_request (record m { adopted = Some peer }))
+    -- its answer to the answer that connects it
+    Agrees : (m : Meeting) → (again : ℕ) → (from : Addr) → (raw : List ℕ) → (stamp dest : ℕ) → (shake : Shake)
+        → (peer : Peer)
+        → s.phase ≡ phase.Meeting m again → act ≡ Arrive from raw → read raw ≡ Ok (Handshake stamp dest shake)
+        → meet_saw m dest shake from ≡ meet.Connected peer
+        → SendsShake s act peer.addr peer.id
+        (says (caller_of s peer.addr) (min s.sending.blocks.room peer.payload) asks.Agrees 0)
+    -- an answer once more
+    AnswersAgain : (again answer : Asked) → s.phase ≡ phase.Connected → answer_again s.origin again ≡ Some answer
+        → SendsShake s act s.peer.addr s.peer.id (says (caller_of s s.peer.addr) s.receiving.payload answer 0)
+    -- what a listener sends back: the request with a cookie, or a refusal
+    GivesCookie : (b : Backlog) → (from : Addr) → (raw : List ℕ) → (stamp : ℕ) → (shake answer : Shake)
+        → s.phase ≡ phase.Listening b → act ≡ Arrive from raw → read raw ≡ Ok (Handshake stamp 0 shake)
+        → asked shake.ask ≡ asks.Requests → (shake.id == 0) ≡ false
+        → judged b.listening shake from s.last (has_place b) ≡ verdict.Cookie answer
+        → SendsShake s act from shake.id answer
+    Refuses : (b : Backlog) → (from : Addr) → (raw : List ℕ) → (stamp : ℕ) → (shake answer : Shake)
+        → s.phase ≡ phase.Listening b → act ≡ Arrive from raw → read raw ≡ Ok (Handshake stamp 0 shake)
+        → asked shake.ask ≡ asks.Requests → (shake.id == 0) ≡ false
+        → judged b.listening shake from s.last (has_place b) ≡ verdict.Reject answer
+        → SendsShake s act from shake.id answer
 
 module _ {C : Type 0} (w : Ways C) where
   -- what a socket in this state emits: a new block, a lost one again, a message drop request, a full or a light ACK, a NAK of
-  -- what is due or of a gap, an ACK2, a keep-alive, or the end
+  -- what is due or of a gap, an ACK2, a keep-alive, the end, or a handshake
   pub data Emitting (s : State C) (act : Act) (reply : Reply) (emission : Emission) : Type 0 where
     NewBlock : (block : KeptBlock) → s.phase ≡ phase.Connected → packing w s.sending s.last ≡ Sends block
         → emission ≡ block_emission s s.sending.next block → Emitting s act reply emission
@@ -79,6 +134,8 @@ module _ {C : Type 0} (w : Ways C) where
         → Emitting s act reply emission
     SendsKeepAlive : s.phase ≡ phase.Connected → emission ≡ emits s (KeepAlive (stamp_of s) s.peer.id) [] → Emitting s act reply emission
     TheEnd : s.phase ≡ phase.Closing → emission ≡ emits s (Shutdown (stamp_of s) s.peer.id) [] → Emitting s act reply emission
+    SendsHandshake : (to : Addr) → (dest : ℕ) → (shake : Shake) → SendsShake s act to dest shake
+        → emission ≡ shake_emission s to dest shake → Emitting s act reply emission
 
   -- each of these emissions is one of those
   AllEmitting : State C → Act → Reply → List Emission → Type 0
@@ -110,11 +167,10 @@ module _ {C : Type 0} (w : Ways C) where
     packed-emitting (Sends block) connected is = one-emitting _ (λ emission same. NewBlock block connected is same)
     packed-emitting Idles connected is = none-emitting
 
-    pack-emitting : (phase : Phase) → s.phase ≡ phase → AllEmitting s act reply (pack_in w s phase).emissions
-    pack-emitting phase.Connected is = packed-emitting (packing w s.sending s.last) is refl
-    pack-emitting (phase.Broken why) is = none-emitting
-    pack-emitting phase.Closing is = none-emitting
-    pack-emitting phase.Closed is = none-emitting
+    pack-emitting : (link : Link) → link_of s.phase ≡ link → AllEmitting s act reply (pack_in w s link).emissions
+    pack-emitting Stands is = packed-emitting (packing w s.sending s.last) (stands-connected s.phase is) refl
+    pack-emitting (Lost why) is = none-emitting
+    pack-emitting Absent is = none-emitting
 
     exp-emitting : (what : ExpOutcome) → s.phase ≡ phase.Connected → AllEmitting s act reply (emitted_by_exp s what)
     exp-emitting exp.NotDue connected = none-emitting
@@ -132,57 +188,64 @@ module _ {C : Type 0} (w : Ways C) where
     nak-emitting [] connected is = none-emitting
     nak-emitting (range ∷ ranges) connected is = one-emitting _ (λ emission same. Reports range ranges connected is same)
 
+    repeats-emitting : (began again : ℕ) (next : Phase) (emission : Emission) → AllEmitting s act reply (emission ∷ [])
+        → AllEmitting s act reply (repeats s began again next emission).emissions
+    repeats-emitting began again next emission one =
+        repeats-show s began again next emission (λ outcome. AllEmitting s act reply outcome.emissions)
+        (record { fails = none-emitting; again = one; waits = none-emitting })
+
     tick-emitting : (phase : Phase) → s.phase ≡ phase → AllEmitting s act reply (tick_in w s phase).emissions
     tick-emitting phase.Connected is =
         both-emitting (emitted_by_reports s) (emitted_by_exp s (exp_outcome s))
         (both-emitting (emitted_by_ack s (ack_outcome s.receiving s.last s.rtt)) (nak_of s (nak_report s.receiving s.last s.rtt))
         (ack-emitting (ack_outcome s.receiving s.last s.rtt) is refl) (nak-emitting (nak_report s.receiving s.last s.rtt) is refl))
         (exp-emitting (exp_outcome s) is)
-    tick-emitting (phase.Broken why) is = none-emitting
+    tick-emitting (phase.Connecting c again) is =
+        repeats-emitting c.caller.began again _ _
+        (one-emitting _ (λ emission same. SendsHandshake _ _ _ (Requests c again c.cookie is) same))
+    tick-emitting (phase.Meeting m again) is =
+        repeats-emitting m.caller.began again _ _
+        (one-emitting _ (λ emission same. SendsHandshake _ _ _ (Meets m again is) same))
     tick-emitting phase.Closing is = one-emitting _ (λ emission same. TheEnd is same)
-    tick-emitting phase.Closed is = none-emitting
+    tick-emitting _ is = none-emitting
 
-    send-emitting : (bytes : List ℕ) (phase : Phase) → AllEmitting s act reply (send_in s bytes phase).emissions
-    send-emitting bytes phase.Connected = none-emitting
-    send-emitting bytes (phase.Broken why) = none-emitting
-    send-emitting bytes phase.Closing = none-emitting
-    send-emitting bytes phase.Closed = none-emitting
+    send-emitting : (bytes : List ℕ) (link : Link) → AllEmitting s act reply (send_in s bytes link).emissions
+    send-emitting bytes Stands = none-emitting
+    send-emitting bytes (Lost why) = none-emitting
+    send-emitting bytes Absent = none-emitting
 
-    recv-emitting : (room : ℕ) (phase : Phase) → AllEmitting s act reply (recv_in s room phase).emissions
-    recv-emitting room phase.Connected = none-emitting
-    recv-emitting room (phase.Broken why) = none-emitting
-    recv-emitting room phase.Closing = none-emitting
-    recv-emitting room phase.Closed = none-emitting
+    recv-emitting : (room : ℕ) (link : Link) → AllEmitting s act reply (recv_in s room link).emissions
+    recv-emitting room Stands = none-emitting
+    recv-emitting room (Lost why) = none-emitting
+    recv-emitting room Absent = none-emitting
 
     send_as-emitting : (bytes : List ℕ) (k : Kind) → AllEmitting s act reply (send_as s bytes k).emissions
-    send_as-emitting bytes kind.Stream = send-emitting bytes s.phase
+    send_as-emitting bytes kind.Stream = send-emitting bytes (link_of s.phase)
     send_as-emitting bytes kind.Message = none-emitting
 
     recv_as-emitting : (room : ℕ) (k : Kind) → AllEmitting s act reply (recv_as s room k).emissions
-    recv_as-emitting room kind.Stream = recv-emitting room s.phase
+    recv_as-emitting room kind.Stream = recv-emitting room (link_of s.phase)
     recv_as-emitting room kind.Message = none-emitting
 
-    send_message-emitting : (ttl : Option ℕ) (order : Bool) (bytes : List ℕ) (phase : Phase)
-        → AllEmitting s act reply (send_message_in s ttl order bytes phase).emissions
-    send_message-emitting ttl order bytes phase.Connected = none-emitting
-    send_message-emitting ttl order bytes (phase.Broken why) = none-emitting
-    send_message-emitting ttl order bytes phase.Closing = none-emitting
-    send_message-emitting ttl order bytes phase.Closed = none-emitting
+    send_message-emitting : (ttl : Option ℕ) (order : Bool) (bytes : List ℕ) (link : Link)
+        → AllEmitting s act reply (send_message_in s ttl order bytes link).emissions
+    send_message-emitting ttl order bytes Stands = none-emitting
+    send_message-emitting ttl order bytes (Lost why) = none-emitting
+    send_message-emitting ttl order bytes Absent = none-emitting
 
     send_message_as-emitting : (ttl : Option ℕ) (order : Bool) (bytes : List ℕ) (k : Kind)
         → AllEmitting s act reply (send_message_as s ttl order bytes k).emissions
     send_message_as-emitting ttl order bytes kind.Stream = none-emitting
-    send_message_as-emitting ttl order bytes kind.Message = send_message-emitting ttl order bytes s.phase
+    send_message_as-emitting ttl order bytes kind.Message = send_message-emitting ttl order bytes (link_of s.phase)
 
-    recv_message-emitting : (room : ℕ) (phase : Phase) → AllEmitting s act reply (recv_message_in s room phase).emissions
-    recv_message-emitting room phase.Connected = none-emitting
-    recv_message-emitting room (phase.Broken why) = none-emitting
-    recv_message-emitting room phase.Closing = none-emitting
-    recv_message-emitting room phase.Closed = none-emitting
+    recv_message-emitting : (room : ℕ) (link : Link) → AllEmitting s act reply (recv_message_in s room link).emissions
+    recv_message-emitting room Stands = none-emitting
+    recv_message-emitting room (Lost why) = none-emitting
+    recv_message-emitting room Absent = none-emitting
 
     recv_message_as-emitting : (room : ℕ) (k : Kind) → AllEmitting s act reply (recv_message_as s room k).emissions
     recv_message_as-emitting room kind.Stream = none-emitting
-    recv_message_as-emitting room kind.Message = recv_message-emitting room s.phase
+    recv_message_as-emitting room kind.Message = recv_message-emitting room (link_of s.phase)
 
     ack2-emitting : (number : ℕ) (body : AckBody) → s.phase ≡ phase.Connected → AllEmitting s act reply (emitted_by_ack2 (heard_now s) number body)
     ack2-emitting number (Light ack) connected = none-emitting
@@ -218,6 +281,53 @@ module _ {C : Type 0} (w : Ways C) where
         one-emitting s (Arrive from raw) reply _ (λ emission same.
         ReportsDropGap from raw message stamp first last range ends connected refl asks sender messages taken is same)
 
+    answer-emitting : (reply : Reply) (m : Meeting) (again : ℕ) (adopted : Option Peer)
+        → s.phase ≡ phase.Meeting m again
+        → m.adopted ≡ adopted → AllEmitting s (Arrive from raw) reply (meet_answer s m adopted)
+    answer-emitting reply m again None is adopts = none-emitting s (Arrive from raw) reply
+    answer-emitting reply m again (Some peer) is adopts =
+        one-emitting s (Arrive from raw) reply _
+        (λ emission same. SendsHandshake _ _ _ (AnswersPeer m again peer is adopts) same)
+
+    agreement-emitting : (reply : Reply) (m : Meeting) (again stamp dest : ℕ) (shake : Shake) (peer : Peer) (a : Asked)
+        → s.phase ≡ phase.Meeting m again → read raw ≡ Ok (Handshake stamp dest shake) → meet_saw m dest shake from
+        ≡ meet.Connected peer
+        → AllEmitting s (Arrive from raw) reply (agreement_to (connected w s peer origin.Rendezvous) a)
+    agreement-emitting reply m again stamp dest shake peer asks.Answers is reads sees =
+        one-emitting s (Arrive from raw) reply _ (λ emission same.
+        SendsHandshake _ _ _ (Agrees m again from raw stamp dest shake peer is refl reads sees) same)
+    agreement-emitting reply m again stamp dest shake peer _ is reads sees = none-emitting s (Arrive from raw) reply
+
+    shakes-emitting : (reply : Reply) (next : Phase) (peer : Peer) (origin : Origin) (answer : Heard)
+        (emissions : List Emission)
+        → Shakes s from (read raw) next peer origin answer emissions → AllEmitting s (Arrive from raw) reply emissions
+    shakes-emitting reply _ _ _ _ _ (arrives.GivesCookie b stamp shake answer is reads asks named judges) =
+        one-emitting s (Arrive from raw) reply _ (λ emission same.
+        SendsHandshake _ _ _ (GivesCookie b from raw stamp shake answer is refl reads asks named judges) same)
+    shakes-emitting reply _ _ _ _ _ (arrives.Promises b stamp shake is reads asks named judges) =
+        none-emitting s (Arrive from raw) reply
+    shakes-emitting reply _ _ _ _ _ (arrives.Refuses b stamp shake answer is reads asks named judges) =
+        one-emitting s (Arrive from raw) reply _ (λ emission same.
+        SendsHandshake _ _ _ (Refuses b from raw stamp shake answer is refl reads asks named judges) same)
+    shakes-emitting reply _ _ _ _ _ (arrives.TakesCookie c again stamp dest shake is reads sees) =
+        one-emitting s (Arrive from raw) reply _
+        (λ emission same. SendsHandshake _ _ _ (Requests c again shake.cookie is) same)
+    shakes-emitting reply _ _ _ _ _ (arrives.IsRefused c again stamp dest shake is reads sees) =
+        none-emitting s (Arrive from raw) reply
+    shakes-emitting reply _ _ _ _ _ (arrives.Adopts m again stamp dest shake peer is reads sees) =
+        one-emitting s (Arrive from raw) reply _ (λ emission same.
+        SendsHandshake _ _ _ (AnswersNew m again from raw stamp dest shake peer is refl reads sees) same)
+    shakes-emitting reply _ _ _ _ _ (arrives.AnswersAdopted m again stamp dest shake is reads sees) =
+        answer-emitting reply m again m.adopted is refl
+
+    links-emitting : (reply : Reply) (peer : Peer) (origin : Origin) (emissions : List Emission)
+        → Links w s from (read raw) peer origin emissions
+        → AllEmitting s (Arrive from raw) reply emissions
+    links-emitting reply _ _ _ (arrives.ByListener c again stamp dest shake peer is reads sees) =
+        none-emitting s (Arrive from raw) reply
+    links-emitting reply _ _ _ (arrives.ByMeeting m again stamp dest shake peer is reads sees) =
+        agreement-emitting reply m again stamp dest shake peer (asked shake.ask) is reads sees
+
     read-emitting : AllEmitting s (Arrive from raw) (on_read w s from (read raw)).reply (on_read w s from (read raw)).emissions
     read-emitting = arrival-shows w s from (λ outcome. AllEmitting s (Arrive from raw) outcome.reply outcome.emissions) (read raw) (record {
       passed = λ counters answer differs. none-emitting s (Arrive from raw) _;
@@ -232,6 +342,12 @@ module _ {C : Type 0} (w : Ways C) where
       reported = λ stamp ranges connected sender is. none-emitting s (Arrive from raw) _;
       confirmed = λ number ack connected found. none-emitting s (Arrive from raw) _;
       ended = λ connected. none-emitting s (Arrive from raw) _;
+      again = λ stamp dest shake answer connected sender is same answers.
+          one-emitting s (Arrive from raw) _ _
+          (λ emission is. SendsHandshake _ _ _ (AnswersAgain (asked shake.ask) answer connected answers) is);
+      shaken = λ next peer origin answer emissions differs drops unsettled is. shakes-emitting _ next peer origin answer
+          emissions is;
+      linked = λ peer origin emissions unsettled is. links-emitting _ peer origin emissions is;
     })
 
   act-emitting : (s : State C) (act : Act) → AllEmitting s act (on_act w s act).reply (on_act w s act).emissions
@@ -240,11 +356,10 @@ module _ {C : Type 0} (w : Ways C) where
   act-emitting s (SendMessage ttl order bytes) =
       send_message_as-emitting s (SendMessage ttl order bytes) _ ttl order bytes s.kind
   act-emitting s (RecvMessage room) = recv_message_as-emitting s (RecvMessage room) _ room s.kind
-  act-emitting s Pack = pack-emitting s Pack _ s.phase refl
+  act-emitting s Pack = pack-emitting s Pack _ (link_of s.phase) refl
   act-emitting s Tick = tick-emitting s Tick _ s.phase refl
-  act-emitting s Close = none-emitting s Close _
-  act-emitting s Measure = none-emitting s Measure _
   act-emitting s (Arrive from bytes) = read-emitting s from bytes
+  act-emitting s act = none-emitting s act _
 
   -- what an event emits, the socket emits in the state at its moment
   pub step-emitting : (s : State C) (event : Event) (emission : Emission) → Contains (step w s event).emissions emission

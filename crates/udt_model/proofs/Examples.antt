@@ -4,7 +4,7 @@ use Rattle.std.specs.Prelude.{ℕ, negsuc, zero, suc, ◌+◌, ◌-◌, ◌*◌,
 use Rattle.udt_model.specs.declared.scripts.ControlName.TheVariants.{Native, Fixed}
 use Rattle.udt_model.specs.declared.answers.Cause.TheVariants as cause
 use Rattle.udt_model.specs.declared.answers.Heard.TheVariants as heard
-use Rattle.udt_model.specs.declared.answers.Phase.TheVariants as phase
+use Rattle.udt_model.specs.Phases as phase
 use Rattle.udt_model.specs.declared.answers.Peer.{Peer}
 use Rattle.udt_model.specs.declared.answers.SendNo.TheVariants as no
 use Rattle.udt_model.specs.declared.packets.AckBody.TheVariants.{Light, Buffer, Full}

@@ -12,11 +12,11 @@ use Rattle.udt_model.specs.declared.packets.Flags.{Flags}
 use Rattle.udt_model.specs.declared.sockets.SentAck.{SentAck}
 use Rattle.udt_model.specs.Losses.{LostRange}
 use Rattle.udt_model.specs.Rate.{Ways}
-use Rattle.udt_model.specs.ReceiveBlocks.{ReceiveBlocks, PlacedBlock, WholeMessage, placing_of, arrived_at, after_placing_of, after_place, after_bytes, next_message, after_found, after_read_message}
-use Rattle.udt_model.specs.ReceiveHalf.{Receiving, measured as measured_arrival, offset_of, placing_at, with_new, after_placing, after_block, with_taken, after_receive, after_receive_message}
+use Rattle.udt_model.specs.ReceiveBlocks.{ReceiveBlocks, PlacedBlock, WholeMessage, placing_of, arrived_at, after_placing_of, after_place, next_message, after_found, after_read_message}
+use Rattle.udt_model.specs.ReceiveHalf.{Receiving, measured as measured_arrival, offset_of, placing_at, after_placing, after_block, with_taken, after_receive, after_receive_message}
 use Rattle.udt_model.specs.ReceiveReports.{AckOutcome, IsEarly, IsKnown, EmitsAck, ack_outcome, after_ack_outcome, after_ack_timer, confirmed_by, after_ack2, after_nak_timer}
-use Rattle.udt_model.specs.SendHalf.{Sending, send_answer, message_answer, expiry_of, after_answer, after_send, after_send_message, Packing, Waits, Retransmits, Drops, Sends, Idles, packing, after_packing, after_pack}
-use Rattle.udt_model.specs.SendReports.{Acking, Acks, IsStale, acking, acked_number, sampled, released, measured, after_acking, after_ack, entering, after_entering, after_nak, has_unacknowledged, after_timeout}
+use Rattle.udt_model.specs.SendHalf.{Sending, send_answer, message_answer, expiry_of, after_answer, after_send, after_send_message, Packing, Waits, Retransmits, Drops, Sends, Idles, after_packing}
+use Rattle.udt_model.specs.SendReports.{Acking, Acks, IsStale, acking, acked_number, sampled, released, measured, after_acking, after_ack, entering, after_entering, after_nak, after_timeout}
 use Rattle.udt_model.specs.Timing.{RoundTrip, last_under}
 use Rattle.udt_model.specs.Wire.{WireRange}
 

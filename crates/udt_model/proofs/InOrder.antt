@@ -1,10 +1,9 @@
 -- Blocks, the top and the missing packets stay in order.
-use Rattle.std.proofs.Common.{◌≡◌, ℕ, ◌+◌, ◌-◌, ◌<◌, ◌≤◌, Bool, true, false, cond, ltb, leb, ◌||◌, List, [], ◌∷◌, max, refl, sym, ap, ◌∙◌, arith, inl, inr, ◌⊎◌}
-use Rattle.std.proofs.lemmas.Bool.{cases_lt, cases_Bool, cases_eq, cases_order, lt-ltb, le-ltb, or_left, or_right, or_cases, false_from_ne_true, true≢false, ltb-true, ltb-false, leb-true, leb-false}
-use Rattle.udt_model.specs.declared.answers.Placed.{Placed}
+use Rattle.std.proofs.Common.{◌≡◌, ℕ, ◌+◌, ◌-◌, ◌<◌, ◌≤◌, Bool, true, false, cond, ltb, leb, List, [], max, refl, sym, ap, ◌∙◌, arith, inl, inr}
+use Rattle.std.proofs.lemmas.Bool.{cases_lt, cases_eq, lt-ltb, le-ltb, or_left, or_right, or_cases, false_from_ne_true, true≢false, ltb-true, ltb-false, leb-false}
 use Rattle.udt_model.specs.declared.answers.Placed.TheVariants as placing
 use Rattle.udt_model.specs.declared.packets.Flags.{Flags}
-use Rattle.udt_model.specs.Losses.{Missing, LostRange, is_missing, with_missing, without_missing, after_report}
+use Rattle.udt_model.specs.Losses.{Missing, LostRange, with_missing, without_missing, after_report}
 use Rattle.udt_model.specs.ReceiveBlocks.{ReceiveBlocks, PlacedBlock, is_taken, placing_of, put_block, arrived_at, after_place, after_placing_of, after_bytes, beginning, begins_at, with_consumed, given_after, after_consuming, after_skip}
 use Rattle.udt_model.specs.ReceiveOrder.{IsInOrder, missing_then, missing_past}
 use Rattle.udt_model.proofs.TakenOffsets.{put_own, put_keeps, put_only, consumed_has, consumed_keeps, consumed_only, begins_later, passed_taken, left_only, left_keeps}

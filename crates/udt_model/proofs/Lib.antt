@@ -1,7 +1,9 @@
 mod Examples
+mod ShakeExamples
 pub mod NearLemmas
 pub mod RangeLemmas
 pub mod WireLemmas
+pub mod SpellingLemmas
 pub mod AddressLemmas
 pub mod OffsetLemmas
 pub mod SendingLemmas
@@ -10,15 +12,24 @@ pub mod FrontLemmas
 pub mod HalfLemmas
 pub mod TickLemmas
 pub mod HistoryLemmas
+pub mod PhaseLemmas
+pub mod HandshakeLemmas
 pub mod ArrivalLemmas
+pub mod UnlinkedLemmas
 pub mod StepLemmas
 pub mod ReceivingSteps
 pub mod SendingSteps
 pub mod StreamLemmas
 pub mod EmissionLemmas
+pub mod SettlingLemmas
+pub mod PeerLemmas
+pub mod HandshakeTells
+pub mod ShakeLemmas
+pub mod ConnectedBy
 pub mod RecordLemmas
 pub mod TakenOffsets
 pub mod MissingOffsets
 pub mod InOrder
+pub mod Members
 pub mod MessageLemmas
 pub mod DropLemmas

@@ -1,14 +1,14 @@
 -- What the search for the next message finds: the readable one with the least offset, and none only where none is readable.
-use Rattle.std.proofs.Common.{◌≡◌, ℕ, ◌+◌, ◌-◌, ◌<◌, ◌≤◌, Bool, true, false, List, [], ◌∷◌, ◌++◌, length, map, Some, None, refl, ap, ◌∙◌, sym, subst, inl, inr, ◌⊎◌, arith}
+use Rattle.std.proofs.Common.{◌≡◌, ℕ, ◌+◌, ◌<◌, ◌≤◌, Bool, true, false, List, [], ◌∷◌, ◌++◌, length, map, Some, None, refl, ap, ◌∙◌, sym, subst, inl, inr, ◌⊎◌, arith}
 use Rattle.std.specs.Prelude.{Option, not, ◌&&◌, ◌||◌, ◌==◌, if◌then◌else◌}
 use Rattle.std.specs.List.{Contains, concat}
 use Rattle.std.specs.Option.{option_map, option_or}
 use Rattle.std.proofs.lemmas.Bool.{and_parts, eqb-true, eq-eqb, or_left, or_right, or_cases, cases_lt, cases_eq, cases_Bool}
 use Rattle.std.proofs.lemmas.List.{append-nil}
-use Rattle.std.proofs.lemmas.List.Elements.{Contains-append_left, Contains-append_right, Contains-append_cases, Contains-push, Contains-push_cases}
 use Rattle.std.proofs.lemmas.Option.{same_Some}
 use Rattle.udt_model.specs.ReceiveBlocks.{PlacedBlock, ReceiveBlocks, WholeMessage, is_taken, goes_on, with_first, up_to_last, may_begin, message_from, next_message}
 use Rattle.udt_model.specs.Readable.{IsPartOf, AreParts, IsReadable, IsNextMessage}
+use Rattle.udt_model.proofs.Members.{first-contained, other-contained, none-contained, contained-cases}
 use Rattle.udt_model.proofs.ReceivingLemmas.{AreRising}
 
 -- ---- blocks of a list
@@ -23,24 +23,6 @@ AreAmong placed b = (block : PlacedBlock) → Contains placed block → Contains
 -- all that are placed from this offset on are among these
 abbrev pub HasAll : ReceiveBlocks → ℕ → List PlacedBlock → Type 0
 HasAll b offset placed = (block : PlacedBlock) → Contains b.placed block → offset ≤ block.offset → Contains placed block
-
-first-contained : (block : PlacedBlock) (others : List PlacedBlock) → Contains (block ∷ others) block
-first-contained block others = Contains-append_left (block ∷ []) others block (Contains-push [] block)
-
-other-contained : (first : PlacedBlock) (others : List PlacedBlock) (block : PlacedBlock) → Contains others block → Contains (first ∷ others) block
-other-contained first others block there = Contains-append_right (first ∷ []) others block there
-
-none-contained : (block : PlacedBlock) → Contains [] block → ⊥
-none-contained block there = omega (arith, there.1)
-
-contained-cases : (first : PlacedBlock) (others : List PlacedBlock) (block : PlacedBlock) → Contains (first ∷ others) block → (first ≡ block) ⊎ Contains others block
-contained-cases first others block there = elim (Contains-append_cases (first ∷ []) others block there) [
-  | inl here ↦ elim (Contains-push_cases [] first block here) [
-    | inl none ↦ absurd (none-contained block none)
-    | inr same ↦ inl same
-  ]
-  | inr later ↦ inr later
-]
 
 pub contained-taken : (placed : List PlacedBlock) (block : PlacedBlock) → Contains placed block → is_taken block.offset placed ≡ true
 contained-taken [] block there = absurd (none-contained block there)

@@ -3,15 +3,19 @@ use Rattle.std.proofs.Common.{◌≡◌, ℕ, suc, ◌+◌, ◌%◌, ◌^◌, �
 use Rattle.std.specs.Prelude.{nat_lt, length, ◌⊎◌, ◌==◌, ◌&&◌, All}
 use Rattle.std.proofs.lemmas.Bool.{cases_eq, eq-eqb, ne_eqb, lt-ltb, le-ltb, and_from}
 use Rattle.std.proofs.lemmas.Nat.{from_be_bytes-to_be_bytes_4}
-use Rattle.udt_model.specs.Wire.{WireRange, word, range_bytes, ranges_bytes, IsRange, reach, words_of, before, ranges_from, ranges_of}
+use Rattle.udt_model.specs.Wire.{WireRange, word_of, word, range_bytes, ranges_bytes, IsRange, reach, words_of, before, ranges_from, ranges_of}
 
 abbrev ends : ℕ → ℕ → WireRange
 ends first last = record { first = first; last = last }
 
+-- a word that was written is the number that it spells
+pub word_of-word : (number : ℕ) → number < 2 ^ 32 → word_of (word number) ≡ number
+word_of-word number fits = omega (arith, from_be_bytes-to_be_bytes_4 number fits)
+
 -- a word that was written reads as itself, and after it stand the words of the rest
 pub words-word : (number : ℕ) (rest : List ℕ) → number < 2 ^ 32 → words_of (word number ++ rest) ≡ number ∷ words_of rest
 unfolding words_of
-words-word number rest fits = ap (λ (w : ℕ). w ∷ words_of rest) (from_be_bytes-to_be_bytes_4 number fits)
+words-word number rest fits = ap (λ (w : ℕ). w ∷ words_of rest) (word_of-word number fits)
 
 -- a number alone is a range
 alone-reads : (number : ℕ) (words : List ℕ) → number < 2 ^ 31 → ranges_from None (number ∷ words) ≡ before (ends number number) (ranges_from None words)

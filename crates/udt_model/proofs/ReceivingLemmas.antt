@@ -11,7 +11,7 @@ use Rattle.udt_model.specs.declared.answers.Placed.TheVariants as placing
 use Rattle.udt_model.specs.declared.limits.TheConstants.{PACKET_LIMIT}
 use Rattle.udt_model.specs.Numbers.{near}
 use Rattle.udt_model.specs.ReceiveBlocks.{PlacedBlock, ReceiveBlocks, is_taken, placing_of, put_block, bytes_from, Beginning, beginning}
-use Rattle.udt_model.specs.ReceiveHalf.{Receiving, placing_at, within_limit, offset_of}
+use Rattle.udt_model.specs.ReceiveHalf.{Receiving, within_limit, offset_of}
 use Rattle.udt_model.specs.Emissions.{IsPrefix}
 
 -- ---- placed blocks

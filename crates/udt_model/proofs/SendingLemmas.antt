@@ -15,9 +15,9 @@ use Rattle.udt_model.specs.declared.packets.AckBody.TheVariants.{Light, Buffer, 
 use Rattle.udt_model.specs.Losses.{LostRange, with_range}
 use Rattle.udt_model.specs.Numbers.{near}
 use Rattle.udt_model.specs.Rate.{Ways}
-use Rattle.udt_model.specs.SendBlocks.{Message, KeptBlock, SendBlocks, count_for, blocks_of, following_message, with_bytes, end_of, kept_at}
-use Rattle.udt_model.specs.SendHalf.{Sending, acked_of, message_after, with_message, Retransmits, Drops, Sends, Idles, Waits, Packing, has_passed, sends, retransmits, leaves_next, packing, after_packing, after_pack}
-use Rattle.udt_model.specs.SendReports.{Acking, Acks, IsStale, acking_near, acking, acked_number, released, measured, after_acking, after_ack, entering_range, from_first, entering, with_ranges, after_entering, after_nak, has_unacknowledged, after_timeout, sampled}
+use Rattle.udt_model.specs.SendBlocks.{Message, KeptBlock, SendBlocks, count_for, blocks_of, following_message, end_of, kept_at}
+use Rattle.udt_model.specs.SendHalf.{Sending, message_after, with_message, Retransmits, Drops, Sends, Idles, Waits, Packing, has_passed, sends, retransmits, leaves_next, packing, after_packing, after_pack}
+use Rattle.udt_model.specs.SendReports.{Acking, Acks, IsStale, acking_near, acking, acked_number, released, measured, after_acking, after_ack, entering_range, from_first, entering, with_ranges, after_entering, after_nak, after_timeout, sampled}
 use Rattle.udt_model.specs.Timing.{RoundTrip}
 use Rattle.udt_model.specs.Wire.{WireRange}
 use Rattle.udt_model.proofs.OffsetLemmas.{AreWithin, AreWithin-wider, AreWithin-drop, without_range-within, from_offset-within, with_range-within, with_range-among}

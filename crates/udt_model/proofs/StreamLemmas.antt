@@ -1,6 +1,6 @@
 -- No block of a stream expires, so a stream asks for no message to be dropped.
-use Rattle.std.proofs.Common.{◌≡◌, ℕ, zero, suc, ◌+◌, Bool, true, false, List, [], ◌∷◌, ◌++◌, length, take, drop, Some, None, Ok, Err, refl, subst, arith}
-use Rattle.std.specs.Prelude.{Option, Result, slice_get, nat_lt, if◌then◌else◌}
+use Rattle.std.proofs.Common.{◌≡◌, ℕ, zero, suc, ◌+◌, false, List, [], ◌∷◌, ◌++◌, length, drop, Some, None, Ok, Err, refl, subst, arith}
+use Rattle.std.specs.Prelude.{Option, Result, slice_get, nat_lt}
 use Rattle.std.proofs.lemmas.Bool.{cases_Bool}
 use Rattle.std.proofs.lemmas.Bool.Decides.{nat_tests}
 use Rattle.udt_model.specs.declared.answers.SendNo.{SendNo}
@@ -138,4 +138,5 @@ module _ {C : Type 0} (w : Ways C) where
     acknowledges = λ from raw number stamp body offset is sender reads acks. ack-none s.sending s.rtt body none;
     reports = λ ranges. nak-none s.sending s.rtt ranges none;
     times_out = timeout-none s.sending s.rtt none;
+    links = λ peer unsettled. none;
   })

@@ -1,6 +1,6 @@
 -- Which offsets have blocks, once one more is placed, once some are consumed, and once bytes were read.
-use Rattle.std.proofs.Common.{◌≡◌, ℕ, zero, suc, ◌+◌, ◌-◌, ◌<◌, ◌≤◌, Bool, true, false, cond, eqb, leb, ◌&&◌, ◌||◌, ltb, List, [], ◌∷◌, length, refl, sym, ap, ◌∙◌, arith, inl, inr, ◌⊎◌}
-use Rattle.std.proofs.lemmas.Bool.{cases_lt, cases_Bool, cases_eq, eqb-true, eq-eqb, ne_eqb, and_parts, or_left, or_right, or_cases}
+use Rattle.std.proofs.Common.{◌≡◌, ℕ, zero, suc, ◌+◌, ◌-◌, ◌<◌, ◌≤◌, true, false, eqb, leb, ◌&&◌, ltb, List, [], ◌∷◌, length, refl, sym, arith, inl, inr, ◌⊎◌}
+use Rattle.std.proofs.lemmas.Bool.{cases_lt, cases_Bool, cases_eq, eqb-true, eq-eqb, and_parts, or_left, or_right, or_cases}
 use Rattle.udt_model.specs.ReceiveBlocks.{PlacedBlock, is_taken, beginning, put_block, consumed_at, with_consumed}
 
 -- a block has its own offset, and any other offset that has one keeps it

@@ -1,7 +1,7 @@
 -- What the EXP timer does, and what the ACK timer emits.
-use Rattle.std.proofs.Common.{◌≡◌, ℕ, ◌<◌, ◌≤◌, Bool, true, false, refl}
+use Rattle.std.proofs.Common.{◌≡◌, ℕ, ◌≤◌, Bool, true, false, refl}
 use Rattle.std.specs.Prelude.{nat_lt, if◌then◌else◌}
-use Rattle.std.proofs.lemmas.Bool.{ltb-true, ltb-false}
+use Rattle.std.proofs.lemmas.Bool.{ltb-false}
 use Rattle.udt_model.specs.declared.sockets.SentAck.{SentAck}
 use Rattle.udt_model.specs.ReceiveHalf.{Receiving}
 use Rattle.udt_model.specs.ReceiveReports.{ack_offset, number_after, IsEarly, IsKnown, EmitsAck, ack_outcome}

@@ -5,16 +5,15 @@ use Rattle.std.specs.Prelude.{nat_le, nat_lt, length, ◌==◌, if◌then◌else
 use Rattle.std.specs.Int.{w32, cast_signed, cast_unsigned}
 use Rattle.std.proofs.lemmas.Bool.{cases_lt, lt-ltb, le-ltb}
 use Rattle.std.proofs.lemmas.Bool.Decides.{nat_tests}
-use Rattle.std.proofs.lemmas.List.{take_all}
-use Rattle.std.proofs.lemmas.Nat.{from_be_bytes-to_be_bytes_4}
-use Rattle.std.proofs.Math.Facts.{to_z-of_z, Fits-of_z}
+use Rattle.std.proofs.lemmas.List.{take_all, length-take, length-drop}
+use Rattle.std.proofs.Math.Facts.{to_z-of_z, Fits-of_z, sfits_to_z}
 use Rattle.udt_model.specs.declared.packets.Flags.{Flags}
 use Rattle.udt_model.specs.declared.packets.Shake.{Shake}
 use Rattle.udt_model.specs.declared.packets.AckBody.{AckBody}
 use Rattle.udt_model.specs.declared.packets.AckBody.TheVariants.{Light, Buffer, Full}
 use Rattle.udt_model.specs.declared.packets.Malformed.{Malformed}
 use Rattle.udt_model.specs.declared.packets.Malformed.TheVariants.{TooShort, BadHandshakeLength, BadDropLength, BadAckLength}
-use Rattle.udt_model.proofs.RangeLemmas.{ranges_of-bytes}
+use Rattle.udt_model.proofs.RangeLemmas.{word_of-word, ranges_of-bytes}
 use Rattle.udt_model.specs.Wire.{Packet, Block, Handshake, KeepAlive, Ack, Nak, Shutdown, Ack2, DropAsk, WireRange, ControlType, HandshakeType, KeepAliveType, AckType, NakType, ShutdownType, Ack2Type, DropAskType, NoType, control_type, bit, flags_word, flags_of, type_word, type_of, word, word_at, number_at, header, shake_bytes, ack_bytes, ranges_bytes, spelling, destination, IsShakeInRange, IsAckInRange, IsRange, IsInRange, block_of, shake_of, ack_of, ranges_of, read_losses, read_control, read, target}
 
 -- ---- flags
@@ -89,22 +88,22 @@ flags-read flags fits = flags_from-same _ _ _ _ _ _ _ _
 -- ---- headers
 
 module _ (first second third fourth : ℕ) (field : List ℕ) where
-  length-header : length (header first second third fourth ++ field) ≡ 16 + length field
+  pub length-header : length (header first second third fourth ++ field) ≡ 16 + length field
   length-header = omega arith
 
-  first_word : first < 2 ^ 32 → word_at 0 (header first second third fourth ++ field) ≡ first
-  first_word fits = from_be_bytes-to_be_bytes_4 first fits
+  pub first_word : first < 2 ^ 32 → word_at 0 (header first second third fourth ++ field) ≡ first
+  first_word fits = word_of-word first fits
 
-  second_word : second < 2 ^ 32 → word_at 4 (header first second third fourth ++ field) ≡ second
-  second_word fits = from_be_bytes-to_be_bytes_4 second fits
+  pub second_word : second < 2 ^ 32 → word_at 4 (header first second third fourth ++ field) ≡ second
+  second_word fits = word_of-word second fits
 
   third_word : third < 2 ^ 32 → word_at 8 (header first second third fourth ++ field) ≡ third
-  third_word fits = from_be_bytes-to_be_bytes_4 third fits
+  third_word fits = word_of-word third fits
 
-  fourth_word : fourth < 2 ^ 32 → word_at 12 (header first second third fourth ++ field) ≡ fourth
-  fourth_word fits = from_be_bytes-to_be_bytes_4 fourth fits
+  pub fourth_word : fourth < 2 ^ 32 → word_at 12 (header first second third fourth ++ field) ≡ fourth
+  fourth_word fits = word_of-word fourth fits
 
-  field-header : drop 16 (header first second third fourth ++ field) ≡ field
+  pub field-header : drop 16 (header first second third fourth ++ field) ≡ field
   field-header = refl
 
 -- bytes whose first bit is set are read by the type that they tell
@@ -149,21 +148,21 @@ shake_from-same : (a b c d e f g h i j : ℕ) (y z : ℤ) (k l m n : ℕ) (x w :
 shake_from-same a b c d e f g h i j y z k l m n x w p q r s t u v o aa = cc
 
 -- a packet number that fits reads back
-number-reads : (n m : ℕ) → n < 2 ^ 31 → m ≡ n → m % 2 ^ 31 ≡ n
+pub number-reads : (n m : ℕ) → n < 2 ^ 31 → m ≡ n → m % 2 ^ 31 ≡ n
 number-reads n m fits same = omega arith
 
 -- a handshake reads back
 shake-reads : (shake : Shake) → IsShakeInRange shake → shake_of (shake_bytes shake) ≡ shake
 unfolding shake_from
 shake-reads shake fits = shake_from-same _ _ _ _ _ _ _ _ _ _ _ _ _ _ _ _ _ _
-    (from_be_bytes-to_be_bytes_4 shake.version fits.version)
-    (from_be_bytes-to_be_bytes_4 shake.kind fits.kind)
-    (number-reads shake.isn _ fits.isn (from_be_bytes-to_be_bytes_4 shake.isn (omega arith)))
-    (from_be_bytes-to_be_bytes_4 shake.packet fits.packet)
-    (from_be_bytes-to_be_bytes_4 shake.flow fits.flow)
-    (ap (cast_signed w32) (from_be_bytes-to_be_bytes_4 (cast_unsigned w32 shake.ask) (Fits-of_z fits.ask).fits) ∙ to_z-of_z fits.ask)
-    (from_be_bytes-to_be_bytes_4 shake.id fits.id)
-    (from_be_bytes-to_be_bytes_4 shake.cookie fits.cookie)
+    (word_of-word shake.version fits.version)
+    (word_of-word shake.kind fits.kind)
+    (number-reads shake.isn _ fits.isn (word_of-word shake.isn (omega arith)))
+    (word_of-word shake.packet fits.packet)
+    (word_of-word shake.flow fits.flow)
+    (ap (cast_signed w32) (word_of-word (cast_unsigned w32 shake.ask) (Fits-of_z fits.ask).fits) ∙ to_z-of_z fits.ask)
+    (word_of-word shake.id fits.id)
+    (word_of-word shake.cookie fits.cookie)
     (take_all 16 shake.address (omega arith))
 
 length-shake : (shake : Shake) → IsShakeInRange shake → length (shake_bytes shake) ≡ 48
@@ -177,20 +176,20 @@ shake-read stamp dest shake fits =
 
 -- an acknowledgement reads back
 ack-reads : (body : AckBody) → IsAckInRange body → ack_of (ack_bytes body) ≡ body
-ack-reads (Light ack) fits = ap Light (number-reads ack _ fits (from_be_bytes-to_be_bytes_4 ack (omega arith)))
+ack-reads (Light ack) fits = ap Light (number-reads ack _ fits (word_of-word ack (omega arith)))
 ack-reads (Buffer ack rtt var buffer) fits =
-    let a = number-reads ack _ fits.0 (from_be_bytes-to_be_bytes_4 ack (omega arith)) in
-    let r = from_be_bytes-to_be_bytes_4 rtt fits.1 in
-    let v = from_be_bytes-to_be_bytes_4 var fits.2 in
-    let b = from_be_bytes-to_be_bytes_4 buffer fits.3 in
+    let a = number-reads ack _ fits.0 (word_of-word ack (omega arith)) in
+    let r = word_of-word rtt fits.1 in
+    let v = word_of-word var fits.2 in
+    let b = word_of-word buffer fits.3 in
     cc
 ack-reads (Full ack rtt var buffer rate capacity) fits =
-    let a = number-reads ack _ fits.0 (from_be_bytes-to_be_bytes_4 ack (omega arith)) in
-    let r = from_be_bytes-to_be_bytes_4 rtt fits.1 in
-    let v = from_be_bytes-to_be_bytes_4 var fits.2 in
-    let b = from_be_bytes-to_be_bytes_4 buffer fits.3 in
-    let s = from_be_bytes-to_be_bytes_4 rate fits.4 in
-    let c = from_be_bytes-to_be_bytes_4 capacity fits.5 in
+    let a = number-reads ack _ fits.0 (word_of-word ack (omega arith)) in
+    let r = word_of-word rtt fits.1 in
+    let v = word_of-word var fits.2 in
+    let b = word_of-word buffer fits.3 in
+    let s = word_of-word rate fits.4 in
+    let c = word_of-word capacity fits.5 in
     cc
 
 ack-read : (number stamp dest : ℕ) (body : AckBody) → IsAckInRange body → read_control AckType number stamp dest (ack_bytes body) ≡ Ok (Ack number stamp dest body)
@@ -230,8 +229,8 @@ drop-read : (message stamp dest first last : ℕ) → message < 2 ^ 29 → first
 unfolding read_control
 drop-read message stamp dest first last fits first_fits last_fits =
     ap Ok (drop_from-same stamp dest (message % 2 ^ 29) message _ first _ last (omega arith)
-    (number-reads first _ first_fits (from_be_bytes-to_be_bytes_4 first (omega arith)))
-    (number-reads last _ last_fits (from_be_bytes-to_be_bytes_4 last (omega arith))))
+    (number-reads first _ first_fits (word_of-word first (omega arith)))
+    (number-reads last _ last_fits (word_of-word last (omega arith))))
 
 block-read : (seq : ℕ) (flags : Flags) (stamp dest : ℕ) (bytes : List ℕ) → IsInRange (Block seq flags stamp dest bytes)
     → read (header seq (flags_word flags) stamp dest ++ bytes) ≡ Ok (Block seq flags stamp dest bytes)
@@ -332,7 +331,11 @@ target-read seq flags stamp dest bytes payload reads = target-of-read bytes (Blo
 pub target-spelling : (packet : Packet) → IsInRange packet → target (spelling packet) ≡ Some (destination packet)
 target-spelling packet fits = target-of-read (spelling packet) packet (read-spelling packet fits)
 
--- a word has 32 bits
+-- a word that is read has 32 bits
+pub word_at-below : (place : ℕ) (bytes : List ℕ) → word_at place bytes < 2 ^ 32
+word_at-below place bytes = omega arith
+
+-- and so has one that is written
 pub word-mod : (n : ℕ) → word (n % 2 ^ 32) ≡ word n
 word-mod n =
     let first : n % 2 ^ 32 / 2 ^ 24 % 2 ^ 8 ≡ n / 2 ^ 24 % 2 ^ 8 = omega arith in
@@ -340,3 +343,19 @@ word-mod n =
     let third : n % 2 ^ 32 / 2 ^ 8 % 2 ^ 8 ≡ n / 2 ^ 8 % 2 ^ 8 = omega arith in
     let fourth : n % 2 ^ 32 % 2 ^ 8 ≡ n % 2 ^ 8 = omega arith in
     grind (arith, first, second, third, fourth)
+
+-- ---- handshakes
+
+-- a handshake that a field spells has numbers in range
+pub shake_of-in_range : (field : List ℕ) → 48 ≤ length field → IsShakeInRange (shake_of field)
+shake_of-in_range field long = record {
+  version = word_at-below 0 field;
+  kind = word_at-below 4 field;
+  isn = omega arith;
+  packet = word_at-below 12 field;
+  flow = word_at-below 16 field;
+  ask = sfits_to_z (record { fits = word_at-below 20 field });
+  id = word_at-below 24 field;
+  cookie = word_at-below 28 field;
+  address = omega (arith, length-take 16 (drop 32 field), length-drop 32 field);
+}

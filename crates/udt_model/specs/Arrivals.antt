@@ -4,7 +4,6 @@ use Rattle.udt_model.specs.declared.addresses.Addr.{Addr}
 use Rattle.udt_model.specs.declared.answers.Arrived.{Arrived}
 use Rattle.udt_model.specs.declared.answers.Dropped.{Dropped}
 use Rattle.udt_model.specs.declared.answers.Heard.{Heard}
-use Rattle.udt_model.specs.declared.answers.Phase.{Phase}
 use Rattle.udt_model.specs.declared.answers.Placed.{Placed}
 use Rattle.udt_model.specs.declared.packets.AckBody.{AckBody}
 use Rattle.udt_model.specs.declared.packets.AckBody.TheVariants.{Light, Buffer, Full}
@@ -14,16 +13,19 @@ use Rattle.udt_model.specs.declared.packets.Malformed.{Malformed}
 use Rattle.udt_model.specs.declared.answers.Cause.TheVariants as cause
 use Rattle.udt_model.specs.declared.answers.Dropped.TheVariants as dropped
 use Rattle.udt_model.specs.declared.answers.Heard.TheVariants as heard
-use Rattle.udt_model.specs.declared.answers.Phase.TheVariants as phase
 use Rattle.udt_model.specs.declared.answers.Placed.TheVariants as placing
 use Rattle.udt_model.specs.declared.packets.Kind.TheVariants as kind
 use Rattle.udt_model.specs.declared.sockets.Counters.{Counters}
 use Rattle.udt_model.specs.declared.sockets.SentAck.{SentAck}
 use Rattle.udt_model.specs.Addresses.{same_addr}
 use Rattle.udt_model.specs.Calls.{stamp_of, emission}
+use Rattle.udt_model.specs.Counted.{count_stale, count_foreign, count_malformed, on_stale, on_control}
 use Rattle.udt_model.specs.Events.{DidHear, Outcome, answered, risen}
 use Rattle.udt_model.specs.Losses.{LostRange}
+use Rattle.udt_model.specs.Phases.{Phase}
+use Rattle.udt_model.specs.Phases as phase
 use Rattle.udt_model.specs.Rate.{Ways}
+use Rattle.udt_model.specs.Shaking.{on_listening, on_connecting, on_meeting, on_shake_again}
 use Rattle.udt_model.specs.ReceiveHalf.{Receiving, block_answer, after_block, drop_answer, after_drop}
 use Rattle.udt_model.specs.ReceiveReports.{ack_offset, light_ack, after_ack2, round_trip_to}
 use Rattle.udt_model.specs.SendReports.{Acking, Acks, IsStale, acking, acked_number, after_ack, round_trip_after, entering, after_nak}
@@ -46,35 +48,11 @@ count_placing counters placing.Double = record counters { double = risen counter
 count_placing counters placing.Below = record counters { below = risen counters.below }
 count_placing counters placing.Above = record counters { above = risen counters.above }
 
-abbrev pub count_control : Counters → Counters
-count_control counters = record counters { control = risen counters.control }
-
-abbrev pub count_stale : Counters → Counters
-count_stale counters = record counters { stale = risen counters.stale }
-
-abbrev pub count_foreign : Counters → Counters
-count_foreign counters = record counters { foreign = risen counters.foreign }
-
-abbrev pub count_malformed : Counters → Counters
-count_malformed counters = record counters { malformed = risen counters.malformed }
-
 -- a block that has no bytes, or more than was agreed, isn't looked at
 abbrev pub has_bad_length : Receiving → List ℕ → Bool
 has_bad_length r bytes = length bytes == 0 || nat_lt r.payload (length bytes)
 
 module _ {C : Type 0} where
-  -- a packet of which the socket makes no use
-  abbrev pub on_stale : State C → Outcome C
-  on_stale s = answered (record s { counters = count_stale s.counters }) (DidHear heard.Stale)
-
-  -- a control packet that was so heard, and the answers to it
-  abbrev pub on_control : State C → Heard → List Emission → Outcome C
-  on_control s heard emissions = record {
-    after = record s { counters = count_control s.counters };
-    reply = DidHear heard;
-    emissions = emissions;
-  }
-
   -- ---- data packets
 
   -- the gap that a block shows is reported at once
@@ -172,10 +150,10 @@ module _ {C : Type 0} (w : Ways C) where
   abbrev pub on_nak : State C → List WireRange → Outcome C
   on_nak s ranges = reported_so s ranges (entering s.sending ranges)
 
-  -- a packet from the peer. No use is made of handshakes yet
+  -- a packet from the peer
   abbrev pub on_own : State C → Packet → Outcome C
   on_own s (Block number flags stamp dest bytes) = on_block s number flags bytes
-  on_own s (Handshake stamp dest shake) = on_stale s
+  on_own s (Handshake stamp dest shake) = on_shake_again s shake
   on_own s (KeepAlive stamp dest) = on_control s heard.Alive []
   on_own s (Ack number stamp dest body) = on_ack s number body
   on_own s (Nak stamp dest ranges) = on_nak s ranges
@@ -189,12 +167,13 @@ module _ {C : Type 0} (w : Ways C) where
       then on_own (heard_now s) packet
       else answered (record s { counters = count_foreign s.counters }) (DidHear heard.Foreign)
 
-  -- a socket that isn't connected takes nothing in
+  -- a socket that isn't connected, and waits for no handshake, takes nothing in
   abbrev pub packet_in : State C → Addr → Packet → Phase → Outcome C
   packet_in s from packet phase.Connected = on_connected s from packet
-  packet_in s from packet (phase.Broken why) = on_stale s
-  packet_in s from packet phase.Closing = on_stale s
-  packet_in s from packet phase.Closed = on_stale s
+  packet_in s from packet (phase.Listening b) = on_listening s b from packet
+  packet_in s from packet (phase.Connecting c again) = on_connecting w s c from packet
+  packet_in s from packet (phase.Meeting m again) = on_meeting w s m again from packet
+  packet_in s from packet other = on_stale s
 
   abbrev pub on_read : State C → Addr → Result Packet Malformed → Outcome C
   on_read s from (Err why) = answered (record s { counters = count_malformed s.counters }) (DidHear (heard.Malformed why))

@@ -1,23 +1,22 @@
 -- What the calls of a socket answer, leave and emit: send and receive of bytes and of messages, close, pack and perf.
 use Rattle.std.specs.Prelude.{ℕ, ◌-◌, ◌==◌, ◌%◌, ◌^◌, Bool, List, [], ◌∷◌, length, take, Option, Some, None, Result, Ok, Err, nat_le, if◌then◌else◌}
-use Rattle.udt_model.specs.declared.answers.Cause.{Cause}
 use Rattle.udt_model.specs.declared.answers.Perf.{Perf}
-use Rattle.udt_model.specs.declared.answers.Phase.{Phase}
 use Rattle.udt_model.specs.declared.answers.Refusal.{Refusal}
 use Rattle.udt_model.specs.declared.answers.SendNo.{SendNo}
 use Rattle.udt_model.specs.declared.answers.Packed.TheVariants as packed
-use Rattle.udt_model.specs.declared.answers.Phase.TheVariants as phase
 use Rattle.udt_model.specs.declared.answers.Refusal.TheVariants as refusal
 use Rattle.udt_model.specs.declared.answers.SendNo.TheVariants as no
 use Rattle.udt_model.specs.declared.packets.Kind.{Kind}
 use Rattle.udt_model.specs.declared.packets.Kind.TheVariants as kind
 use Rattle.udt_model.specs.declared.sockets.Counters.{Counters}
+use Rattle.udt_model.specs.Phases.{Phase, Link, Stands, Lost, Absent, link_of}
+use Rattle.udt_model.specs.Phases as phase
 use Rattle.udt_model.specs.Rate.{Ways}
 use Rattle.udt_model.specs.ReceiveBlocks.{WholeMessage, waiting_of, next_message}
 use Rattle.udt_model.specs.ReceiveHalf.{Receiving, after_receive, after_receive_message}
 use Rattle.udt_model.specs.SendBlocks.{Message, KeptBlock}
 use Rattle.udt_model.specs.SendHalf.{acked_of, send_answer, after_send, message_answer, after_send_message, window_in, period_in, Packing, Waits, Retransmits, Drops, Sends, Idles, packing, packed_as, block_packet, drop_packet, after_packing}
-use Rattle.udt_model.specs.State.{State, Datagram, Emission}
+use Rattle.udt_model.specs.State.{State, Emission}
 use Rattle.udt_model.specs.Events.{Sent, Received, SentMessage, ReceivedMessage, DidPack, DidClose, DidMeasure, Outcome, answered, risen}
 use Rattle.udt_model.specs.Wire.{Packet, spelling}
 
@@ -51,9 +50,8 @@ answer_message why room (Some m) = if room == 0 then Ok [] else fitted room m
 -- a connected socket has yet to send its peer a shutdown
 abbrev pub closed_from : Phase → Phase
 closed_from phase.Connected = phase.Closing
-closed_from (phase.Broken why) = phase.Closed
 closed_from phase.Closing = phase.Closing
-closed_from phase.Closed = phase.Closed
+closed_from other = phase.Closed
 
 -- a block is sent for the first time, or retransmitted
 abbrev pub count_packing : Packing → Counters → Counters
@@ -89,16 +87,15 @@ module _ {C : Type 0} where
   -- ---- sending and receiving bytes
 
   -- a socket takes bytes while it is connected
-  abbrev pub send_in : State C → List ℕ → Phase → Outcome C
-  send_in s bytes phase.Connected =
+  abbrev pub send_in : State C → List ℕ → Link → Outcome C
+  send_in s bytes Stands =
       answered (record s { sending = after_send s.sending bytes }) (Sent (taken_as (send_answer s.sending (length bytes))))
-  send_in s bytes (phase.Broken why) = answered s (Sent (Err (refusal.ConnLost why)))
-  send_in s bytes phase.Closing = answered s (Sent (Err refusal.NotConnected))
-  send_in s bytes phase.Closed = answered s (Sent (Err refusal.NotConnected))
+  send_in s bytes (Lost why) = answered s (Sent (Err (refusal.ConnLost why)))
+  send_in s bytes Absent = answered s (Sent (Err refusal.NotConnected))
 
   -- where it carries a stream
   abbrev pub send_as : State C → List ℕ → Kind → Outcome C
-  send_as s bytes kind.Stream = send_in s bytes s.phase
+  send_as s bytes kind.Stream = send_in s bytes (link_of s.phase)
   send_as s bytes kind.Message = answered s (Sent (Err refusal.MessageOnly))
 
   abbrev pub on_send : State C → List ℕ → Outcome C
@@ -111,14 +108,13 @@ module _ {C : Type 0} where
       answered (record s { receiving = after_receive s.receiving (length bytes) }) (Received (answer_with why room bytes))
 
   -- bytes are also given once the connection was lost: where none waits, none will come
-  abbrev pub recv_in : State C → ℕ → Phase → Outcome C
-  recv_in s room phase.Connected = gives s room refusal.AgainRecv
-  recv_in s room (phase.Broken why) = gives s room (refusal.ConnLost why)
-  recv_in s room phase.Closing = answered s (Received (Err refusal.NotConnected))
-  recv_in s room phase.Closed = answered s (Received (Err refusal.NotConnected))
+  abbrev pub recv_in : State C → ℕ → Link → Outcome C
+  recv_in s room Stands = gives s room refusal.AgainRecv
+  recv_in s room (Lost why) = gives s room (refusal.ConnLost why)
+  recv_in s room Absent = answered s (Received (Err refusal.NotConnected))
 
   abbrev pub recv_as : State C → ℕ → Kind → Outcome C
-  recv_as s room kind.Stream = recv_in s room s.phase
+  recv_as s room kind.Stream = recv_in s room (link_of s.phase)
   recv_as s room kind.Message = answered s (Received (Err refusal.MessageOnly))
 
   abbrev pub on_recv : State C → ℕ → Outcome C
@@ -127,19 +123,18 @@ module _ {C : Type 0} where
   -- ---- sending and receiving messages
 
   -- a socket takes a message while it is connected
-  abbrev pub send_message_in : State C → Option ℕ → Bool → List ℕ → Phase → Outcome C
-  send_message_in s ttl order bytes phase.Connected =
+  abbrev pub send_message_in : State C → Option ℕ → Bool → List ℕ → Link → Outcome C
+  send_message_in s ttl order bytes Stands =
       answered
       (record s { sending = after_send_message s.sending s.last ttl order bytes })
       (SentMessage (taken_as (message_answer s.sending (length bytes))))
-  send_message_in s ttl order bytes (phase.Broken why) = answered s (SentMessage (Err (refusal.ConnLost why)))
-  send_message_in s ttl order bytes phase.Closing = answered s (SentMessage (Err refusal.NotConnected))
-  send_message_in s ttl order bytes phase.Closed = answered s (SentMessage (Err refusal.NotConnected))
+  send_message_in s ttl order bytes (Lost why) = answered s (SentMessage (Err (refusal.ConnLost why)))
+  send_message_in s ttl order bytes Absent = answered s (SentMessage (Err refusal.NotConnected))
 
   -- where it carries messages
   abbrev pub send_message_as : State C → Option ℕ → Bool → List ℕ → Kind → Outcome C
   send_message_as s ttl order bytes kind.Stream = answered s (SentMessage (Err refusal.StreamOnly))
-  send_message_as s ttl order bytes kind.Message = send_message_in s ttl order bytes s.phase
+  send_message_as s ttl order bytes kind.Message = send_message_in s ttl order bytes (link_of s.phase)
 
   abbrev pub on_send_message : State C → Option ℕ → Bool → List ℕ → Outcome C
   on_send_message s ttl order bytes = send_message_as s ttl order bytes s.kind
@@ -152,15 +147,14 @@ module _ {C : Type 0} where
       (ReceivedMessage (answer_message why room (next_message s.receiving.blocks)))
 
   -- messages are also given once the connection was lost
-  abbrev pub recv_message_in : State C → ℕ → Phase → Outcome C
-  recv_message_in s room phase.Connected = gives_message s room refusal.AgainRecv
-  recv_message_in s room (phase.Broken why) = gives_message s room (refusal.ConnLost why)
-  recv_message_in s room phase.Closing = answered s (ReceivedMessage (Err refusal.NotConnected))
-  recv_message_in s room phase.Closed = answered s (ReceivedMessage (Err refusal.NotConnected))
+  abbrev pub recv_message_in : State C → ℕ → Link → Outcome C
+  recv_message_in s room Stands = gives_message s room refusal.AgainRecv
+  recv_message_in s room (Lost why) = gives_message s room (refusal.ConnLost why)
+  recv_message_in s room Absent = answered s (ReceivedMessage (Err refusal.NotConnected))
 
   abbrev pub recv_message_as : State C → ℕ → Kind → Outcome C
   recv_message_as s room kind.Stream = answered s (ReceivedMessage (Err refusal.StreamOnly))
-  recv_message_as s room kind.Message = recv_message_in s room s.phase
+  recv_message_as s room kind.Message = recv_message_in s room (link_of s.phase)
 
   abbrev pub on_recv_message : State C → ℕ → Outcome C
   on_recv_message s room = recv_message_as s room s.kind
@@ -192,14 +186,13 @@ module _ {C : Type 0} (w : Ways C) where
   }
 
   -- a socket that isn't connected packs nothing
-  abbrev pub pack_in : State C → Phase → Outcome C
-  pack_in s phase.Connected = packed_so s (packing w s.sending s.last)
-  pack_in s (phase.Broken why) = answered s (DidPack packed.Nothing)
-  pack_in s phase.Closing = answered s (DidPack packed.Nothing)
-  pack_in s phase.Closed = answered s (DidPack packed.Nothing)
+  abbrev pub pack_in : State C → Link → Outcome C
+  pack_in s Stands = packed_so s (packing w s.sending s.last)
+  pack_in s (Lost why) = answered s (DidPack packed.Nothing)
+  pack_in s Absent = answered s (DidPack packed.Nothing)
 
   abbrev pub on_pack : State C → Outcome C
-  on_pack s = pack_in s s.phase
+  on_pack s = pack_in s (link_of s.phase)
 
   -- ---- measuring
 

@@ -6,12 +6,22 @@ use Rattle.udt_model.specs.declared.answers.Heard.{Heard}
 use Rattle.udt_model.specs.declared.answers.Packed.{Packed}
 use Rattle.udt_model.specs.declared.answers.Perf.{Perf}
 use Rattle.udt_model.specs.declared.answers.Refusal.{Refusal}
+use Rattle.udt_model.specs.declared.answers.Shaken.{Shaken}
 use Rattle.udt_model.specs.State.{State, Datagram, Emission}
 
 -- ---- events and replies
 
 -- what may happen to a socket: a call, or a datagram that arrives from an address
 pub data Act : Type 0 where
+  -- a listener: how many connections it keeps at most, and the secret of its cookies
+  Listen : (backlog : ℕ) → (secret : List ℕ) → Act
+  Connect : (to : Addr) → Act
+  Meet : (to : Addr) → Act
+  Accept : Act
+  Shake : Act
+  -- a socket was made for a request that was promised a place, or none could be
+  Offer : (id : ℕ) → Act
+  Withdraw : Act
   Send : (bytes : List ℕ) → Act
   Recv : (room : ℕ) → Act
   -- a message: how many microseconds it is retransmitted at most, whether it must be delivered in order, and its bytes
@@ -20,6 +30,8 @@ pub data Act : Type 0 where
   Pack : Act
   Tick : Act
   Close : Act
+  -- the port of the socket can't be used any more
+  PortDown : Act
   Measure : Act
   Arrive : (from : Addr) → (bytes : List ℕ) → Act
 
@@ -32,9 +44,17 @@ pub record Event : Type 0 where
 abbrev pub event : ℕ → Act → Event
 event now act = record { now = now; act = act }
 
--- what an event answers: how many bytes were taken, the bytes that were received, the same of messages, what was packed, what
--- was measured, what was heard. A tick and a close say no more than that they were done
+-- what an event answers: that a socket listens, asks or meets, the ID of a connection, what became of a connection, whether a
+-- connection was offered; how many bytes were taken, the bytes that were received, the same of messages, what was packed, what
+-- was measured, what was heard. Others say no more than that they were done
 pub data Reply : Type 0 where
+  DidListen : (answer : Result (Unit {0}) Refusal) → Reply
+  DidConnect : (answer : Result (Unit {0}) Refusal) → Reply
+  DidMeet : (answer : Result (Unit {0}) Refusal) → Reply
+  Accepted : (answer : Result ℕ Refusal) → Reply
+  DidShake : (answer : Shaken) → Reply
+  DidOffer : (answer : Bool) → Reply
+  DidWithdraw : Reply
   Sent : (answer : Result ℕ Refusal) → Reply
   Received : (answer : Result (List ℕ) Refusal) → Reply
   SentMessage : (answer : Result ℕ Refusal) → Reply
@@ -42,6 +62,7 @@ pub data Reply : Type 0 where
   DidPack : (answer : Packed) → Reply
   DidTick : Reply
   DidClose : Reply
+  DidPortDown : Reply
   DidMeasure : (answer : Perf) → Reply
   DidHear : (answer : Heard) → Reply
 

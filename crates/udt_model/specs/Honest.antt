@@ -2,7 +2,7 @@
 use Rattle.std.specs.Prelude.{◌≡◌, ℕ, ◌+◌, ◌^◌, ◌<◌, List, [], ◌∷◌, Ok}
 use Rattle.std.specs.List.{Contains}
 use Rattle.udt_model.specs.declared.addresses.Addr.{Addr}
-use Rattle.udt_model.specs.Wire.{Packet, Block, Handshake, KeepAlive, Ack, Nak, Shutdown, Ack2, DropAsk, read}
+use Rattle.udt_model.specs.Wire.{Packet, Ack, Nak, read}
 use Rattle.udt_model.specs.Rate.{Ways}
 use Rattle.udt_model.specs.SendHalf.{acked_of}
 use Rattle.udt_model.specs.State.{State, Emission}

@@ -1,10 +1,11 @@
 -- The forms of a script's lines.
-use Rattle.std.specs.Prelude.{◌≡◌, ℕ, ◌-◌, ◌^◌, ◌==◌, ◌&&◌, ◌||◌, Bool, List, [], ◌∷◌, All, Option, Some, None, option_map, codes, if◌then◌else◌}
+use Rattle.std.specs.Prelude.{◌≡◌, ℕ, ◌-◌, ◌^◌, ◌==◌, ◌||◌, Bool, List, [], ◌∷◌, replicate, All, Option, Some, None, option_map, codes, if◌then◌else◌}
 use Rattle.udt_model.specs.declared.limits.TheConstants.{MOST_PAYLOAD, FEWEST_BLOCKS, MOST_BLOCKS, LAST_START, LAST_MOMENT}
+use Rattle.udt_model.specs.declared.addresses.Addr.{Addr}
 use Rattle.udt_model.specs.declared.packets.Kind.{Kind}
 use Rattle.udt_model.specs.declared.packets.Kind.TheVariants as kind
 use Rattle.udt_model.specs.Addresses.{addr_of}
-use Rattle.udt_model.specs.Events.{Act, Send, Recv, SendMessage, RecvMessage, Pack, Tick, Close, Measure, Arrive, Event}
+use Rattle.udt_model.specs.Events.{Act, Listen, Connect, Meet, Shake, Send, Recv, SendMessage, RecvMessage, Pack, Tick, Close, Measure, Arrive, Event}
 use Rattle.udt_model.specs.Network.{ScriptDatagram}
 use Rattle.udt_model.specs.Words.{◌>>=◌, words_of, is_word, name_of, number_within, bytes_of}
 
@@ -19,16 +20,29 @@ pub record Pairing : Type 0 where
   pub blocks : ℕ
   pub start : ℕ
 
+-- a socket that is to be opened: what it carries, its name and its host's, the bytes and number of its blocks, and its initial
+-- sequence number
+pub record OpeningLine : Type 0 where
+  pub kind : Kind
+  pub name : List ℕ
+  pub host : List ℕ
+  pub payload : ℕ
+  pub isn : ℕ
+  pub blocks : ℕ
+
 -- bytes come from outside
 abbrev pub is_arrival : Act → Bool
 is_arrival (Arrive from bytes) = Bool.true
 is_arrival act = Bool.false
 
--- a line: a pair of sockets, a call of a named socket at a moment, the arrival of a datagram that was printed under a
--- number, or that of any bytes, from any address to any
+-- a line: a pair of sockets, a host, a socket, a call of a named socket at a moment, an accept with the name for the connection,
+-- the arrival of a datagram that was printed under a number, or that of any bytes, from any address to any
 pub data Line : Type 0 where
   Silent : Line
   PairLine : (pairing : Pairing) → Line
+  HostLine : (name : List ℕ) → (addr : Addr) → Line
+  OpenLine : (opening : OpeningLine) → Line
+  AcceptLine : (name : List ℕ) → (now : ℕ) → (accepted : List ℕ) → Line
   CallLine : (name : List ℕ) → (event : Event) → Line
   DeliverLine : (number : ℕ) → (now : ℕ) → Line
   RawLine : (now : ℕ) → (datagram : ScriptDatagram) → Line
@@ -64,10 +78,48 @@ pair_line kind (a ∷ b ∷ payload ∷ isn ∷ blocks ∷ start ∷ []) =
     number_within 0 LAST_START start >>= λ start. pairing_of kind a b payload isn blocks start
 pair_line kind words = None
 
+-- host H ADDR
+unfoldable pub host_line : List ℕ → List (List ℕ) → Option Line
+host_line name (addr ∷ []) = do
+  name ← name_of name
+  addr ← addr_of addr
+  Some (HostLine name addr)
+host_line name words = None
+
+-- open KIND A H PAYLOAD ISN BUFFER
+unfoldable pub open_line : List ℕ → List (List ℕ) → Option Line
+open_line kind (name ∷ host ∷ payload ∷ isn ∷ blocks ∷ []) = do
+  kind ← kind_of kind
+  name ← name_of name
+  host ← name_of host
+  payload ← number_within 1 MOST_PAYLOAD payload
+  isn ← number_within 0 (2 ^ 31 - 1) isn
+  blocks ← number_within FEWEST_BLOCKS MOST_BLOCKS blocks
+  Some (OpenLine (record { kind = kind; name = name; host = host; payload = payload; isn = isn; blocks = blocks }))
+open_line kind words = None
+
 -- a call with nothing after its moment
 abbrev pub alone : Act → List (List ℕ) → Option Act
 alone act [] = Some act
 alone act (word ∷ words) = None
+
+-- the secret of a script's listeners
+abbrev pub no_secret : List ℕ
+no_secret = replicate 16 0
+
+-- N
+abbrev pub listen_of : List (List ℕ) → Option Act
+listen_of (most ∷ []) = number_within 0 (2 ^ 32 - 1) most >>= λ most. Some (Listen most no_secret)
+listen_of words = None
+
+-- ADDR
+abbrev pub connect_of : List (List ℕ) → Option Act
+connect_of (to ∷ []) = addr_of to >>= λ to. Some (Connect to)
+connect_of words = None
+
+abbrev pub meet_of : List (List ℕ) → Option Act
+meet_of (to ∷ []) = addr_of to >>= λ to. Some (Meet to)
+meet_of words = None
 
 -- HEX
 abbrev pub send_of : List (List ℕ) → Option Act
@@ -104,7 +156,15 @@ recvmsg_of words = None
 -- the call with this name, by the words after its moment
 unfoldable pub call_of : List ℕ → List (List ℕ) → Option Act
 call_of call words =
-    if is_word call (codes "send")
+    if is_word call (codes "listen")
+    then listen_of words
+    else (if is_word call (codes "connect")
+    then connect_of words
+    else (if is_word call (codes "meet")
+    then meet_of words
+    else (if is_word call (codes "shake")
+    then alone Shake words
+    else (if is_word call (codes "send")
     then send_of words
     else (if is_word call (codes "recv")
     then recv_of words
@@ -118,9 +178,10 @@ call_of call words =
     then alone Tick words
     else (if is_word call (codes "close")
     then alone Close words
-    else (if is_word call (codes "perf") then alone Measure words else None)))))))
+    else (if is_word call (codes "perf") then alone Measure words else None)))))))))))
 
--- A send T HEX, A recv T CAP, A sendmsg T TTL ORDER HEX, A recvmsg T CAP, A pack T, A tick T, A close T, A perf T
+-- A listen T N, A connect T ADDR, A meet T ADDR, A shake T, A send T HEX, A recv T CAP, A sendmsg T TTL ORDER HEX,
+-- A recvmsg T CAP, A pack T, A tick T, A close T, A perf T
 unfoldable pub call_line : List ℕ → List ℕ → List (List ℕ) → Option Line
 call_line name call [] = None
 call_line name call (now ∷ words) = do
@@ -128,6 +189,15 @@ call_line name call (now ∷ words) = do
   now ← moment_of now
   act ← call_of call words
   Some (CallLine name (record { now = now; act = act }))
+
+-- A accept T B
+unfoldable pub accept_line : List ℕ → List (List ℕ) → Option Line
+accept_line name (now ∷ accepted ∷ []) = do
+  name ← name_of name
+  now ← moment_of now
+  accepted ← name_of accepted
+  Some (AcceptLine name now accepted)
+accept_line name words = None
 
 -- deliver K T. No script prints 2^64 datagrams
 unfoldable pub deliver_line : List ℕ → List (List ℕ) → Option Line
@@ -147,25 +217,36 @@ raw_line now (from ∷ to ∷ bytes ∷ []) = do
   Some (RawLine now (record { from = from; to = to; bytes = bytes }))
 raw_line now words = None
 
--- the word names a call
-abbrev pub is_call : List ℕ → Bool
-is_call word =
-    is_word word (codes "send") || is_word word (codes "recv") || is_word word (codes "sendmsg")
-    || is_word word (codes "recvmsg") || is_word word (codes "pack") || is_word word (codes "tick")
-    || is_word word (codes "close") || is_word word (codes "perf")
-
--- The second word tells the calls of a socket, since a name may be any word; the first one the other lines
-unfoldable pub line_by_words : List (List ℕ) → Option Line
-line_by_words [] = None
-line_by_words (first ∷ []) = None
-line_by_words (first ∷ second ∷ others) =
-    if is_call second
-    then call_line first second others
-    else (if is_word first (codes "deliver")
+-- the first word tells the lines that aren't calls
+abbrev pub line_by_first : List ℕ → List ℕ → List (List ℕ) → Option Line
+line_by_first first second others =
+    if is_word first (codes "deliver")
     then deliver_line second others
     else (if is_word first (codes "raw")
     then raw_line second others
-    else (if is_word first (codes "pair") then pair_line second others else None)))
+    else (if is_word first (codes "pair")
+    then pair_line second others
+    else (if is_word first (codes "open")
+    then open_line second others
+    else (if is_word first (codes "host") then host_line second others else None))))
+
+-- and the second one the calls of a socket
+abbrev pub line_by_second : List ℕ → List ℕ → List (List ℕ) → Option Line
+line_by_second first second others =
+    if is_word second (codes "accept")
+    then accept_line first others
+    else call_line first second others
+
+-- the first of two readings that there is
+abbrev pub or_else : Option Line → Option Line → Option Line
+or_else None other = other
+or_else (Some line) other = Some line
+
+-- A name may be any word, so a line that isn't of a form by its first word is read as one of a socket. No line is of two forms
+unfoldable pub line_by_words : List (List ℕ) → Option Line
+line_by_words [] = None
+line_by_words (first ∷ []) = None
+line_by_words (first ∷ second ∷ others) = or_else (line_by_first first second others) (line_by_second first second others)
 
 -- what a line says, where it is of a form and each value is in its range
 unfoldable pub read_line : List ℕ → Option Line
@@ -176,6 +257,9 @@ abbrev pub is_raw : Option Line → Bool
 is_raw None = Bool.false
 is_raw (Some Silent) = Bool.false
 is_raw (Some (PairLine pairing)) = Bool.false
+is_raw (Some (HostLine name addr)) = Bool.false
+is_raw (Some (OpenLine opening)) = Bool.false
+is_raw (Some (AcceptLine name now accepted)) = Bool.false
 is_raw (Some (CallLine name event)) = is_arrival event.act
 is_raw (Some (DeliverLine number now)) = Bool.false
 is_raw (Some (RawLine now datagram)) = Bool.true

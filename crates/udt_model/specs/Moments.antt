@@ -1,10 +1,9 @@
 -- When a socket has something to do next.
-use Rattle.std.specs.Prelude.{◌≡◌, ℕ, ◌+◌, ◌<◌, ◌≤◌, min, max, List, [], Option, Some, None, nat_le, if◌then◌else◌}
-use Rattle.udt_model.specs.declared.limits.TheConstants.{LAST_MOMENT}
-use Rattle.udt_model.specs.declared.answers.Packed.{Packed}
-use Rattle.udt_model.specs.declared.answers.Phase.{Phase}
-use Rattle.udt_model.specs.declared.answers.Phase.TheVariants as phase
-use Rattle.udt_model.specs.Events.{Tick, Pack, DidTick, DidPack, Outcome, event, at_moment, answered}
+use Rattle.std.specs.Prelude.{◌≡◌, ℕ, ◌+◌, ◌<◌, ◌≤◌, min, max, [], Option, Some, None, nat_le, if◌then◌else◌}
+use Rattle.udt_model.specs.declared.limits.TheConstants.{LAST_MOMENT, SHAKE_LIMIT}
+use Rattle.udt_model.specs.Phases.{Phase}
+use Rattle.udt_model.specs.Phases as phase
+use Rattle.udt_model.specs.Events.{Tick, Pack, DidTick, event, at_moment, answered}
 use Rattle.udt_model.specs.Rate.{Ways}
 use Rattle.udt_model.specs.SendHalf.{pack_moment}
 use Rattle.udt_model.specs.State.{State}
@@ -54,15 +53,20 @@ not_before_any last None = None
 not_before_any last (Some moment) = not_before last moment
 
 module _ {C : Type 0} (w : Ways C) where
+  -- a handshake again, or the end of waiting
+  abbrev pub shaking_moment : State C → ℕ → ℕ → Option ℕ
+  shaking_moment s began again = not_before s.last (min again (began + SHAKE_LIMIT))
+
   -- one of the three timers, or a packet that can leave
   abbrev pub moment_in : State C → Phase → Option ℕ
   moment_in s phase.Connected =
       sooner
       (sooner (not_before s.last s.receiving.ack_due) (not_before s.last s.receiving.nak_due))
       (sooner (not_before s.last (s.exp_from + exp_interval s)) (not_before_any s.last (pack_moment w s.sending)))
-  moment_in s (phase.Broken why) = None
+  moment_in s (phase.Connecting c again) = shaking_moment s c.caller.began again
+  moment_in s (phase.Meeting m again) = shaking_moment s m.caller.began again
   moment_in s phase.Closing = Some s.last
-  moment_in s phase.Closed = None
+  moment_in s other = None
 
   unfoldable pub next_moment : State C → Option ℕ
   next_moment s = moment_in s s.phase

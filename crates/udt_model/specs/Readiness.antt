@@ -1,7 +1,7 @@
 -- What a socket is ready for.
 use Rattle.std.specs.Prelude.{ℕ, ◌+◌, ◌*◌, ◌==◌, Bool, true, false, not, ◌&&◌, ◌||◌, length, is_some}
-use Rattle.udt_model.specs.declared.answers.Phase.{Phase}
-use Rattle.udt_model.specs.declared.answers.Phase.TheVariants as phase
+use Rattle.udt_model.specs.Phases.{Phase, Backlog, is_closed}
+use Rattle.udt_model.specs.Phases as phase
 use Rattle.udt_model.specs.declared.packets.Kind.{Kind}
 use Rattle.udt_model.specs.declared.packets.Kind.TheVariants as kind
 use Rattle.udt_model.specs.Wire.{bit}
@@ -14,23 +14,24 @@ use Rattle.udt_model.specs.SendBlocks.{free_of}
 -- the socket is connected
 abbrev pub is_connected : Phase → Bool
 is_connected phase.Connected = true
-is_connected (phase.Broken why) = false
-is_connected phase.Closing = false
-is_connected phase.Closed = false
+is_connected other = false
 
 -- its connection was lost
 abbrev pub is_broken : Phase → Bool
-is_broken phase.Connected = false
 is_broken (phase.Broken why) = true
-is_broken phase.Closing = false
-is_broken phase.Closed = false
+is_broken other = false
 
--- it is closed for good
-abbrev pub is_closed : Phase → Bool
-is_closed phase.Connected = false
-is_closed (phase.Broken why) = false
-is_closed phase.Closing = false
-is_closed phase.Closed = true
+-- it was lost, didn't come about, or the socket is closed for good
+abbrev pub is_over : Phase → Bool
+is_over (phase.Broken why) = true
+is_over (phase.Failed why) = true
+is_over phase.Closed = true
+is_over other = false
+
+-- a listener has a connection to be accepted
+abbrev pub has_offered : Phase → Bool
+has_offered (phase.Listening b) = not (length b.offered == 0)
+has_offered other = false
 
 -- a byte of a stream waits, or a message is readable
 abbrev pub has_readable : ReceiveBlocks → Kind → Bool
@@ -46,9 +47,9 @@ module _ {C : Type 0} where
   abbrev pub can_write : State C → Bool
   can_write s = is_connected s.phase && not (free_of s.sending.blocks == 0)
 
-  -- what a socket is ready for, as bits: 1 that bytes or a message can be read, 2 that some can be written, 4 that it is cut off or
-  -- closed, 16 that it is connected, 32 that it is closed
+  -- what a socket is ready for, as bits: 1 that bytes or a message can be read, 2 that some can be written, 4 that it is cut off,
+  -- failed or closed, 8 that a connection can be accepted, 16 that it is connected, 32 that it is closed
   unfoldable pub ready_bits : State C → ℕ
   ready_bits s =
-      bit (can_read s) + 2 * bit (can_write s) + 4 * bit (is_broken s.phase || is_closed s.phase)
+      bit (can_read s) + 2 * bit (can_write s) + 4 * bit (is_over s.phase) + 8 * bit (has_offered s.phase)
       + 16 * bit (is_connected s.phase) + 32 * bit (is_closed s.phase)

@@ -2,9 +2,10 @@
 use Rattle.std.specs.Prelude.{ℕ, List}
 use Rattle.udt_model.specs.declared.addresses.Addr.{Addr}
 use Rattle.udt_model.specs.declared.answers.Peer.{Peer}
-use Rattle.udt_model.specs.declared.answers.Phase.{Phase}
+use Rattle.udt_model.specs.declared.answers.Origin.{Origin}
 use Rattle.udt_model.specs.declared.packets.Kind.{Kind}
 use Rattle.udt_model.specs.declared.sockets.Counters.{Counters}
+use Rattle.udt_model.specs.Phases.{Phase}
 use Rattle.udt_model.specs.ReceiveHalf.{Receiving}
 use Rattle.udt_model.specs.SendHalf.{Sending}
 use Rattle.udt_model.specs.Timing.{RoundTrip}
@@ -13,7 +14,11 @@ use Rattle.udt_model.specs.Timing.{RoundTrip}
 pub record State (C : Type 0) : Type 0 where
   pub own : ℕ
   pub kind : Kind
+  -- the initial sequence number of what it sends
+  pub isn : ℕ
+  -- its peer, which is nobody at first, and how it came by it
   pub peer : Peer
+  pub origin : Origin
   -- the moments at which it was opened and of its last event, in microseconds
   pub opened : ℕ
   pub last : ℕ

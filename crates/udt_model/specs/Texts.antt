@@ -5,16 +5,18 @@ use Rattle.udt_model.specs.declared.answers.Heard.{Heard}
 use Rattle.udt_model.specs.declared.answers.Packed.{Packed}
 use Rattle.udt_model.specs.declared.answers.Perf.{Perf}
 use Rattle.udt_model.specs.declared.answers.Refusal.{Refusal}
+use Rattle.udt_model.specs.declared.answers.Shaken.{Shaken}
 use Rattle.udt_model.specs.declared.packets.Malformed.{Malformed}
 use Rattle.udt_model.specs.declared.answers.Cause.TheVariants as cause
 use Rattle.udt_model.specs.declared.answers.Heard.TheVariants as heard
 use Rattle.udt_model.specs.declared.answers.Packed.TheVariants as packed
 use Rattle.udt_model.specs.declared.answers.Refusal.TheVariants as refusal
+use Rattle.udt_model.specs.declared.answers.Shaken.TheVariants as shaken
 use Rattle.udt_model.specs.declared.packets.Malformed.TheVariants as malformed
 use Rattle.udt_model.specs.Addresses.{address_text}
-use Rattle.udt_model.specs.Events.{Reply, Sent, Received, SentMessage, ReceivedMessage, DidPack, DidTick, DidClose, DidMeasure, DidHear}
+use Rattle.udt_model.specs.Events.{Act, Offer, Reply, DidListen, DidConnect, DidMeet, Accepted, DidShake, DidOffer, DidWithdraw, Sent, Received, SentMessage, ReceivedMessage, DidPack, DidTick, DidClose, DidPortDown, DidMeasure, DidHear}
 use Rattle.udt_model.specs.Words.{hex_word}
-use Rattle.udt_model.specs.Lines.{Pairing}
+use Rattle.udt_model.specs.Lines.{Pairing, OpeningLine}
 use Rattle.udt_model.specs.Network.{ScriptDatagram}
 
 -- ---- what is printed
@@ -125,8 +127,29 @@ others_text p =
 unfoldable pub perf_text : Perf → List ℕ
 perf_text p = codes "perf" ++ path_text p ++ blocks_text p ++ others_text p
 
+-- a call that was done, or refused
+abbrev pub done_text : Result (Unit {0}) Refusal → List ℕ
+done_text (Ok done) = []
+done_text (Err why) = 32 ∷ no_text why
+
+-- what became of a connection
+abbrev pub shaken_text : Shaken → List ℕ
+shaken_text shaken.Idle = codes "idle"
+shaken_text shaken.Waiting = codes "waiting"
+shaken_text shaken.Done = codes "connected"
+shaken_text shaken.TimedOut = codes "refused 1001"
+shaken_text shaken.Rejected = codes "refused 1002"
+shaken_text (shaken.Lost why) = codes "refused 2001 " ++ cause_text why
+
 -- what an event is called, and what it answered
 abbrev pub reply_text : Reply → List ℕ
+reply_text (DidListen answer) = codes "listen" ++ done_text answer
+reply_text (DidConnect answer) = codes "connect" ++ done_text answer
+reply_text (DidMeet answer) = codes "meet" ++ done_text answer
+reply_text (Accepted answer) = codes "accept " ++ sent_text answer
+reply_text (DidShake answer) = codes "shake " ++ shaken_text answer
+reply_text (DidOffer answer) = codes "offer"
+reply_text DidWithdraw = codes "withdraw"
 reply_text (Sent answer) = codes "send " ++ sent_text answer
 reply_text (Received answer) = codes "recv " ++ received_text answer
 reply_text (SentMessage answer) = codes "sendmsg " ++ sent_text answer
@@ -134,8 +157,14 @@ reply_text (ReceivedMessage answer) = codes "recvmsg " ++ received_text answer
 reply_text (DidPack answer) = codes "pack " ++ packed_text answer
 reply_text DidTick = codes "tick"
 reply_text DidClose = codes "close"
+reply_text DidPortDown = codes "port"
 reply_text (DidMeasure answer) = perf_text answer
 reply_text (DidHear answer) = codes "arrive " ++ heard_text answer
+
+-- an offer tells of which socket
+abbrev pub told : Act → Reply → List ℕ
+told (Offer id) reply = codes "offer " ++ decimal id
+told act reply = reply_text reply
 
 -- a datagram and its number
 unfoldable pub datagram_text : ℕ → ScriptDatagram → List ℕ
@@ -149,8 +178,25 @@ datagrams_text number [] = []
 datagrams_text number (datagram ∷ datagrams) = datagram_text number datagram ++ datagrams_text (number + 1) datagrams
 
 -- a call's or an arrival's line
-unfoldable pub event_text : List ℕ → Reply → List ℕ
-event_text name reply = spaced name ++ ended (reply_text reply)
+unfoldable pub event_text : List ℕ → Act → Reply → List ℕ
+event_text name act reply = spaced name ++ ended (told act reply)
+
+-- the line of an accept that gives a connection, with its new name and its ID
+abbrev pub accept_text : List ℕ → List ℕ → ℕ → List ℕ
+accept_text name accepted id = spaced name ++ codes "accept " ++ spaced accepted ++ ended (decimal id)
+
+-- a place at the host is taken: that of the listener, or of an address that is met
+abbrev pub listen_twice_text : List ℕ → List ℕ
+listen_twice_text name = spaced name ++ ended (codes "listen refused 5011")
+
+abbrev pub meet_taken_text : List ℕ → List ℕ
+meet_taken_text name = spaced name ++ ended (codes "meet refused 5007")
+
+abbrev pub host_text : List ℕ → List ℕ
+host_text name = codes "host " ++ ended name
+
+abbrev pub open_text : OpeningLine → ℕ → List ℕ
+open_text o count = codes "open " ++ spaced o.name ++ ended (decimal (count + 1))
 
 abbrev pub pair_text : Pairing → ℕ → List ℕ
 pair_text p count =

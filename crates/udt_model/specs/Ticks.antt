@@ -2,13 +2,13 @@
 use Rattle.std.specs.Prelude.{ℕ, ◌+◌, ◌-◌, ◌*◌, max, Bool, ◌&&◌, ◌||◌, List, [], ◌∷◌, ◌++◌, map, nat_lt, nat_le, if◌then◌else◌}
 use Rattle.std.specs.List.{concat}
 use Rattle.udt_model.specs.declared.limits.TheConstants.{EXP_LEAST_INTERVAL, EXP_MOST_COUNT, EXP_LEAST_SILENT, EXP_MOST_SILENT}
-use Rattle.udt_model.specs.declared.answers.Phase.{Phase}
 use Rattle.udt_model.specs.declared.answers.Cause.TheVariants as cause
-use Rattle.udt_model.specs.declared.answers.Phase.TheVariants as phase
 use Rattle.udt_model.specs.declared.sockets.ExpOutcome.{ExpOutcome}
 use Rattle.udt_model.specs.declared.sockets.ExpOutcome.TheVariants as exp
 use Rattle.udt_model.specs.Losses.{LostRange}
 use Rattle.udt_model.specs.Numbers.{sequence_number}
+use Rattle.udt_model.specs.Phases.{Phase}
+use Rattle.udt_model.specs.Phases as phase
 use Rattle.udt_model.specs.Rate.{Ways}
 use Rattle.udt_model.specs.ReceiveReports.{AckOutcome, IsEarly, IsKnown, EmitsAck, ack_outcome, after_ack_timer, full_ack, nak_report, after_nak_timer}
 use Rattle.udt_model.specs.SendReports.{has_unacknowledged, after_timeout}
@@ -16,7 +16,8 @@ use Rattle.udt_model.specs.State.{State, Emission}
 use Rattle.udt_model.specs.Timing.{period_of}
 use Rattle.udt_model.specs.Events.{DidTick, Outcome, answered}
 use Rattle.udt_model.specs.Calls.{stamp_of, emission}
-use Rattle.udt_model.specs.Wire.{Packet, WireRange, KeepAlive, Ack, Nak, Shutdown}
+use Rattle.udt_model.specs.Connections.{asks_again, meets_again}
+use Rattle.udt_model.specs.Wire.{WireRange, KeepAlive, Ack, Nak, Shutdown}
 
 -- both ends of a range
 abbrev pub ends_of : LostRange → List ℕ
@@ -100,13 +101,14 @@ module _ {C : Type 0} (w : Ways C) where
     reply = DidTick;
     emissions = emitted_by_reports s ++ emitted_by_exp s (exp_outcome s);
   }
-  tick_in s (phase.Broken why) = answered s DidTick
+  tick_in s (phase.Connecting c again) = asks_again s c again
+  tick_in s (phase.Meeting m again) = meets_again s m again
   tick_in s phase.Closing = record {
     after = record s { phase = phase.Closed };
     reply = DidTick;
     emissions = emission s (Shutdown (stamp_of s) s.peer.id) [] ∷ [];
   }
-  tick_in s phase.Closed = answered s DidTick
+  tick_in s other = answered s DidTick
 
   abbrev pub on_tick : State C → Outcome C
   on_tick s = tick_in s s.phase

@@ -57,9 +57,13 @@ type_of word = word / 2 ^ 16 % 2 ^ 15
 abbrev pub word : ℕ → List ℕ
 word number = to_be_bytes w32 number
 
+-- the word that four bytes spell, which has 32 bits
+abbrev pub word_of : List ℕ → ℕ
+word_of bytes = from_be_bytes w32 bytes % 2 ^ 32
+
 -- the number that the four bytes from this place on spell
 abbrev pub word_at : ℕ → List ℕ → ℕ
-word_at place bytes = from_be_bytes w32 (take 4 (drop place bytes))
+word_at place bytes = word_of (take 4 (drop place bytes))
 
 -- the sequence number that they spell, whose first bit is ignored
 abbrev pub number_at : ℕ → List ℕ → ℕ
@@ -195,7 +199,7 @@ ack_of field =
 
 -- the words of these bytes, four by four
 unfoldable pub words_of : List ℕ → List ℕ
-words_of (a ∷ b ∷ c ∷ d ∷ bytes) = from_be_bytes w32 (a ∷ b ∷ c ∷ d ∷ []) ∷ words_of bytes
+words_of (a ∷ b ∷ c ∷ d ∷ bytes) = word_of (a ∷ b ∷ c ∷ d ∷ []) ∷ words_of bytes
 words_of bytes = []
 
 -- this range, and then these, if there are some

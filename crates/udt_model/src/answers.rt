@@ -1,6 +1,6 @@
 // What a socket answers to its events.
 
-use crate::addresses::Addr;
+use crate::addresses::{Addr, Ip};
 use crate::packets::Malformed;
 
 /// The other end of a connection: its address and socket ID, the initial sequence number, the bytes of a
@@ -22,14 +22,44 @@ pub enum Cause {
     PortDown,
 }
 
-/// Where a socket stands: connected to its peer, cut off from it for a cause, closed with the peer
-/// not told yet, or closed.
+/// Why a connection didn't come about: nobody answered in time, or the listener refused.
 #[derive(Clone, Copy, Debug, PartialEq, Eq)]
-pub enum Phase {
-    Connected,
-    Broken(Cause),
-    Closing,
-    Closed,
+pub enum Failure {
+    TimedOut,
+    Rejected,
+}
+
+/// How a socket came by its peer: it has none yet, it was connected from its opening on, a listener
+/// answered it, or it met its peer.
+#[derive(Clone, Copy, Debug, PartialEq, Eq)]
+pub enum Origin {
+    Nobody,
+    Opening,
+    Listener,
+    Rendezvous,
+}
+
+/// The peer of a socket that has none.
+pub const NOBODY: Peer = Peer {
+    addr: Addr {
+        ip: Ip::V4(0),
+        port: 0,
+    },
+    id: 0,
+    isn: 0,
+    payload: 0,
+    flow: 0,
+};
+
+/// What became of a connection that was asked for. `Idle` comes where none was, and after a close.
+#[derive(Clone, Copy, Debug, PartialEq, Eq)]
+pub enum Shaken {
+    Idle,
+    Waiting,
+    Done,
+    TimedOut,
+    Rejected,
+    Lost(Cause),
 }
 
 /// Why a call of a socket did nothing.

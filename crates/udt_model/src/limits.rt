@@ -29,6 +29,9 @@ pub const FEWEST_BLOCKS: u32 = 2;
 /// The most blocks that a socket keeps each way, and the widest flow window.
 pub const MOST_BLOCKS: u32 = 65_536;
 
+/// The most connections that a listener keeps until they are accepted.
+pub const MOST_BACKLOG: u32 = 1024;
+
 // ---- timers, in microseconds
 
 /// SYN, the interval of the ACK timer, and the least unit of the other timers: 10 ms.
@@ -54,6 +57,12 @@ pub const FIRST_RTT_VAR: u64 = 50_000;
 
 /// A greater sample of the round-trip time counts as this one: a minute.
 pub const GREATEST_RTT: u64 = 60_000_000;
+
+/// How often a socket that isn't connected yet repeats its handshake: a quarter of a second.
+pub const SHAKE_INTERVAL: u64 = 250_000;
+
+/// The time after which it gives up: three seconds.
+pub const SHAKE_LIMIT: u64 = 3_000_000;
 
 // ---- acknowledging and measuring, in packets
 
@@ -98,3 +107,6 @@ pub const LONGEST_LINE: u64 = 65_536;
 
 /// How many sockets a script may make.
 pub const MOST_SOCKETS: u64 = 1024;
+
+/// How many lines of a script may make hosts.
+pub const MOST_HOSTS: u64 = 64;

@@ -1,19 +1,17 @@
 -- The numbers of what was read fit their places.
-use Rattle.std.proofs.Common.{◌≡◌, ℕ, ◌+◌, ◌%◌, ◌^◌, ◌<◌, ◌≤◌, Bool, true, false, List, length, drop, get_or, Option, Some, None, Ok, refl, sym, subst, ◌∙◌, arith}
+use Rattle.std.proofs.Common.{◌≡◌, ℕ, ◌+◌, ◌%◌, ◌^◌, ◌<◌, Bool, true, false, List, length, drop, get_or, Option, Some, None, Ok, refl, sym, subst, ◌∙◌, arith}
 use Rattle.std.specs.Prelude.{IfOk, Result, Err, nat_lt, if◌then◌else◌}
 use Rattle.std.proofs.lemmas.Bool.{ltb-false}
-use Rattle.std.proofs.lemmas.List.{length-take, length-drop, get_or-drop, get_or_default}
-use Rattle.std.proofs.Math.Facts.{sfits_to_z}
+use Rattle.std.proofs.lemmas.List.{length-drop, get_or-drop, get_or_default}
 use Rattle.udt_model.specs.declared.packets.AckBody.{AckBody}
 use Rattle.udt_model.specs.declared.packets.AckBody.TheVariants.{Light, Buffer, Full}
 use Rattle.udt_model.specs.declared.packets.Malformed.{Malformed}
 use Rattle.udt_model.specs.declared.packets.Malformed.TheVariants.{BadHandshakeLength, BadDropLength, BadAckLength}
-use Rattle.udt_model.specs.Wire.{Packet, Handshake, KeepAlive, Ack, Nak, Shutdown, Ack2, DropAsk, WireRange, ControlType, HandshakeType, KeepAliveType, AckType, NakType, ShutdownType, Ack2Type, DropAskType, NoType, word_at, number_at, shake_of, ack_of, ranges_of, read, read_losses, read_control, block_of, IsShakeInRange, IsAckInRange, IsInRange}
-use Rattle.udt_model.proofs.WireLemmas.{read_long}
+use Rattle.udt_model.specs.Wire.{Packet, Handshake, KeepAlive, Ack, Nak, Shutdown, Ack2, DropAsk, WireRange, ControlType, HandshakeType, KeepAliveType, AckType, NakType, ShutdownType, Ack2Type, DropAskType, NoType, word_at, number_at, shake_of, ack_of, ranges_of, read, read_losses, read_control, block_of, IsAckInRange, IsInRange}
+use Rattle.udt_model.proofs.WireLemmas.{read_long, word_at-below, shake_of-in_range}
 use Rattle.udt_packet.specs.declared.packet.Packet as code
 use Rattle.udt_packet.specs.Packets.{AreBytes, IsReadInRange, packet_of, reading_of}
 use Rattle.udt_packet.proofs.Refusals.{by_way}
-use Rattle.udt_packet.proofs.Spellings.{word_at-below}
 use Rattle.udt_packet.proofs.RangeWords.{field-in_range}
 
 -- what stands after a header is bytes
@@ -22,19 +20,6 @@ following-bytes bytes are k d lt = rw (get_or-drop 16 bytes k d) (are (16 + k) d
 
 number_at-below : (place : ℕ) (bytes : List ℕ) → number_at place bytes < 2 ^ 31
 number_at-below place bytes = omega arith
-
-shake-in_range : (field : List ℕ) → AreBytes field → 48 ≤ length field → IsShakeInRange (shake_of field)
-shake-in_range field are long = record {
-  version = word_at-below 0 field are;
-  kind = word_at-below 4 field are;
-  isn = number_at-below 8 field;
-  packet = word_at-below 12 field are;
-  flow = word_at-below 16 field are;
-  ask = sfits_to_z (record { fits = word_at-below 20 field are });
-  id = word_at-below 24 field are;
-  cookie = word_at-below 28 field are;
-  address = omega (arith, length-take 16 (drop 32 field), length-drop 32 field);
-}
 
 ack-chosen : (light buffer : Bool) (a b c : AckBody) → IsAckInRange a → IsAckInRange b → IsAckInRange c
     → IsAckInRange (if light then a else (if buffer then b else c))
@@ -45,16 +30,16 @@ ack-chosen false false a b c is_a is_b is_c = is_c
 ack-in_range : (field : List ℕ) → AreBytes field → IsAckInRange (ack_of field)
 ack-in_range field are =
     let ack = number_at-below 0 field in
-    let rtt = word_at-below 4 field are in
-    let var = word_at-below 8 field are in
-    let buffer = word_at-below 12 field are in
+    let rtt = word_at-below 4 field in
+    let var = word_at-below 8 field in
+    let buffer = word_at-below 12 field in
     ack-chosen (nat_lt (length field) 16) (nat_lt (length field) 24)
     (Light (number_at 0 field))
     (Buffer (number_at 0 field) (word_at 4 field) (word_at 8 field) (word_at 12 field))
     (Full (number_at 0 field) (word_at 4 field) (word_at 8 field) (word_at 12 field) (word_at 16 field) (word_at 20 field))
     ack
     (ack, rtt, var, buffer)
-    (ack, rtt, var, buffer, word_at-below 16 field are, word_at-below 20 field are)
+    (ack, rtt, var, buffer, word_at-below 16 field, word_at-below 20 field)
 
 losses-in_range : (stamp dest : ℕ) (field : List ℕ) (ranges : Option (List WireRange)) (packet : Packet) → stamp < 2 ^ 32 → dest < 2 ^ 32
     → ranges ≡ ranges_of field → read_losses stamp dest ranges ≡ Ok packet → IsInRange packet
@@ -69,7 +54,7 @@ module _ (info stamp dest : ℕ) (field : List ℕ) (are : AreBytes field) (info
   unfolding read_control
   control-in_range HandshakeType packet reads =
       let is = read_long (nat_lt (length field) 48) BadHandshakeLength (Handshake stamp dest (shake_of field)) packet reads in
-      subst IsInRange is.1 (shake-in_range field are (ltb-false (length field) 48 is.0), stamp_fits, dest_fits)
+      subst IsInRange is.1 (shake_of-in_range field (ltb-false (length field) 48 is.0), stamp_fits, dest_fits)
   control-in_range AckType packet reads =
       subst IsInRange (read_long (nat_lt (length field) 4) BadAckLength (Ack info stamp dest (ack_of field)) packet reads).1
       (ack-in_range field are, info_fits, stamp_fits, dest_fits)
@@ -86,9 +71,11 @@ module _ (info stamp dest : ℕ) (field : List ℕ) (are : AreBytes field) (info
 pub in_range : (packet : Packet) → IsReadInRange packet
 in_range packet bytes are reads =
     by_way (IsInRange packet) bytes (λ short is. cc)
-    (λ long low is. let same : block_of bytes ≡ packet = cc in subst IsInRange same (low, omega arith, word_at-below 8 bytes are, word_at-below 12 bytes are))
+    (λ long low is.
+    let same : block_of bytes ≡ packet = cc in
+    subst IsInRange same (low, omega arith, word_at-below 8 bytes, word_at-below 12 bytes))
     (λ long high is. control-in_range (word_at 4 bytes) (word_at 8 bytes) (word_at 12 bytes) (drop 16 bytes) (following-bytes bytes are)
-    (word_at-below 4 bytes are) (word_at-below 8 bytes are) (word_at-below 12 bytes are) _ packet (sym is ∙ reads))
+    (word_at-below 4 bytes) (word_at-below 8 bytes) (word_at-below 12 bytes) _ packet (sym is ∙ reads))
 
 -- what the code read
 pub are_bytes : (bytes : List ℕ) → ((k : ℕ) → get_or bytes k 0 < 2 ^ 8) → AreBytes bytes

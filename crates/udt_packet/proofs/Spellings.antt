@@ -5,7 +5,7 @@ use Rattle.std.proofs.lemmas.List.{take-append-drop, length-take, length-drop, g
 use Rattle.std.proofs.lemmas.Nat.{be_bytes_4}
 use Rattle.udt_model.specs.declared.packets.Malformed.TheVariants.{BadHandshakeLength, BadDropLength, BadAckLength}
 use Rattle.udt_model.specs.Wire.{Packet, Handshake, KeepAlive, Ack, Nak, Shutdown, Ack2, DropAsk, WireRange, ControlType, HandshakeType, KeepAliveType, AckType, NakType, ShutdownType, Ack2Type, DropAskType, NoType, flags_word, flags_of, word, word_at, number_at, shake_of, ack_of, ranges_of, spelling, read, read_losses, read_control, block_of}
-use Rattle.udt_model.proofs.WireLemmas.{read_long}
+use Rattle.udt_model.proofs.WireLemmas.{read_long, word-mod, word_at-below}
 use Rattle.udt_packet.proofs.Refusals.{by_way}
 use Rattle.std.specs.Prelude.{Option, None, Some, nat_lt}
 use Rattle.udt_packet.specs.Packets.{AreBytes, IsBlock, HasOneSpelling}
@@ -35,12 +35,9 @@ part_at place bytes are i =
 -- a word that was read spells the four bytes that it was read from
 word_at-spells : (place : ℕ) (bytes : List ℕ) → AreBytes bytes → place + 4 ≤ length bytes → word (word_at place bytes) ≡ take 4 (drop place bytes)
 word_at-spells place bytes are long =
-    be_bytes_4 (take 4 (drop place bytes)) _ (omega (arith, length-take 4 (drop place bytes), length-drop place bytes)) (part_at place bytes are) refl
-
--- and is below 2^32
-pub word_at-below : (place : ℕ) (bytes : List ℕ) → AreBytes bytes → word_at place bytes < 2 ^ 32
-word_at-below place bytes are =
-    omega (arith, part_at place bytes are 0, part_at place bytes are 1, part_at place bytes are 2, part_at place bytes are 3)
+    word-mod _
+    ∙ be_bytes_4 (take 4 (drop place bytes)) _
+    (omega (arith, length-take 4 (drop place bytes), length-drop place bytes)) (part_at place bytes are) refl
 
 -- four bytes from a place on, and all after them
 next_four : (place : ℕ) (bytes : List ℕ) → take 4 (drop place bytes) ++ drop (place + 4) bytes ≡ drop place bytes
@@ -62,7 +59,7 @@ unfolding spelling
 spells bytes are long =
     four_words bytes _ _ _ _
     (word_at-spells 0 bytes are (omega arith))
-    (ap word (word_again (word_at 4 bytes) (word_at-below 4 bytes are)) ∙ word_at-spells 4 bytes are (omega arith))
+    (ap word (word_again (word_at 4 bytes) (word_at-below 4 bytes)) ∙ word_at-spells 4 bytes are (omega arith))
     (word_at-spells 8 bytes are (omega arith))
     (word_at-spells 12 bytes are (omega arith))
 

@@ -27,7 +27,7 @@ impl Model for Seen {
 
 /// A rate control: it is told of ACKs, NAKs and timeouts, and answers the congestion window (how many
 /// packets may be in flight) and the packet sending period (how far apart they leave).
-pub trait Control {
+pub trait Control: Drop {
     /// What it begins with and answers, and what each call leaves, as functions of its value.
     ghost ways: { Ways Self };
 

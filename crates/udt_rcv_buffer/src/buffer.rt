@@ -203,6 +203,13 @@ impl RcvBuffer {
         self.base
     }
 
+    /// How many offsets from the base on there is room for.
+    pub fn capacity(&self) -> u64
+        ensures { result ≡ self.now.capacity }
+    {
+        self.ring.count() as u64
+    }
+
     /// How many offsets from this one on there is room for.
     pub fn free(&self, ack: u64) -> u64
         requires from { self.now.base ≤ ack }

@@ -111,6 +111,13 @@ impl Receiver {
 
     // ---- getters
 
+    /// How many blocks may wait.
+    pub fn capacity(&self) -> u32
+        ensures { result ≡ self.now.blocks.capacity }
+    {
+        self.buffer.capacity() as u32
+    }
+
     /// The initial sequence number of this direction.
     pub fn isn(&self) -> u32
         ensures { result ≡ self.now.isn }

@@ -136,6 +136,14 @@ impl<H: Copy> Ring<H> {
         })
     }
 
+    /// How many bytes a part has room for.
+    pub fn room(&self) -> usize
+        ensures value { result ≡ self.now.room }
+        ensures few { result < 2 ^ 32 }
+    {
+        self.room
+    }
+
     /// How many parts there are.
     pub fn count(&self) -> usize
         ensures value { result ≡ length self.now.list }

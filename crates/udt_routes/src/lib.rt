@@ -27,5 +27,6 @@ pub use errors::{EnrolNo, ListenNo, ListenTwice, MeetNo, MeetTaken, OutOfMemory,
 pub use route_reader::RouteReader;
 pub use route_writer::RouteWriter;
 pub use routes::Routes;
-pub use routing::{Lookup, Routed, Want};
+pub use routing::{Lookup, Want, handshake};
 pub use sharing::share;
+pub use udt_model::Routed;

@@ -3,11 +3,11 @@
 use crate::adoptions::Adoptions;
 use crate::errors::{ListenTwice, MeetTaken, OutOfMemory, Taken};
 use crate::meetings::Meetings;
-use crate::routing::{Routed, Want};
+use crate::routing::Want;
 use crate::sorted::{find, put, take_out};
 use std::alloc::Global;
 use std::marker::Model;
-use udt_model::Addr;
+use udt_model::{Addr, Routed};
 
 /// The sockets of one endpoint by their IDs: what is enrolled under each, which pair of a peer's
 /// address and socket ID it has adopted, which one listens, and which address each one meets.

@@ -4,11 +4,12 @@ ghost use Rattle.std.specs.Prelude.{◌≡◌};
 ghost use Rattle.udt_model.specs.Wire as wire;
 ghost use Rattle.udt_model.specs.Handshakes.{asked};
 ghost use Rattle.udt_routes.specs.Pairs.{adopter_of};
-ghost use Rattle.udt_routes.specs.Routing.{handshake_in, adopter_in};
+ghost use Rattle.udt_model.specs.Routes.{handshake_in};
+ghost use Rattle.udt_routes.specs.Routing.{adopter_in};
 ghost use Rattle.udt_routes.specs.Lookups.{routed_by, named_lookup, type_lookup, unnamed_lookup, Decides};
 
 use crate::adoptions::Adoptions;
-use udt_model::{Addr, Shake};
+use udt_model::{Addr, Routed, Shake};
 use udt_packet::{Packet, read, target};
 
 /// What is looked up in a table: a socket by its ID, the listener, or the socket that meets an address.
@@ -17,21 +18,6 @@ pub enum Want {
     Id(u32),
     Listener,
     Meeting(Addr),
-}
-
-/// Where a datagram goes: to a socket, or nowhere, for one of four reasons.
-#[derive(Clone, Copy, Debug, PartialEq, Eq)]
-pub enum Routed {
-    /// To the socket with this ID.
-    ToSocket(u32),
-    /// It has fewer than 16 bytes.
-    DroppedShort,
-    /// No socket is enrolled under the ID that it names.
-    DroppedId,
-    /// It names no socket, and is no handshake that one waits for.
-    DroppedShake,
-    /// Its sender is adopted by another socket, or by one that isn't enrolled any more.
-    DroppedStale,
 }
 
 /// The one look-up on which it depends where a datagram goes: what is wanted, whether the datagram is stale
@@ -50,7 +36,7 @@ impl Lookup {
     {
         match (found, self.want) {
             (None, _) => self.absent,
-            (Some(_), _) if self.stale => Routed::DroppedStale,
+            (Some(_), _) if self.stale => Routed::Stale,
             (Some(_), Want::Id(id)) => Routed::ToSocket(id),
             (Some(id), _) => Routed::ToSocket(id),
         }
@@ -64,7 +50,7 @@ impl Adoptions {
         ensures { Decides (adopter_of self.now.adopted) from bytes.now result }
     {
         let Some(dest) = target(bytes) else {
-            return Err(Routed::DroppedShort);
+            return Err(Routed::Short);
         };
         let shake = handshake(bytes);
         if dest == 0 {
@@ -94,7 +80,7 @@ impl Adoptions {
         Lookup {
             want: Want::Id(dest),
             stale,
-            absent: Routed::DroppedId,
+            absent: Routed::Id,
         }
     }
 
@@ -103,13 +89,13 @@ impl Adoptions {
         ensures { result ≡ unnamed_lookup (adopter_of self.now.adopted) from shake }
     {
         let Some(shake) = shake else {
-            return Err(Routed::DroppedShake);
+            return Err(Routed::Shake);
         };
         match self.adopted(from, shake.id) {
             Some(own) => Ok(Lookup {
                 want: Want::Id(own),
                 stale: false,
-                absent: Routed::DroppedStale,
+                absent: Routed::Stale,
             }),
             None => by_type(from, shake.ask),
         }
@@ -123,17 +109,17 @@ fn by_type(from: Addr, ask: i32) -> Result<Lookup, Routed>
     let want = match ask {
         0 => Want::Meeting(from),
         1 => Want::Listener,
-        _ => return Err(Routed::DroppedShake),
+        _ => return Err(Routed::Shake),
     };
     Ok(Lookup {
         want,
         stale: false,
-        absent: Routed::DroppedShake,
+        absent: Routed::Shake,
     })
 }
 
-// The handshake that the bytes spell, where they spell one.
-fn handshake(bytes: &[u8]) -> Option<Shake>
+/// The handshake that the bytes spell, where they spell one.
+pub fn handshake(bytes: &[u8]) -> Option<Shake>
     ensures { result ≡ handshake_in (wire.read bytes.now) }
 {
     match read(bytes) {

@@ -210,21 +210,21 @@ fn a_datagram_goes_by_its_destination_or_by_its_handshake(rt: HostRuntime) -> Re
     let alive = 0x8001_0000;
     // the sender, the first word, the destination, the connection type, the sender's ID, and how many bytes are sent
     for (from, first, dest, ask, id, len, routed) in [
-        (peer, shake, 7, 1, 8, 15, Routed::DroppedShort),
+        (peer, shake, 7, 1, 8, 15, Routed::Short),
         (peer, 0, 7, 0, 0, 16, Routed::ToSocket(7)),
-        (peer, 0, 8, 0, 0, 16, Routed::DroppedId),
-        (peer, 0, 0, 0, 0, 16, Routed::DroppedShake),
-        (peer, alive, 0, 0, 0, 64, Routed::DroppedShake),
+        (peer, 0, 8, 0, 0, 16, Routed::Id),
+        (peer, 0, 0, 0, 0, 16, Routed::Shake),
+        (peer, alive, 0, 0, 0, 64, Routed::Shake),
         (peer, shake, 3, -1, 5, 64, Routed::ToSocket(3)),
-        (peer, shake, 7, -1, 5, 64, Routed::DroppedStale),
+        (peer, shake, 7, -1, 5, 64, Routed::Stale),
         (peer, shake, 7, -1, 5, 63, Routed::ToSocket(7)),
         (stranger, shake, 7, -1, 5, 64, Routed::ToSocket(7)),
-        (peer, shake, 4, -1, 6, 64, Routed::DroppedId),
+        (peer, shake, 4, -1, 6, 64, Routed::Id),
         (peer, shake, 0, 1, 5, 64, Routed::ToSocket(3)),
-        (peer, shake, 0, 1, 6, 64, Routed::DroppedStale),
-        (peer, shake, 0, 1, 8, 63, Routed::DroppedShake),
-        (peer, shake, 0, 1, 8, 64, Routed::DroppedShake),
-        (peer, shake, 0, 0, 8, 64, Routed::DroppedShake),
+        (peer, shake, 0, 1, 6, 64, Routed::Stale),
+        (peer, shake, 0, 1, 8, 63, Routed::Shake),
+        (peer, shake, 0, 1, 8, 64, Routed::Shake),
+        (peer, shake, 0, 0, 8, 64, Routed::Shake),
     ] {
         let bytes = datagram(first, dest, ask, id);
         assert_eq!(rt; routes.destination_of(from, &bytes[..len.min(64)]), routed);
@@ -234,9 +234,9 @@ fn a_datagram_goes_by_its_destination_or_by_its_handshake(rt: HostRuntime) -> Re
     for (from, ask, routed) in [
         (peer, 1, Routed::ToSocket(9)),
         (peer, 0, Routed::ToSocket(11)),
-        (stranger, 0, Routed::DroppedShake),
-        (peer, -1, Routed::DroppedShake),
-        (peer, 1002, Routed::DroppedShake),
+        (stranger, 0, Routed::Shake),
+        (peer, -1, Routed::Shake),
+        (peer, 1002, Routed::Shake),
     ] {
         let bytes = datagram(shake, 0, ask, 8);
         assert_eq!(rt; routes.destination_of(from, &bytes), routed);

@@ -4,11 +4,14 @@ ghost use Rattle.std.specs.Prelude.{◌≡◌, ◌++◌, ◌<◌, take, vec_len,
 ghost use Rattle.std.specs.List.{flat_map};
 ghost use Rattle.udt_model.specs.Words as spec;
 ghost use Rattle.udt_model.specs.Words.{hex_pairs, hex_word};
-ghost use Rattle.udt_model.specs.Texts.{spaced, ended, counted, path_text, blocks_text, others_text, perf_text};
+ghost use Rattle.udt_model.specs.Texts.{spaced, ended, done_text, sent_text, received_text};
+ghost use Rattle.udt_model.specs.Texts.{counted, path_text, blocks_text, others_text, perf_text};
+ghost use Rattle.udt_script.specs.CodeAnswers.{read_of};
 
+use crate::texts::no_text;
 use itoa::Buffer;
 use std::alloc::AllocError;
-use udt_model::Perf;
+use udt_model::{Perf, Refusal};
 
 /// Adds the pieces, one after the other.
 pub fn append(out: &mut Vec<u8>, pieces: &[&[u8]]) -> Result<(), AllocError>
@@ -34,6 +37,65 @@ pub fn append_event(
     ensures err { OnErr result (take (vec_len out.old) out.new.items ≡ out.old.items) }
 {
     append(out, &[name, b" ", event, answer, b"\n"])
+}
+
+/// Adds the line of a call that was done, or refused.
+pub fn append_done(
+    out: &mut Vec<u8>,
+    name: &[u8],
+    event: &[u8],
+    answer: &Result<(), Refusal>,
+) -> Result<(), AllocError>
+    ensures ok { OnOk result (out.new.items
+        ≡ out.old.items ++ (spaced name.now ++ ended (event.now ++ done_text answer.now))) }
+    ensures err { OnErr result (take (vec_len out.old) out.new.items ≡ out.old.items) }
+{
+    match answer {
+        Ok(()) => append_event(out, name, event, b""),
+        Err(why) => {
+            append(out, &[name, b" ", event, b" "])?;
+            append(out, &[no_text(*why), b"\n"])
+        }
+    }
+}
+
+/// Adds the line of a call that took bytes, or was refused.
+pub fn append_sent(
+    out: &mut Vec<u8>,
+    name: &[u8],
+    event: &[u8],
+    answer: &Result<usize, Refusal>,
+) -> Result<(), AllocError>
+    ensures ok { OnOk result (out.new.items
+        ≡ out.old.items ++ (spaced name.now ++ ended (event.now ++ sent_text answer.now))) }
+    ensures err { OnErr result (take (vec_len out.old) out.new.items ≡ out.old.items) }
+{
+    let mut buffer = Buffer::new();
+    match answer {
+        Ok(count) => append_event(out, name, event, buffer.format(*count).as_bytes()),
+        Err(why) => append_event(out, name, event, no_text(*why)),
+    }
+}
+
+/// Adds the line of a call that gave bytes, or was refused.
+pub fn append_received(
+    out: &mut Vec<u8>,
+    name: &[u8],
+    event: &[u8],
+    answer: &Result<Vec<u8>, Refusal>,
+) -> Result<(), AllocError>
+    ensures ok { OnOk result (out.new.items
+        ≡ out.old.items ++ (spaced name.now ++ ended (event.now ++ received_text (read_of answer.now)))) }
+    ensures err { OnErr result (take (vec_len out.old) out.new.items ≡ out.old.items) }
+{
+    match answer {
+        Ok(bytes) => {
+            append(out, &[name, b" ", event])?;
+            append_hex(out, bytes)?;
+            append(out, &[b"\n"])
+        }
+        Err(why) => append_event(out, name, event, no_text(*why)),
+    }
 }
 
 // Adds a space, a word, and a number after it.

@@ -10,6 +10,9 @@ mod tests;
 mod texts;
 mod words;
 
-pub use lines::{Call, Line, Pairing, Reply, ScriptDatagram};
-pub use printed::{print_datagram, print_dropped, print_pair, print_refused, print_reply};
+pub use lines::{Call, Line, Opening, Pairing, Reply, ScriptDatagram};
+pub use printed::{
+    print_accept, print_datagram, print_dropped, print_host, print_listen_twice, print_meet_taken,
+    print_open, print_pair, print_refused, print_reply,
+};
 pub use reading::read_line;

@@ -3,53 +3,45 @@
 ghost use Rattle.std.specs.Prelude.{◌≡◌, ◌+◌, ◌++◌, ◌<◌, ◌^◌, take, vec_len, codes, OnOk, OnErr};
 ghost use Rattle.udt_model.specs.Addresses.{address_text};
 ghost use Rattle.udt_model.specs.Script.{refused_at};
-ghost use Rattle.udt_model.specs.Texts.{event_text, datagram_text, pair_text, ended};
-ghost use Rattle.udt_script.specs.CodeAnswers.{reply_of};
-ghost use Rattle.udt_script.specs.CodeLines.{pairing_of, datagram_of};
+ghost use Rattle.udt_model.specs.Texts.{spaced, ended, datagram_text, pair_text, host_text, open_text};
+ghost use Rattle.udt_model.specs.Texts.{accept_text, listen_twice_text, meet_taken_text};
+ghost use Rattle.udt_script.specs.CodeAnswers.{text_of};
+ghost use Rattle.udt_script.specs.CodeLines.{pairing_of, opening_of, datagram_of};
 
-use crate::append::{append, append_event, append_hex, append_perf};
-use crate::lines::{Pairing, Reply, ScriptDatagram};
-use crate::texts::{heard_text, no_text};
+use crate::append::{
+    append, append_done, append_event, append_hex, append_perf, append_received, append_sent,
+};
+use crate::lines::{Opening, Pairing, Reply, ScriptDatagram};
+use crate::texts::{heard_text, no_text, shaken_text};
 use itoa::Buffer;
 use std::alloc::AllocError;
 use udt_model::{Addr, Packed};
 use udt_outside::write_addr;
 
 /// What the socket with this name answered to an event.
-#[tactic(auto, unfolding(udt_model::specs::Texts::event_text))]
 pub fn print_reply(out: &mut Vec<u8>, name: &[u8], reply: &Reply) -> Result<(), AllocError>
     ensures ok { OnOk result
-        (out.new.items ≡ out.old.items ++ event_text name.now (reply_of reply.now)) }
+        (out.new.items ≡ out.old.items ++ (spaced name.now ++ ended (text_of reply.now))) }
     ensures err { OnErr result (take (vec_len out.old) out.new.items ≡ out.old.items) }
 {
     let mut buffer = Buffer::new();
     match reply {
-        Reply::Sent(Ok(count)) => append_event(
-            out,
-            name,
-            b"send ",
-            buffer.format(*count).as_bytes(),
-        ),
-        Reply::Sent(Err(why)) => append_event(out, name, b"send ", no_text(*why)),
-        Reply::Received(Ok(bytes)) => {
-            append(out, &[name, b" recv "])?;
-            append_hex(out, bytes)?;
-            append(out, &[b"\n"])
+        Reply::Listened(answer) => append_done(out, name, b"listen", answer),
+        Reply::Connected(answer) => append_done(out, name, b"connect", answer),
+        Reply::Met(answer) => append_done(out, name, b"meet", answer),
+        Reply::Accepted(Ok(id)) => {
+            append_event(out, name, b"accept ", buffer.format(*id).as_bytes())
         }
-        Reply::Received(Err(why)) => append_event(out, name, b"recv ", no_text(*why)),
-        Reply::SentMessage(Ok(count)) => append_event(
-            out,
-            name,
-            b"sendmsg ",
-            buffer.format(*count).as_bytes(),
-        ),
-        Reply::SentMessage(Err(why)) => append_event(out, name, b"sendmsg ", no_text(*why)),
-        Reply::ReceivedMessage(Ok(bytes)) => {
-            append(out, &[name, b" recvmsg "])?;
-            append_hex(out, bytes)?;
-            append(out, &[b"\n"])
+        Reply::Accepted(Err(why)) => append_event(out, name, b"accept ", no_text(*why)),
+        Reply::Shaken(shaken) => append_event(out, name, b"shake ", shaken_text(*shaken)),
+        Reply::Offered { id, taken: _ } => {
+            append_event(out, name, b"offer ", buffer.format(*id).as_bytes())
         }
-        Reply::ReceivedMessage(Err(why)) => append_event(out, name, b"recvmsg ", no_text(*why)),
+        Reply::Withdrawn => append_event(out, name, b"withdraw", b""),
+        Reply::Sent(answer) => append_sent(out, name, b"send ", answer),
+        Reply::Received(answer) => append_received(out, name, b"recv ", answer),
+        Reply::SentMessage(answer) => append_sent(out, name, b"sendmsg ", answer),
+        Reply::ReceivedMessage(answer) => append_received(out, name, b"recvmsg ", answer),
         Reply::Packed(Packed::Block(_)) => append_event(out, name, b"pack ", b"data"),
         Reply::Packed(Packed::DropAsk(_)) => append_event(out, name, b"pack ", b"drop"),
         Reply::Packed(Packed::NotYet(until)) => {
@@ -65,6 +57,48 @@ pub fn print_reply(out: &mut Vec<u8>, name: &[u8], reply: &Reply) -> Result<(), 
         }
         Reply::Heard(heard) => append_event(out, name, b"arrive ", heard_text(*heard)),
     }
+}
+
+/// A connection that the socket with this name accepted: its new name and its ID.
+pub fn print_accept(
+    out: &mut Vec<u8>,
+    name: &[u8],
+    accepted: &[u8],
+    id: u32,
+) -> Result<(), AllocError>
+    ensures ok { OnOk result
+        (out.new.items ≡ out.old.items ++ accept_text name.now accepted.now id) }
+    ensures err { OnErr result (take (vec_len out.old) out.new.items ≡ out.old.items) }
+{
+    let mut buffer = Buffer::new();
+    append(
+        out,
+        &[
+            name,
+            b" accept ",
+            accepted,
+            b" ",
+            buffer.format(id).as_bytes(),
+            b"\n",
+        ],
+    )
+}
+
+/// The refusal of a listen at a host where a socket listens.
+pub fn print_listen_twice(out: &mut Vec<u8>, name: &[u8]) -> Result<(), AllocError>
+    ensures ok { OnOk result (out.new.items ≡ out.old.items ++ listen_twice_text name.now) }
+    ensures err { OnErr result (take (vec_len out.old) out.new.items ≡ out.old.items) }
+{
+    append_event(out, name, b"listen ", b"refused 5011")
+}
+
+/// The refusal of a rendezvous where a socket of the host meets the address, or the socket meets
+/// one.
+pub fn print_meet_taken(out: &mut Vec<u8>, name: &[u8]) -> Result<(), AllocError>
+    ensures ok { OnOk result (out.new.items ≡ out.old.items ++ meet_taken_text name.now) }
+    ensures err { OnErr result (take (vec_len out.old) out.new.items ≡ out.old.items) }
+{
+    append_event(out, name, b"meet ", b"refused 5007")
 }
 
 fn addr_text<'a>(addr: Addr, room: &'a mut [u8; 47]) -> &'a [u8]
@@ -113,6 +147,26 @@ pub fn print_pair(out: &mut Vec<u8>, pairing: &Pairing, count: usize) -> Result<
             b"pair ", pairing.a, b" ", first, b" ", pairing.b, b" ", second, b"\n",
         ],
     )
+}
+
+/// A new host.
+pub fn print_host(out: &mut Vec<u8>, name: &[u8]) -> Result<(), AllocError>
+    ensures ok { OnOk result (out.new.items ≡ out.old.items ++ host_text name.now) }
+    ensures err { OnErr result (take (vec_len out.old) out.new.items ≡ out.old.items) }
+{
+    append(out, &[b"host ", name, b"\n"])
+}
+
+/// A new socket and its ID, where there were `count` sockets before.
+pub fn print_open(out: &mut Vec<u8>, opening: &Opening, count: usize) -> Result<(), AllocError>
+    requires { count + 1 < 2 ^ 64 }
+    ensures ok { OnOk result
+        (out.new.items ≡ out.old.items ++ open_text (opening_of opening.now) count) }
+    ensures err { OnErr result (take (vec_len out.old) out.new.items ≡ out.old.items) }
+{
+    let mut buffer = Buffer::new();
+    let id = buffer.format(count + 1).as_bytes();
+    append(out, &[b"open ", opening.name, b" ", id, b"\n"])
 }
 
 /// A datagram that came to no socket, and the word for why.

@@ -4,7 +4,7 @@ ghost use Rattle.std.specs.Prelude.{◌≡◌, ◌≤◌, map, option_map, IfOk,
 ghost use Rattle.udt_model.specs.Lines as spec;
 ghost use Rattle.udt_script.specs.CodeLines.{act_of, line_of, IsRoomy, IsInRange};
 
-use crate::lines::{Call, Line, Pairing, ScriptDatagram};
+use crate::lines::{Call, Line, Opening, Pairing, ScriptDatagram};
 use crate::words::{bytes, name, words};
 use std::alloc::{AllocError, Global};
 use udt_model::{FEWEST_BLOCKS, Kind, LAST_MOMENT, LAST_START, MOST_BLOCKS, MOST_PAYLOAD};
@@ -86,6 +86,45 @@ fn pair_line<'a>(kind: &[u8], words: &[&'a [u8]]) -> Option<Line<'a>>
     }
 }
 
+#[tactic(auto, unfolding(udt_model::specs::Lines::host_line))]
+fn host_line<'a>(host: &'a [u8], words: &[&'a [u8]]) -> Option<Line<'a>>
+    ensures value { option_map line_of result
+        ≡ spec.host_line host.now (map (λ word. word.now) words.now) }
+    ensures within { IfSome result IsInRange }
+{
+    let [addr] = words else {
+        return None;
+    };
+    let name = name(host)?;
+    let addr = read_addr(addr)?;
+    Some(Line::Host { name, addr })
+}
+
+#[tactic(auto, unfolding(udt_model::specs::Lines::open_line))]
+fn open_line<'a>(carries: &[u8], words: &[&'a [u8]]) -> Option<Line<'a>>
+    ensures value { option_map line_of result
+        ≡ spec.open_line carries.now (map (λ word. word.now) words.now) }
+    ensures within { IfSome result IsInRange }
+{
+    let [own, host, payload, isn, blocks] = words else {
+        return None;
+    };
+    let kind = kind(carries)?;
+    let own = name(own)?;
+    let host = name(host)?;
+    let payload = read_number(1, MOST_PAYLOAD as u64, payload)? as u32;
+    let isn = read_number(0, (1 << 31) - 1, isn)? as u32;
+    let blocks = read_number(FEWEST_BLOCKS as u64, MOST_BLOCKS as u64, blocks)? as u32;
+    Some(Line::Open(Opening {
+        kind,
+        name: own,
+        host,
+        payload,
+        isn,
+        blocks,
+    }))
+}
+
 // The call, where no word stands after its moment.
 fn alone(call: Call, words: &[&[u8]]) -> Option<Call>
     ensures value { option_map act_of result
@@ -93,6 +132,37 @@ fn alone(call: Call, words: &[&[u8]]) -> Option<Call>
     ensures same { IfSome result (λ found. found ≡ call) }
 {
     if words.is_empty() { Some(call) } else { None }
+}
+
+fn listen_of(words: &[&[u8]]) -> Option<Call>
+    ensures value { option_map act_of result ≡ spec.listen_of (map (λ word. word.now) words.now) }
+    ensures within { IfSome result IsRoomy }
+{
+    let [most] = words else {
+        return None;
+    };
+    let most = read_number(0, u32::MAX as u64, most)? as u32;
+    Some(Call::Listen(most))
+}
+
+fn connect_of(words: &[&[u8]]) -> Option<Call>
+    ensures value { option_map act_of result ≡ spec.connect_of (map (λ word. word.now) words.now) }
+    ensures within { IfSome result IsRoomy }
+{
+    let [to] = words else {
+        return None;
+    };
+    Some(Call::Connect(read_addr(to)?))
+}
+
+fn meet_of(words: &[&[u8]]) -> Option<Call>
+    ensures value { option_map act_of result ≡ spec.meet_of (map (λ word. word.now) words.now) }
+    ensures within { IfSome result IsRoomy }
+{
+    let [to] = words else {
+        return None;
+    };
+    Some(Call::Meet(read_addr(to)?))
 }
 
 fn send_of(alloc: Global, words: &[&[u8]]) -> Result<Option<Call>, AllocError>
@@ -175,27 +245,33 @@ fn call_of(alloc: Global, name: &[u8], words: &[&[u8]]) -> Result<Option<Call>, 
         ≡ spec.call_of name.now (map (λ word. word.now) words.now)) }
     ensures within { IfOk result (λ found. IfSome found IsRoomy) }
 {
-    if name == b"send".as_slice() {
-        return send_of(alloc, words);
-    }
-    if name == b"sendmsg".as_slice() {
-        return sendmsg_of(alloc, words);
-    }
-    Ok(if name == b"recv".as_slice() {
-        recv_of(words)
+    if name == b"listen".as_slice() {
+        Ok(listen_of(words))
+    } else if name == b"connect".as_slice() {
+        Ok(connect_of(words))
+    } else if name == b"meet".as_slice() {
+        Ok(meet_of(words))
+    } else if name == b"shake".as_slice() {
+        Ok(alone(Call::Shake, words))
+    } else if name == b"send".as_slice() {
+        send_of(alloc, words)
+    } else if name == b"recv".as_slice() {
+        Ok(recv_of(words))
+    } else if name == b"sendmsg".as_slice() {
+        sendmsg_of(alloc, words)
     } else if name == b"recvmsg".as_slice() {
-        recvmsg_of(words)
+        Ok(recvmsg_of(words))
     } else if name == b"pack".as_slice() {
-        alone(Call::Pack, words)
+        Ok(alone(Call::Pack, words))
     } else if name == b"tick".as_slice() {
-        alone(Call::Tick, words)
+        Ok(alone(Call::Tick, words))
     } else if name == b"close".as_slice() {
-        alone(Call::Close, words)
+        Ok(alone(Call::Close, words))
     } else if name == b"perf".as_slice() {
-        alone(Call::Perf, words)
+        Ok(alone(Call::Perf, words))
     } else {
-        None
-    })
+        Ok(None)
+    }
 }
 
 #[tactic(auto, unfolding(udt_model::specs::Lines::call_line))]
@@ -222,6 +298,25 @@ fn call_line<'a>(
         return Ok(None);
     };
     Ok(Some(Line::Call { name, now, call }))
+}
+
+#[tactic(auto, unfolding(udt_model::specs::Lines::accept_line))]
+fn accept_line<'a>(first: &'a [u8], words: &[&'a [u8]]) -> Option<Line<'a>>
+    ensures value { option_map line_of result
+        ≡ spec.accept_line first.now (map (λ word. word.now) words.now) }
+    ensures within { IfSome result IsInRange }
+{
+    let [now, accepted] = words else {
+        return None;
+    };
+    let own = name(first)?;
+    let now = moment(now)?;
+    let accepted = name(accepted)?;
+    Some(Line::Accept {
+        name: own,
+        now,
+        accepted,
+    })
 }
 
 #[tactic(auto, unfolding(udt_model::specs::Lines::deliver_line))]
@@ -267,21 +362,51 @@ fn raw_line<'a>(
     Ok(Some(Line::Raw { now, datagram }))
 }
 
-fn is_call(word: &[u8]) -> bool
-    ensures { result ≡ spec.is_call word.now }
+// The line of a call of the socket that the first word names, by the second word.
+fn line_by_second<'a>(
+    alloc: Global,
+    first: &'a [u8],
+    second: &[u8],
+    others: &[&'a [u8]],
+) -> Result<Option<Line<'a>>, AllocError>
+    ensures value { IfOk result (λ found. option_map line_of found
+        ≡ spec.line_by_second first.now second.now (map (λ word. word.now) others.now)) }
+    ensures within { IfOk result (λ found. IfSome found IsInRange) }
 {
-    word == b"send".as_slice()
-        || word == b"recv".as_slice()
-        || word == b"sendmsg".as_slice()
-        || word == b"recvmsg".as_slice()
-        || word == b"pack".as_slice()
-        || word == b"tick".as_slice()
-        || word == b"close".as_slice()
-        || word == b"perf".as_slice()
+    if second == b"accept".as_slice() {
+        return Ok(accept_line(first, others));
+    }
+    call_line(alloc, first, second, others)
 }
 
-// The second word tells the calls of a socket, since a name may be any word; the first one the
-// other lines.
+// A line that is no call, by its first word.
+fn line_by_first<'a>(
+    alloc: Global,
+    first: &[u8],
+    second: &'a [u8],
+    others: &[&'a [u8]],
+) -> Result<Option<Line<'a>>, AllocError>
+    ensures value { IfOk result (λ found. option_map line_of found
+        ≡ spec.line_by_first first.now second.now (map (λ word. word.now) others.now)) }
+    ensures within { IfOk result (λ found. IfSome found IsInRange) }
+{
+    if first == b"deliver".as_slice() {
+        Ok(deliver_line(second, others))
+    } else if first == b"raw".as_slice() {
+        raw_line(alloc, second, others)
+    } else if first == b"pair".as_slice() {
+        Ok(pair_line(second, others))
+    } else if first == b"open".as_slice() {
+        Ok(open_line(second, others))
+    } else if first == b"host".as_slice() {
+        Ok(host_line(second, others))
+    } else {
+        Ok(None)
+    }
+}
+
+// A name may be any word, so a line that isn't of a form by its first word is read as a call. No line is of
+// two forms.
 #[tactic(auto, unfolding(udt_model::specs::Lines::line_by_words))]
 fn line_by_words<'a>(alloc: Global, words: &[&'a [u8]]) -> Result<Option<Line<'a>>, AllocError>
     ensures value { IfOk result (λ found. option_map line_of found
@@ -291,18 +416,10 @@ fn line_by_words<'a>(alloc: Global, words: &[&'a [u8]]) -> Result<Option<Line<'a
     let [first, second, others @ ..] = words else {
         return Ok(None);
     };
-    if is_call(second) {
-        return call_line(alloc, first, second, others);
+    if let Some(line) = line_by_first(alloc, first, second, others)? {
+        return Ok(Some(line));
     }
-    Ok(if *first == b"deliver".as_slice() {
-        deliver_line(second, others)
-    } else if *first == b"raw".as_slice() {
-        raw_line(alloc, second, others)?
-    } else if *first == b"pair".as_slice() {
-        pair_line(second, others)
-    } else {
-        None
-    })
+    line_by_second(alloc, first, second, others)
 }
 
 /// What the line says, where it is of a form and each value is in its range.

@@ -3,7 +3,7 @@
 ghost use Rattle.std.specs.Prelude.{◌≡◌};
 ghost use Rattle.udt_model.specs.Texts as spec;
 
-use udt_model::{Cause, Heard, Malformed, Refusal};
+use udt_model::{Cause, Heard, Malformed, Refusal, Shaken};
 
 /// A call that may be tried again, or one that is refused with a number.
 pub fn no_text(why: Refusal) -> &'static [u8]
@@ -24,6 +24,22 @@ pub fn no_text(why: Refusal) -> &'static [u8]
         Refusal::AgainSend | Refusal::AgainRecv => b"again",
         Refusal::Spent => b"refused 9001",
         Refusal::EventsSpent => b"refused 9003",
+    }
+}
+
+/// What became of a connection.
+pub fn shaken_text(shaken: Shaken) -> &'static [u8]
+    ensures { result.now ≡ spec.shaken_text shaken }
+{
+    match shaken {
+        Shaken::Idle => b"idle",
+        Shaken::Waiting => b"waiting",
+        Shaken::Done => b"connected",
+        Shaken::TimedOut => b"refused 1001",
+        Shaken::Rejected => b"refused 1002",
+        Shaken::Lost(Cause::PeerShutdown) => b"refused 2001 shutdown",
+        Shaken::Lost(Cause::Expired) => b"refused 2001 expired",
+        Shaken::Lost(Cause::PortDown) => b"refused 2001 port",
     }
 }
 

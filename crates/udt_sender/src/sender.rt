@@ -168,6 +168,22 @@ impl<C: Control> Sender<C> {
         self.buffer.free()
     }
 
+    /// How many blocks may be kept at all.
+    pub fn blocks(&self) -> u32
+        ensures { result ≡ self.now.blocks.blocks }
+    {
+        self.buffer.blocks() as u32
+    }
+
+    /// The most bytes of a block, whatever is agreed on.
+    pub fn room(&self) -> u32
+        ensures value { result ≡ self.now.blocks.room }
+        ensures some { 0 < result }
+        ensures most { result ≤ MOST_PAYLOAD }
+    {
+        self.buffer.room() as u32
+    }
+
     /// The congestion window in packets.
     pub fn window(&self) -> u32
         ensures value { result ≡ half.window_in C.ways self.now.control }

@@ -202,6 +202,14 @@ impl SndBuffer {
         self.ring.count() as u64
     }
 
+    /// How many bytes a block has room for.
+    pub fn room(&self) -> usize
+        ensures value { result ≡ self.now.room }
+        ensures few { result < 2 ^ 32 }
+    {
+        self.ring.room()
+    }
+
     /// How many blocks this many bytes fill.
     pub fn blocks_for(&self, len: usize) -> u64
         ensures { result ≡ count_for len self.now.payload }

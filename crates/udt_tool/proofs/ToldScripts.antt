@@ -1,5 +1,5 @@
 -- What a script plays tells it.
-use Rattle.std.proofs.Common.{◌≡◌, ◌∙◌, ℕ, ◌+◌, ◌≤◌, List, [], ◌∷◌, ◌++◌, length, map, take, refl, sym, ap, subst, arith, true, false, Bool, Option, Some, None, append_assoc, append-nil}
+use Rattle.std.proofs.Common.{◌≡◌, ◌∙◌, ℕ, ◌+◌, ◌^◌, ◌≤◌, ◌<◌, List, [], ◌∷◌, ◌++◌, length, map, take, refl, sym, ap, subst, arith, true, false, Bool, Option, Some, None, append_assoc, append-nil}
 use Rattle.std.specs.Prelude.{nat_le, not, ◌==◌, if◌then◌else◌}
 use Rattle.std.specs.List.{flat_map, prefix_len}
 use Rattle.std.proofs.lemmas.List.{length-append, length-take}
@@ -12,7 +12,6 @@ use Rattle.udt_model.specs.Rate.{Ways, native}
 use Rattle.udt_model.specs.Script.{Played, pieces_of, line_in, played, played_with, played_from, then_played, refused_at, piece_printed, printed_after, size_of}
 use Rattle.udt_world.specs.Transcripts.{Entry, entry_text, lines_in}
 use Rattle.udt_world.proofs.TranscriptLemmas.{Transcript, More, no_transcript, one-told, in-step}
-use Rattle.udt_world.proofs.WorldLemmas.{few_lines}
 use Rattle.udt_tool.specs.Commands.{replayed, replays, done_of, outcome_of, is_replaying, is_replay, is_early, Streams, Runs, HasStatus, HasText}
 use Rattle.udt_words.specs.declared.order.Order.{Order}
 use Rattle.udt_words.specs.declared.order.Order.TheVariants as order
@@ -119,7 +118,9 @@ module _ {C : Type 0} (w : Ways C) where
         lines_are = t.lines_are;
         text = rw number at t.text;
         whole = t.whole;
-        in_step = λ emitted. in-step w (lines_in t.entries) t.entries (few_lines (lines_in t.entries) t.bound) emitted t.transcript.told;
+        in_step = λ emitted.
+            let few : size_of (lines_in t.entries) < 2 ^ 30 = omega (arith, t.bound) in
+            in-step w (lines_in t.entries) t.entries few emitted t.transcript.told;
       }
 
 -- whatever the control

@@ -1,5 +1,8 @@
 // Scripts and what they print, over inputs and outputs in memory.
 
+mod connections;
+mod many;
+
 use crate::{DONE, NO_COMMAND, REFUSED, SINK_FAILED, SOURCE_FAILED, run_plain};
 use std::alloc::{AllocError, Global};
 use std::process::Abort;

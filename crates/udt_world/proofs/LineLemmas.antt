@@ -20,7 +20,8 @@ module _ {C : Type 0} (w : Ways C) where
   one_more n (first ∷ lines) line = one_more (left_by n (played_line w n first)) lines line
 
   -- the line was played, and this is what it printed
-  fitted : (fits : Bool) (planned : Option (Printed C)) (text : List ℕ) → (if fits then option_map (λ (p : Printed C). p.text) planned else None) ≡ Some text
+  fitted : (fits : Bool) (planned : Option (Printed C)) (text : List ℕ)
+      → (if fits then option_map (λ (p : Printed C). p.text) planned else None) ≡ Some text
       → (p : Printed C) × (planned ≡ Some p) × (p.text ≡ text)
   fitted true None text is = absurd (cc)
   fitted true (Some p) text is = (p, refl, same_Some _ _ is)

@@ -1,5 +1,5 @@
 -- Where the socket of a name stands, among more sockets and after one was replaced.
-use Rattle.std.proofs.Common.{◌≡◌, ℕ, zero, suc, ◌+◌, ◌<◌, Bool, true, false, not, cond, List, [], ◌∷◌, ◌++◌, length, map, Some, None, Option, refl, ap, ◌∙◌, sym, arith, option_map}
+use Rattle.std.proofs.Common.{◌≡◌, ℕ, zero, suc, ◌+◌, ◌<◌, Bool, true, false, not, cond, List, [], ◌∷◌, ◌++◌, length, map, Some, None, Option, refl, ap, ◌∙◌, sym, subst, arith, option_map}
 use Rattle.std.specs.Prelude.{slice_get, slice_set, position, nat_lt}
 use Rattle.std.specs.List.{prefix_len}
 use Rattle.std.proofs.lemmas.Bool.Decides.{Decides-ltb}
@@ -45,7 +45,7 @@ some_of : {A B : Type 0} (f : A → B) (o : Option A) (y : B) → option_map f o
 some_of f None y is = absurd (cc)
 some_of f (Some x) y is = (x, refl, cc)
 
-none_of : {A B : Type 0} (f : A → B) (o : Option A) → option_map f o ≡ None → o ≡ None
+pub none_of : {A B : Type 0} (f : A → B) (o : Option A) → option_map f o ≡ None → o ≡ None
 none_of f None is = refl
 none_of f (Some x) is = absurd (cc)
 
@@ -79,6 +79,41 @@ position-others p (x ∷ xs) ys none =
           ])
     ] (sym (position-cons p x xs) ∙ none))
 
+-- at what is found there is something
+pub position-there : {A : Type 0} (p : A → Bool) (xs : List A) (k : ℕ) → position p xs ≡ Some k → (x : A) × (slice_get xs k ≡ Some x)
+position-there p [] k is = absurd (cc)
+position-there {A} p (x ∷ xs) k is =
+    elim (p x) as (λ b. cond b (Some 0) (option_map suc (position p xs)) ≡ Some k → (y : A) × (slice_get (x ∷ xs) k ≡ Some y)) [
+      | true ↦ λ e. (x, subst (λ (j : ℕ). slice_get (x ∷ xs) j ≡ Some x) (same_Some 0 k e) refl)
+      | false ↦ λ e.
+          let rest = some_of suc (position p xs) k e in
+          let there = position-there p xs rest.0 rest.1 in
+          (there.0, subst (λ (j : ℕ). slice_get (x ∷ xs) j ≡ Some there.0) rest.2 there.1)
+    ] (sym (position-cons p x xs) ∙ is)
+
+-- what isn't so before and after is found nowhere else
+pub position-apart : {A : Type 0} (p : A → Bool) (xs : List A) (k : ℕ) (old new : A) → slice_get xs k ≡ Some old → p old ≡ false → p new ≡ false
+    → position p (slice_set xs k new) ≡ position p xs
+position-apart p [] k old new at not_old not_new = absurd (cc)
+position-apart p (x ∷ xs) zero old new at not_old not_new =
+    let same : p x ≡ false = ap p (same_Some x old at) ∙ not_old in
+    position-cons p new xs ∙ (rw (not_new, same) refl ∙ sym (position-cons p x xs))
+position-apart p (x ∷ xs) (suc k) old new at not_old not_new =
+    position-cons p x (slice_set xs k new) ∙ (rw (position-apart p xs k old new at not_old not_new) refl ∙ sym (position-cons p x xs))
+
+-- and what becomes so where nothing was stands there
+pub position-here : {A : Type 0} (p : A → Bool) (xs : List A) (k : ℕ) (old new : A) → slice_get xs k ≡ Some old → position p xs ≡ None → p new ≡ true
+    → position p (slice_set xs k new) ≡ Some k
+position-here p [] k old new at free is = absurd (cc)
+position-here p (x ∷ xs) zero old new at free is = position-cons p new xs ∙ rw is refl
+position-here p (x ∷ xs) (suc k) old new at free is =
+    position-cons p x (slice_set xs k new)
+    ∙ (elim (p x) as (λ b. cond b (Some 0) (option_map suc (position p xs)) ≡ None
+    → cond b (Some 0) (option_map suc (position p (slice_set xs k new))) ≡ Some (suc k)) [
+      | true ↦ λ e. absurd (cc)
+      | false ↦ λ e. ap (option_map suc) (position-here p xs k old new at (none_of suc (position p xs) e) is)
+    ] (sym (position-cons p x xs) ∙ free))
+
 -- ---- names
 
 pub same_word : (word text : List ℕ) → is_word word text ≡ true → word ≡ text
@@ -101,6 +136,11 @@ module _ {C : Type 0} where
       let here = get_or_from_slice_get sockets k socket socket at in
       let test = (position-Some (λ (s : ScriptSocket C). is_word s.name name) sockets k socket found).1 in
       same_word socket.name name (rw here at test)
+
+  pub found_there : (name : List ℕ) (sockets : List (ScriptSocket C)) (k : ℕ) → place_of name sockets ≡ Some k
+      → (socket : ScriptSocket C) × (slice_get sockets k ≡ Some socket)
+  unfolding place_of
+  found_there name sockets k is = position-there (λ (s : ScriptSocket C). is_word s.name name) sockets k is
 
   abbrev pub name_of : ScriptSocket C → List ℕ
   name_of socket = socket.name

@@ -2,12 +2,23 @@
 use Rattle.std.specs.Prelude.{◌≡◌, ℕ, ◌+◌, List, Option, Some, None, slice_get}
 use Rattle.udt_model.specs.Lines.{AreEmitted}
 use Rattle.udt_model.specs.Rate.{Ways}
-use Rattle.udt_model.specs.Records.{own_peer}
+use Rattle.udt_model.specs.Records.{PeerPair, own_peer}
 use Rattle.udt_model.specs.Script.{network_after}
 use Rattle.udt_model.specs.Network.{ScriptSocket}
-use Rattle.udt_laws.specs.Laws.{IsStream, CarriesMessages, AreInStep, ShowsMessages}
+use Rattle.udt_laws.specs.Laws.{IsStream, CarriesMessages, HasHeard, AreInStep, ShowsMessages}
+use Rattle.udt_laws.specs.Scripts.{HasPeerThere}
 
 module _ {C : Type 0} (w : Ways C) where
+  -- where no line gives bytes of its own, each socket of these lines that has so heard of its own peer is the
+  -- own peer of the socket that stands there, and both agree
+  abbrev pub AllAdoptBack : Option (List (List ℕ)) → Type 0
+  AllAdoptBack (Some lines) =
+      (place : ℕ) (socket : ScriptSocket C) (peer : PeerPair) → AreEmitted lines
+      → slice_get (network_after w lines).sockets place ≡ Some socket
+      → own_peer w socket.history ≡ Some peer → HasHeard w socket.history
+      → HasPeerThere w (network_after w lines) place socket peer
+  AllAdoptBack None = Unit {0}
+
   -- where no line gives bytes of its own, what each stream socket of these lines delivered is a prefix of what its own peer
   -- accepted, and no more of its blocks are acknowledged than have arrived there
   abbrev pub AreAllInStep : Option (List (List ℕ)) → Type 0

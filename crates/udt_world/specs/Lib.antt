@@ -1,8 +1,9 @@
 pub mod Views
+pub mod Wiring
 pub mod Done
 pub mod Runs
 pub mod ScriptLines
 pub mod Kept
 pub mod Transcripts
-pub mod InStep
 pub mod Worlds
+pub mod InStep

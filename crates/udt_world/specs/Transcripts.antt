@@ -2,45 +2,65 @@
 use Rattle.std.specs.Prelude.{◌≡◌, ℕ, List, [], ◌∷◌, ◌++◌, map, Option, Some, Result, Ok, if◌then◌else◌}
 use Rattle.std.specs.List.{Contains, flat_map}
 use Rattle.udt_model.specs.Emissions.{IsPrefix}
-use Rattle.udt_model.specs.Events.{Reply}
+use Rattle.udt_model.specs.Events.{Act, Reply}
 use Rattle.udt_model.specs.History.{taken_by, given_by}
 use Rattle.udt_model.specs.Lines.{Pairing, Line, PairLine, CallLine, read_line, AreEmitted}
 use Rattle.udt_model.specs.Rate.{Ways}
 use Rattle.udt_model.specs.Script.{printed_after}
-use Rattle.udt_model.specs.Texts.{event_text}
+use Rattle.udt_model.specs.Texts.{event_text, listen_twice_text, meet_taken_text}
 use Rattle.udt_model.specs.Words.{is_word}
 use Rattle.udt_world.specs.declared.world.LineNo.{LineNo}
 
--- a line of a script and what it printed: what the socket answered, where the line is a call, and the rest of its text
+-- the answer to a call: what the socket replied, or that the place of a listener or of a meeting is taken
+pub data Answer : Type 0 where
+  Replied : (reply : Reply) → Answer
+  ListensTwice : Answer
+  MeetsTaken : Answer
+
+-- a line of a script and what it printed: the answer, where the line is a call, and the rest of its text
 pub record Entry : Type 0 where
   pub line : List ℕ
-  pub reply : Reply
+  pub answer : Answer
   pub rest : List ℕ
 
 -- the text that tells the answer to a call
-abbrev pub answer_text : Option Line → Reply → List ℕ
-answer_text (Some (CallLine name event)) reply = event_text name reply
-answer_text line reply = []
+abbrev pub told_text : List ℕ → Act → Answer → List ℕ
+told_text name act (Replied reply) = event_text name act reply
+told_text name act ListensTwice = listen_twice_text name
+told_text name act MeetsTaken = meet_taken_text name
+
+abbrev pub answer_text : Option Line → Answer → List ℕ
+answer_text (Some (CallLine name event)) answer = told_text name event.act answer
+answer_text line answer = []
 
 abbrev pub entry_text : Entry → List ℕ
-entry_text entry = answer_text (read_line entry.line) entry.reply ++ entry.rest
+entry_text entry = answer_text (read_line entry.line) entry.answer ++ entry.rest
+
+-- the bytes that an answer gave, and those that it took
+abbrev pub given_in : Answer → List ℕ
+given_in (Replied reply) = given_by reply
+given_in taken = []
+
+abbrev pub taken_in : Act → Answer → List ℕ
+taken_in act (Replied reply) = taken_by act reply
+taken_in act taken = []
 
 -- the bytes that a call of this name gave
-abbrev pub given_to : List ℕ → Option Line → Reply → List ℕ
-given_to name (Some (CallLine other event)) reply = if is_word other name then given_by reply else []
-given_to name line reply = []
+abbrev pub given_to : List ℕ → Option Line → Answer → List ℕ
+given_to name (Some (CallLine other event)) answer = if is_word other name then given_in answer else []
+given_to name line answer = []
 
 -- and those that it took
-abbrev pub taken_from : List ℕ → Option Line → Reply → List ℕ
-taken_from name (Some (CallLine other event)) reply = if is_word other name then taken_by event.act reply else []
-taken_from name line reply = []
+abbrev pub taken_from : List ℕ → Option Line → Answer → List ℕ
+taken_from name (Some (CallLine other event)) answer = if is_word other name then taken_in event.act answer else []
+taken_from name line answer = []
 
 -- all bytes that this name received, and all that it sent
 abbrev pub received : List ℕ → List Entry → List ℕ
-received name entries = flat_map (λ entry. given_to name (read_line entry.line) entry.reply) entries
+received name entries = flat_map (λ entry. given_to name (read_line entry.line) entry.answer) entries
 
 abbrev pub sent : List ℕ → List Entry → List ℕ
-sent name entries = flat_map (λ entry. taken_from name (read_line entry.line) entry.reply) entries
+sent name entries = flat_map (λ entry. taken_from name (read_line entry.line) entry.answer) entries
 
 -- of each two names that a line made a pair, the one received a prefix of what the other sent
 pub record AreInStep (entries : List Entry) : Type 0 where

@@ -9,7 +9,7 @@ ghost use Rattle.udt_model.specs.declared.limits.TheConstants.{LAST_MOMENT};
 ghost use Rattle.udt_world.specs.Runs.{count_in, IsBelow, IsRun, IsSet};
 ghost use Rattle.udt_world.specs.declared.generated.TheConstants.{MOST_SENT, PATTERN};
 
-use crate::deliveries::Route;
+use crate::arrivals::Route;
 use crate::network::{Act, Network};
 use std::alloc::{AllocError, Global};
 use udt_core::OutOfMemory;
@@ -94,12 +94,7 @@ impl<C: Control + Drop> Run<C> {
         ensures set { IfOk result (λ run. IsSet run) }
         ensures below { IfOk result (λ run. IsBelow run 0) }
     {
-        let mut network = Network {
-            alloc,
-            sockets: Vec::new(alloc),
-            datagrams: Vec::new(alloc),
-            outs: None,
-        };
+        let mut network = Network::new(alloc);
         let pairing = Pairing {
             kind: Kind::Stream,
             a: b"a",
@@ -202,7 +197,7 @@ impl<C: Control> Run<C> {
             return Ok(());
         }
         let number = delivered_number(kind, self.draw(), count) as usize;
-        match self.network.route_of(number) {
+        match self.network.route_of(number)? {
             Route::To(place) => self.network.hear(place, number, now),
             Route::Nowhere(_) => Ok(()),
         }

@@ -4,10 +4,12 @@
 //! each is added after what was printed before.
 #![tactic(auto)]
 
-mod deliveries;
+mod arrivals;
+mod calls;
 mod generated;
+mod hosts;
 mod network;
-mod pairs;
+mod opening;
 mod quiet;
 #[cfg(test)]
 mod tests;

@@ -8,7 +8,7 @@ use udt_rate::Native;
 fn plays_a_line_of_each_form(rt: HostRuntime) {
     let mut world = World::<Native>::new(rt.alloc());
     let mut out = Vec::new(rt.alloc());
-    let lines: [(&[u8], Result<(), LineNo>, &[u8]); 24] = [
+    let lines: [(&[u8], Result<(), LineNo>, &[u8]); 33] = [
         (b"pair stream a b 4 5 4", Ok(()), b"pair a 1 b 2\n"),
         (b"a send 1000 68656c6c6f", Ok(()), b"a send 5\n"),
         (
@@ -72,6 +72,19 @@ fn plays_a_line_of_each_form(rt: HostRuntime) {
             Ok(()),
             b"b sendmsg refused 5009\n",
         ),
+        (b"host h 10.0.0.7:80", Ok(()), b"host h\n"),
+        (b"host h 10.0.0.6:80", Err(LineNo::Refused), b""),
+        (b"open stream s h 4 0 4", Ok(()), b"open s 5\n"),
+        (b"s listen 0 1", Ok(()), b"s listen\n"),
+        (b"s accept 0 z", Ok(()), b"s accept again\n"),
+        (
+            b"s connect 0 10.0.0.9:1",
+            Ok(()),
+            b"s connect refused 5002\n",
+        ),
+        (b"s shake 0", Ok(()), b"s shake idle\n"),
+        (b"open stream t h 4 0 4", Ok(()), b"open t 6\n"),
+        (b"t meet 0 10.0.0.9:1", Ok(()), b"t meet\n"),
     ];
     for (line, answer, printed) in lines {
         let before = out.len();
@@ -82,7 +95,11 @@ fn plays_a_line_of_each_form(rt: HostRuntime) {
 
 #[test]
 fn answers_bytes_that_no_socket_sent(rt: HostRuntime) {
-    let arrivals: [(&[u8], &[u8]); 21] = [
+    let arrivals: [(&[u8], &[u8]); 22] = [
+        (
+            b"raw 2000 10.0.0.1:9000 10.0.0.2:9000 8000000000000000000000000000000200000004000000010000000500000030000000040000000100000009000000000a000009000000000000000000000000",
+            b"b arrive stale\n",
+        ),
         (
             b"raw 2000 10.0.0.1:9000 10.0.0.2:9000 00000005800000010000000000000002",
             b"b arrive badlength\n",

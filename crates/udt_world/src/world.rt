@@ -1,16 +1,17 @@
 // The network of a script, line by line.
 
-ghost use Rattle.std.specs.Prelude.{◌≡◌, ◌+◌, ◌≤◌, [], List, ℕ, Some, true, length, map, take, vec_len, IfOk, OnErr};
+ghost use Rattle.std.specs.Prelude.{◌≡◌, ◌+◌, ◌≤◌, [], List, ℕ, Some, true, length, map, take, vec_len, IfOk, OnOk, OnErr};
 ghost use Rattle.udt_model.specs.Network as model;
 ghost use Rattle.udt_model.specs.Script.{on_line, played_line, size_of, fits_after};
 ghost use Rattle.udt_model.specs.declared.limits.TheConstants.{LONGEST_SCRIPT};
 ghost use Rattle.udt_script.specs.CodeLines.{line_of, IsInRange};
 ghost use Rattle.udt_world.specs.Views.{view_of, Shows};
-ghost use Rattle.udt_world.specs.Done.{DoesLine};
+ghost use Rattle.udt_world.specs.Done.{DoesLine, GivesNames};
 ghost use Rattle.udt_world.specs.Kept.{kept_lines, items_of};
 ghost use Rattle.udt_world.specs.ScriptLines.{AnswersLine};
-ghost use Rattle.udt_world.specs.InStep.{AreAllInStep, AllShowMessages};
+ghost use Rattle.udt_world.specs.InStep.{AllAdoptBack, AreAllInStep, AllShowMessages};
 ghost use Rattle.udt_world.specs.Transcripts.{KeepsPrefix};
+ghost use Rattle.udt_world.specs.Wiring.{IsWired};
 
 use crate::network::Network;
 use std::alloc::{AllocError, Global};
@@ -54,15 +55,25 @@ fn do_line<C: Control + Drop>(
     line: &Line,
     out: &mut Vec<u8>,
 ) -> Result<bool, AllocError>
-    requires { IsInRange line.now }
+    requires range { IsInRange line.now }
+    requires names { GivesNames (line_of line.now) }
+    requires wired { IsWired network.old }
     ensures done { IfOk result (λ did. (n : model.Network C) → Shows C.ways n (view_of network.old)
         → DoesLine C.ways n (on_line C.ways n (line_of line.now)) did
         (view_of network.new) out.old.items out.new.items) }
+    ensures wired { OnOk result (IsWired network.new) }
     ensures err { OnErr result (take (vec_len out.old) out.new.items ≡ out.old.items) }
 {
     match line {
         Line::Silent => Ok(true),
         Line::Pair(pairing) => network.pair(pairing, out),
+        Line::Host { name, addr } => network.host(name, *addr, out),
+        Line::Open(opening) => network.open(opening, out),
+        Line::Accept {
+            name,
+            now,
+            accepted,
+        } => network.accept(name, *now, accepted, out),
         Line::Call { name, now, call } => network.call(name, *now, call, out),
         Line::Deliver { number, now } => network.deliver(*number, *now, out),
         Line::Raw { now, datagram } => {
@@ -78,9 +89,11 @@ fn play_line<C: Control + Drop>(
     line: &[u8],
     out: &mut Vec<u8>,
 ) -> Result<bool, AllocError>
+    requires { IsWired network.old }
     ensures done { IfOk result (λ did. (n : model.Network C) → Shows C.ways n (view_of network.old)
         → DoesLine C.ways n (played_line C.ways n line.now) did
         (view_of network.new) out.old.items out.new.items) }
+    ensures wired { OnOk result (IsWired network.new) }
     ensures err { OnErr result (take (vec_len out.old) out.new.items ≡ out.old.items) }
 {
     match read_line(network.alloc, line)? {
@@ -96,11 +109,13 @@ fn keep_line<C: Control + Drop>(
     line: &[u8],
     out: &mut Vec<u8>,
 ) -> Result<bool, AllocError>
+    requires { IsWired network.old }
     ensures lines { IfOk result (λ did.
         map items_of lines.new.items ≡ kept_lines did (map items_of lines.old.items) line.now) }
     ensures done { IfOk result (λ did. (n : model.Network C) → Shows C.ways n (view_of network.old)
         → DoesLine C.ways n (played_line C.ways n line.now) did
         (view_of network.new) out.old.items out.new.items) }
+    ensures wired { OnOk result (IsWired network.new) }
     ensures err { OnErr result (take (vec_len out.old) out.new.items ≡ out.old.items) }
 {
     let kept = Vec::from_slice(network.alloc, line)?;
@@ -127,16 +142,10 @@ impl<C: Control + Drop> World<C> {
     pub fn new(alloc: Global) -> World<C>
         ensures { result ≡ Some [] }
     {
-        let network = Network {
-            alloc,
-            sockets: Vec::new(alloc),
-            datagrams: Vec::new(alloc),
-            outs: None,
-        };
         World {
             lines: Vec::new(alloc),
             size: 0,
-            network,
+            network: Network::new(alloc),
             lost: false,
         }
     }
@@ -145,6 +154,7 @@ impl<C: Control + Drop> World<C> {
     /// nothing. Once memory has run out every line is answered so, and prints nothing.
     pub fn line(&mut self, line: &[u8], out: &mut Vec<u8>) -> Result<(), LineNo>
         ensures answer { AnswersLine C.ways self.old line.now result self.new out.old.items out.new.items }
+        ensures adoption { AllAdoptBack C.ways self.new }
         ensures in_step { AreAllInStep C.ways self.new }
         ensures shown { AllShowMessages C.ways self.new }
         ensures prefix { KeepsPrefix C.ways self.old line.now result out.old.items out.new.items }

@@ -2,20 +2,24 @@
 
 ghost use Rattle.std.specs.Prelude.{◌≡◌, ℕ, [], ◌++◌, ◌≤◌, length, true};
 ghost use Rattle.udt_model.specs.Addresses.{same_addr};
+ghost use Rattle.udt_model.specs.Phases as phase;
 ghost use Rattle.udt_model.specs.Step.{step};
 ghost use Rattle.udt_model.specs.declared.packets.Kind.TheVariants.{Message};
 ghost use Rattle.udt_model.specs.Events.{Arrive, DidHear, at_moment, event, outs_of};
-ghost use Rattle.udt_model.specs.Arrivals.{on_read, heard_now, is_own as comes_from_peer, heard_of, count_placing as count_as, count_malformed, count_foreign, packet_in, on_own as own_arrives, on_block as block_arrives, arrived_so, on_ack as ack_arrives, on_nak as nak_arrives, on_drop as drop_arrives, drop_as, on_ack2 as ack2_arrives, emitted_by_ack2, emitted_by_gap, emitted_by_light, on_control as control_arrives, on_stale as stale_arrives};
-ghost use Rattle.udt_model.specs.Wire.{read as wire_read};
+ghost use Rattle.udt_model.specs.Arrivals.{on_read, heard_now, is_own as comes_from_peer, heard_of, count_placing as count_as, packet_in, on_own as own_arrives, on_block as block_arrives, arrived_so, on_ack as ack_arrives, on_nak as nak_arrives, on_drop as drop_arrives, drop_as, on_ack2 as ack2_arrives, emitted_by_ack2, emitted_by_gap, emitted_by_light};
+ghost use Rattle.udt_model.specs.Counted.{count_malformed, count_foreign, on_control as control_arrives, on_stale as stale_arrives};
+ghost use Rattle.udt_model.specs.Wire.{read as wire_read, IsInRange};
 ghost use Rattle.udt_packet.specs.Packets.{block_packet_of, packet_of, IsBlock, SpellsBlock};
-ghost use Rattle.udt_core.specs.Changes.{ChangesExpAlone};
+ghost use Rattle.udt_core.specs.Changes.{ChangesExpAlone, ToldBy};
 ghost use Rattle.udt_core.specs.Emitted.{datagrams_of};
+ghost use Rattle.udt_core.specs.Waiting.{IsWaiting};
 
 use super::Socket;
 use crate::counts::risen;
 use crate::outs::Outs;
+use crate::phase::Phase;
 use std::marker::Model;
-use udt_model::{AckBody, Addr, Cause, Dropped, Flags, Heard, Kind, Malformed, Phase, Placed};
+use udt_model::{AckBody, Addr, Cause, Dropped, Flags, Heard, Kind, Malformed, Placed};
 use udt_packet::{BlockPacket, NakRanges, Packet, read, read_block};
 use udt_rate::Control;
 
@@ -51,12 +55,7 @@ impl<C: Control> Socket<C> {
         ensures reply { DidHear result ≡ (on_read C.ways self.old from (wire_read bytes.now)).reply }
         ensures after { self.new ≡ (on_read C.ways self.old from (wire_read bytes.now)).after }
         ensures outs { outs.new ≡ outs_of (on_read C.ways self.old from (wire_read bytes.now)) }
-        ensures malformed { (why : Malformed) → result ≡ Heard.Malformed why
-            → self.new ≡ record self.old { counters = count_malformed self.old.counters } }
-        ensures foreign { result ≡ Heard.Foreign
-            → self.new ≡ record self.old { counters = count_foreign self.old.counters } }
-        ensures stale { result ≡ Heard.Stale → ChangesExpAlone self.old self.new }
-        ensures bad_length { result ≡ Heard.BadLength → ChangesExpAlone self.old self.new }
+        ensures told { ToldBy result self.old self.new }
     {
         match read(bytes) {
             Err(why) => {
@@ -67,28 +66,58 @@ impl<C: Control> Socket<C> {
         }
     }
 
-    // A packet that is no block. A socket that isn't connected takes nothing in.
+    // A packet that is no block. A socket that isn't connected, and waits for no handshake, takes nothing
+    // in.
     #[inline(always)]
     fn on_packet(&mut self, from: Addr, known: bool, packet: Packet, outs: &mut Outs) -> Heard
         requires known { known ≡ same_addr from self.old.peer.addr }
         requires empty { outs.old ≡ [] }
         requires no_block { ¬ IsBlock (packet_of packet) }
+        requires in_range { IsInRange (packet_of packet) }
         ensures reply { DidHear result
             ≡ (packet_in C.ways self.old from (packet_of packet.entry) self.old.phase).reply }
         ensures after { self.new
             ≡ (packet_in C.ways self.old from (packet_of packet.entry) self.old.phase).after }
         ensures outs { outs.new
             ≡ outs_of (packet_in C.ways self.old from (packet_of packet.entry) self.old.phase) }
+        ensures told { ToldBy result self.old self.new }
     {
         match self.phase {
             Phase::Connected => {}
-            Phase::Broken(_) | Phase::Closing | Phase::Closed => return self.on_stale(),
+            Phase::Listening(_) | Phase::Connecting { .. } | Phase::Meeting { .. } => {
+                return self.on_waiting(from, packet, outs);
+            }
+            _ => return self.on_stale(),
         }
         if !self.is_own(from, known, &packet) {
             return self.on_foreign();
         }
         self.note_arrival();
         self.on_own(packet, outs)
+    }
+
+    // A packet at a socket that waits for handshakes.
+    fn on_waiting(&mut self, from: Addr, packet: Packet, outs: &mut Outs) -> Heard
+        requires empty { outs.old ≡ [] }
+        requires waits { IsWaiting self.old.phase }
+        requires in_range { IsInRange (packet_of packet) }
+        ensures reply { DidHear result
+            ≡ (packet_in C.ways self.old from (packet_of packet.entry) self.old.phase).reply }
+        ensures after { self.new
+            ≡ (packet_in C.ways self.old from (packet_of packet.entry) self.old.phase).after }
+        ensures outs { outs.new
+            ≡ outs_of (packet_in C.ways self.old from (packet_of packet.entry) self.old.phase) }
+        ensures told { ToldBy result self.old self.new }
+    {
+        let Packet::Handshake { stamp, dest, shake } = packet else {
+            return self.on_stale();
+        };
+        match self.phase {
+            Phase::Listening(_) => self.on_request(from, stamp, dest, &shake, outs),
+            Phase::Connecting { .. } => self.on_answer(from, stamp, dest, &shake, outs),
+            Phase::Meeting { .. } => self.on_meeting(from, stamp, dest, &shake, outs),
+            _ => self.on_stale(),
+        }
     }
 
     // The packet of a block, which most packets are: it goes the way of `on_packet`, and no other kind is
@@ -108,10 +137,11 @@ impl<C: Control> Socket<C> {
             ≡ (packet_in C.ways self.old _from (block_packet_of block.now) self.old.phase).after }
         ensures outs { outs.new
             ≡ outs_of (packet_in C.ways self.old _from (block_packet_of block.now) self.old.phase) }
+        ensures told { ToldBy result self.old self.new }
     {
         match self.phase {
             Phase::Connected => {}
-            Phase::Broken(_) | Phase::Closing | Phase::Closed => return self.on_stale(),
+            _ => return self.on_stale(),
         }
         if !known || block.dest != self.own {
             return self.on_foreign();
@@ -147,15 +177,16 @@ impl<C: Control> Socket<C> {
         self.exp_count = 1;
     }
 
-    // A packet from the peer that is no block. No use is made of handshakes yet. It goes its
-    // way apart, so that a block's has no room for other packets.
+    // A packet from the peer that is no block. It goes its way apart, so that a block's has no room for other packets.
     #[inline(never)]
     fn on_own(&mut self, packet: Packet, outs: &mut Outs) -> Heard
+        requires connected { self.old.phase ≡ phase.Connected }
         requires empty { outs.old ≡ [] }
         requires no_block { ¬ IsBlock (packet_of packet) }
         ensures reply { DidHear result ≡ (own_arrives C.ways self.old (packet_of packet.entry)).reply }
         ensures after { self.new ≡ (own_arrives C.ways self.old (packet_of packet.entry)).after }
         ensures outs { outs.new ≡ outs_of (own_arrives C.ways self.old (packet_of packet.entry)) }
+        ensures told { ToldBy result self.old self.new }
     {
         match packet {
             Packet::KeepAlive { .. } => self.on_control(Heard::Alive),
@@ -168,7 +199,8 @@ impl<C: Control> Socket<C> {
             }
             Packet::DropAsk { first, last, .. } => self.on_drop(first, last, outs),
             // (no block comes here: `on_block_packet` has it)
-            Packet::Block { .. } | Packet::Handshake { .. } => self.on_stale(),
+            Packet::Block { .. } => self.on_stale(),
+            Packet::Handshake { shake, .. } => self.on_shake_again(&shake, outs),
         }
     }
 
@@ -178,6 +210,7 @@ impl<C: Control> Socket<C> {
         ensures reply { DidHear result ≡ (block_arrives self.old seq flags bytes.now).reply }
         ensures after { self.new ≡ (block_arrives self.old seq flags bytes.now).after }
         ensures outs { outs.new ≡ outs_of (block_arrives self.old seq flags bytes.now) }
+        ensures told { ToldBy result self.old self.new }
     {
         if bytes.is_empty() || bytes.len() > self.receiving.payload() as usize {
             self.counters.stale = risen(self.counters.stale);
@@ -195,6 +228,7 @@ impl<C: Control> Socket<C> {
         ensures reply { DidHear result ≡ (drop_arrives self.old first last).reply }
         ensures after { self.new ≡ (drop_arrives self.old first last).after }
         ensures outs { outs.new ≡ outs_of (drop_arrives self.old first last) }
+        ensures told { ToldBy result self.old self.new }
     {
         match self.kind {
             Kind::Stream => self.on_stale(),
@@ -208,6 +242,7 @@ impl<C: Control> Socket<C> {
         ensures reply { DidHear result ≡ (drop_as self.old first last Message).reply }
         ensures after { self.new ≡ (drop_as self.old first last Message).after }
         ensures outs { outs.new ≡ outs_of (drop_as self.old first last Message) }
+        ensures told { ToldBy result self.old self.new }
     {
         match self.receiving.on_drop(self.last, first, last) {
             Dropped::Stale => self.on_stale(),
@@ -284,10 +319,12 @@ impl<C: Control> Socket<C> {
     // An ACK. One of blocks that were never sent, or are no longer kept, is stale. Any other is
     // answered by an ACK2, unless it is light.
     fn on_ack(&mut self, number: u32, body: &AckBody, outs: &mut Outs) -> Heard
+        requires connected { self.old.phase ≡ phase.Connected }
         requires empty { outs.old ≡ [] }
         ensures reply { DidHear result ≡ (ack_arrives C.ways self.old number body.now).reply }
         ensures after { self.new ≡ (ack_arrives C.ways self.old number body.now).after }
         ensures outs { outs.new ≡ outs_of (ack_arrives C.ways self.old number body.now) }
+        ensures told { ToldBy result self.old self.new }
     {
         if !self.sending.on_ack(body, &mut self.rtt) {
             return self.on_stale();
@@ -321,6 +358,7 @@ impl<C: Control> Socket<C> {
         ensures reply { DidHear result ≡ (nak_arrives C.ways self.old ranges.entry).reply }
         ensures after { self.new ≡ (nak_arrives C.ways self.old ranges.entry).after }
         ensures outs { outs_of (nak_arrives C.ways self.old ranges.entry) ≡ [] }
+        ensures told { ToldBy result self.old self.new }
     {
         if self.sending.on_nak(ranges, &self.rtt) {
             self.on_control(Heard::Nak)
@@ -335,6 +373,7 @@ impl<C: Control> Socket<C> {
         ensures reply { DidHear result ≡ (ack2_arrives self.old number).reply }
         ensures after { self.new ≡ (ack2_arrives self.old number).after }
         ensures outs { outs_of (ack2_arrives self.old number) ≡ [] }
+        ensures told { ToldBy result self.old self.new }
     {
         if self.receiving.on_ack2(self.last, number, &mut self.rtt) {
             self.on_control(Heard::Ack2)
@@ -344,7 +383,7 @@ impl<C: Control> Socket<C> {
     }
 
     // A control packet that was so heard.
-    fn on_control(&mut self, heard: Heard) -> Heard
+    pub(super) fn on_control(&mut self, heard: Heard) -> Heard
         ensures reply { DidHear result ≡ (control_arrives self.old heard []).reply }
         ensures after { self.new ≡ (control_arrives self.old heard []).after }
     {
@@ -353,7 +392,7 @@ impl<C: Control> Socket<C> {
     }
 
     // A packet of which the socket makes no use.
-    fn on_stale(&mut self) -> Heard
+    pub(super) fn on_stale(&mut self) -> Heard
         ensures reply { DidHear result ≡ (stale_arrives self.old).reply }
         ensures after { self.new ≡ (stale_arrives self.old).after }
     {

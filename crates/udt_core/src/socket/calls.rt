@@ -2,19 +2,22 @@
 
 ghost use Rattle.std.specs.Prelude.{◌≡◌, ◌+◌, ◌-◌, ◌^◌, ◌<◌, ◌≤◌, [], length, drop, Ok, IfOk, OnErr};
 ghost use Rattle.udt_model.specs.Step.{step};
+ghost use Rattle.udt_model.specs.declared.limits.TheConstants.{LAST_MOMENT};
 ghost use Rattle.udt_model.specs.Events.{Send, Recv, SendMessage, RecvMessage, Pack, Close, Measure, Sent, Received, SentMessage, ReceivedMessage, DidPack, DidMeasure, at_moment, event, outs_of};
-ghost use Rattle.udt_model.specs.Calls.{packed_so, gives, gives_message, perf_of, refusal_of as why_of, closed_from as after_closing};
+ghost use Rattle.udt_model.specs.Calls.{packed_so, gives, gives_message, perf_of, refusal_of as why_of};
 ghost use Rattle.udt_model.specs.Moments as moments;
 ghost use Rattle.udt_model.specs.Readiness.{ready_bits, has_readable};
 ghost use Rattle.udt_model.specs.SendHalf.{packing, pack_moment};
 ghost use Rattle.udt_model.specs.Wire.{bit as one_if};
 ghost use Rattle.udt_core.specs.Received.{received_in};
+ghost use Rattle.udt_core.specs.Peers.{pair_by};
 
 use super::Socket;
 use crate::counts::risen;
 use crate::outs::Outs;
+use crate::phase::Phase;
 use std::marker::Model;
-use udt_model::{Kind, LAST_MOMENT, Packed, Perf, Phase, Refusal, SendNo};
+use udt_model::{Addr, Kind, LAST_MOMENT, Origin, Packed, Perf, Refusal, SHAKE_LIMIT, SendNo};
 use udt_rate::Control;
 use udt_receiver::Got;
 
@@ -39,7 +42,7 @@ impl<C: Control> Socket<C> {
                 Err(why) => Err(refusal_of(why)),
             },
             Phase::Broken(why) => Err(Refusal::ConnLost(why)),
-            Phase::Closing | Phase::Closed => Err(Refusal::NotConnected),
+            _ => Err(Refusal::NotConnected),
         }
     }
 
@@ -72,7 +75,7 @@ impl<C: Control> Socket<C> {
                 Err(why) => Err(refusal_of(why)),
             },
             Phase::Broken(why) => Err(Refusal::ConnLost(why)),
-            Phase::Closing | Phase::Closed => Err(Refusal::NotConnected),
+            _ => Err(Refusal::NotConnected),
         }
     }
 
@@ -97,7 +100,7 @@ impl<C: Control> Socket<C> {
         match self.phase {
             Phase::Connected => self.give(into, Refusal::AgainRecv),
             Phase::Broken(why) => self.give(into, Refusal::ConnLost(why)),
-            Phase::Closing | Phase::Closed => Err(Refusal::NotConnected),
+            _ => Err(Refusal::NotConnected),
         }
     }
 
@@ -124,7 +127,7 @@ impl<C: Control> Socket<C> {
         match self.phase {
             Phase::Connected => self.give_message(into, Refusal::AgainRecv),
             Phase::Broken(why) => self.give_message(into, Refusal::ConnLost(why)),
-            Phase::Closing | Phase::Closed => Err(Refusal::NotConnected),
+            _ => Err(Refusal::NotConnected),
         }
     }
 
@@ -171,7 +174,10 @@ impl<C: Control> Socket<C> {
         ensures { self.new ≡ (step C.ways self.old (event now Close)).after }
     {
         self.at(now);
-        self.phase = closed_from(self.phase);
+        self.phase = match self.phase {
+            Phase::Connected | Phase::Closing => Phase::Closing,
+            _ => Phase::Closed,
+        };
     }
 
     /// Emits the least lost block or else the next one, where the time has come and the socket is
@@ -187,7 +193,7 @@ impl<C: Control> Socket<C> {
         self.at(now);
         match self.phase {
             Phase::Connected => self.pack_next(outs),
-            Phase::Broken(_) | Phase::Closing | Phase::Closed => Packed::Nothing,
+            _ => Packed::Nothing,
         }
     }
 
@@ -243,21 +249,43 @@ impl<C: Control> Socket<C> {
 
     /// The first moment, not before the last one, at which `tick` or `pack` would do something, in
     /// microseconds. None comes where there is none.
-    #[tactic(auto, unfolding(udt_model::specs::Moments::next_moment))]
     pub fn next_moment(&self) -> Option<u64>
         ensures value { result ≡ moments.next_moment C.ways self.now }
         ensures is { moments.IsNextMoment C.ways self.now result }
     {
-        match self.phase {
+        self.moment()
+    }
+
+    // The same, as it is found.
+    #[tactic(auto, unfolding(udt_model::specs::Moments::next_moment))]
+    fn moment(&self) -> Option<u64>
+        ensures value { result ≡ moments.next_moment C.ways self.now }
+        ensures within { self.now.last ≤ LAST_MOMENT }
+    {
+        match &self.phase {
             Phase::Connected => {
                 let ack = not_before(self.last, self.receiving.ack_due());
                 let nak = not_before(self.last, self.receiving.nak_due());
                 let exp = not_before(self.last, self.exp_from + self.exp_interval());
                 sooner(sooner(ack, nak), sooner(exp, self.leaving_moment()))
             }
+            Phase::Connecting { client, again } => {
+                self.shaking_moment(client.caller().began, *again)
+            }
+            Phase::Meeting { meeting, again } => {
+                self.shaking_moment(meeting.caller().began, *again)
+            }
             Phase::Closing => Some(self.last),
-            Phase::Broken(_) | Phase::Closed => None,
+            _ => None,
         }
+    }
+
+    // The first moment, not before the last one, at which a socket that asks or meets emits its
+    // handshake again, or gives up.
+    fn shaking_moment(&self, began: u64, again: u64) -> Option<u64>
+        ensures { result ≡ moments.shaking_moment C.ways self.now began again }
+    {
+        not_before(self.last, again.min(began.saturating_add(SHAKE_LIMIT)))
     }
 
     // The first moment, not before the last one, at which packing sends a block.
@@ -266,6 +294,16 @@ impl<C: Control> Socket<C> {
             ≡ moments.not_before_any self.now.last (pack_moment C.ways self.now.sending) }
     {
         not_before(self.last, self.sending.pack_moment()?)
+    }
+
+    /// The address and the socket ID of its peer. None before it has one.
+    pub fn peer(&self) -> Option<(Addr, u32)>
+        ensures { result ≡ pair_by self.now.origin self.now.peer }
+    {
+        match self.origin {
+            Origin::Nobody => None,
+            _ => Some((self.peer.addr, self.peer.id)),
+        }
     }
 
     /// Its own socket ID.
@@ -293,16 +331,19 @@ impl<C: Control> Socket<C> {
     }
 
     /// What the socket is ready for, as bits: 1 that bytes or a message can be read, 2 that some can be written, 4
-    /// that it is cut off or closed, 16 that it is connected, 32 that it is closed.
+    /// that it is cut off, failed or closed, 8 that a connection can be accepted, 16 that it is connected, 32 that it
+    /// is closed.
     #[tactic(auto, unfolding(udt_model::specs::Readiness::ready_bits))]
     pub fn bits(&self) -> u8
         ensures { result ≡ ready_bits self.now }
     {
-        match self.phase {
+        match &self.phase {
             Phase::Connected => { 16 + bit(self.readable()) + 2 * bit(self.sending.free() > 0) }
             Phase::Broken(_) => 4 + bit(self.readable()),
-            Phase::Closing => 0,
+            Phase::Listening(backlog) => 8 * bit(backlog.has_offered()),
+            Phase::Failed(_) => 4,
             Phase::Closed => 36,
+            _ => 0,
         }
     }
 
@@ -347,16 +388,6 @@ fn refusal_of(why: SendNo) -> Refusal
         SendNo::Again => Refusal::AgainSend,
         SendNo::Spent => Refusal::Spent,
         SendNo::TooLarge => Refusal::TooLarge,
-    }
-}
-
-// What closing makes of a phase.
-fn closed_from(phase: Phase) -> Phase
-    ensures { result ≡ after_closing phase }
-{
-    match phase {
-        Phase::Connected | Phase::Closing => Phase::Closing,
-        Phase::Broken(_) | Phase::Closed => Phase::Closed,
     }
 }
 

@@ -11,15 +11,17 @@ ghost use Rattle.udt_core.specs.Emitted.{datagrams_of};
 
 use super::Socket;
 use crate::outs::Outs;
+use crate::phase::Phase;
 use std::marker::Model;
 use udt_model::{
-    Cause, EXP_LEAST_INTERVAL, EXP_LEAST_SILENT, EXP_MOST_COUNT, EXP_MOST_SILENT, ExpOutcome, Phase,
+    Cause, EXP_LEAST_INTERVAL, EXP_LEAST_SILENT, EXP_MOST_COUNT, EXP_MOST_SILENT, ExpOutcome,
 };
 use udt_packet::Packet;
 use udt_rate::Control;
 
 impl<C: Control> Socket<C> {
-    /// Does what falls due at this moment. A connected socket emits an ACK of what has arrived and a
+    /// Does what falls due at this moment. A socket that asks or meets emits its handshake again, and
+    /// fails after three seconds. A connected socket emits an ACK of what has arrived and a
     /// NAK of what has not; then it has retransmitted what may be lost, or sends a keep-alive, or
     /// gives its peer up. A closing socket sends a shutdown, and is closed.
     #[tactic(auto, unfolding(udt_model::specs::Step::step, udt_model::specs::Wire::spelling))]
@@ -43,7 +45,9 @@ impl<C: Control> Socket<C> {
                 outs.emit(self.peer.addr, &packet);
                 self.phase = Phase::Closed;
             }
-            Phase::Broken(_) | Phase::Closed => {}
+            Phase::Connecting { .. } => self.tick_client(outs),
+            Phase::Meeting { .. } => self.tick_meeting(outs),
+            _ => {}
         }
     }
 

@@ -1,5 +1,5 @@
 -- What is acknowledged of a socket was placed or dropped at its peer: of a stream, no more blocks than have arrived there.
-use Rattle.std.proofs.Common.{◌≡◌, ℕ, ◌+◌, ◌^◌, ◌<◌, ◌≤◌, List, [], ◌∷◌, ◌++◌, length, Some, Ok, refl, ap, ◌∙◌, sym, subst, inl, inr, arith}
+use Rattle.std.proofs.Common.{◌≡◌, ℕ, ◌+◌, ◌^◌, ◌<◌, ◌≤◌, true, List, [], ◌∷◌, ◌++◌, length, Ok, refl, ap, ◌∙◌, sym, subst, inl, inr, arith}
 use Rattle.std.specs.Prelude.{◌==◌}
 use Rattle.std.specs.List.{Contains}
 use Rattle.std.proofs.lemmas.Bool.{eqb-true, or_cases}
@@ -17,14 +17,15 @@ use Rattle.udt_model.specs.SendReports.{acked_number}
 use Rattle.udt_model.specs.Step.{step}
 use Rattle.udt_model.specs.Events.{Act, Arrive}
 use Rattle.udt_model.specs.History.{Item, History, start_of, acked, arrived, placed_offsets, dropped_offsets}
-use Rattle.udt_model.specs.Records.{Enrolled, IsSocket, EndpointRecord, StandsAt, PeerPair, own_peer, ArePaired, AreLawful}
+use Rattle.udt_model.specs.Records.{Enrolled, IsSocket, EndpointRecord, ArePaired}
 use Rattle.udt_model.specs.Emissions.{sent, arrived_by_act, arrived_by, arrivals}
-use Rattle.udt_model.specs.Honest.{IsHonestAct, AreHonest, IsHonest}
+use Rattle.udt_model.specs.Honest.{IsHonestAct, AreHonest}
 use Rattle.udt_model.proofs.NearLemmas.{near-found, near-is}
+use Rattle.udt_model.proofs.PhaseLemmas.{is_settled}
 use Rattle.udt_model.proofs.StepLemmas.{step-keeps}
 use Rattle.udt_laws.specs.Laws.{ComesFrom, PairArrived}
-use Rattle.udt_laws.proofs.sockets.Opened.{names, pair-stream}
-use Rattle.udt_laws.proofs.sockets.OneSocket.{comes-emitted, from-sender, own-pair-back, AreOwnPair, own-pair}
+use Rattle.udt_laws.proofs.sockets.Opened.{AreConnected, paired-connected}
+use Rattle.udt_laws.proofs.sockets.OneSocket.{comes-emitted, ComesNear}
 use Rattle.udt_laws.proofs.acked_has_arrived.AcksNamePlaced.{TellsOf, HasPlaced, HasTaken, stream-placed, all-taken}
 use Rattle.udt_laws.proofs.acked_has_arrived.AckedWasNamed.{AcksAct, AllAck, items-acked}
 use Rattle.udt_laws.proofs.acked_has_arrived.SendsOneAnEvent.{SendsBelow, sends-below_sent, sends-below_events}
@@ -60,18 +61,16 @@ module _ {C : Type 0} (w : Ways C) where
 
   -- ---- where records are lawful and honest
 
-  module _ (net : List (EndpointRecord C)) (lawful : AreLawful w net) (addr other_addr : Addr) (own : ℕ) (other : Enrolled C) (stands : StandsAt net other_addr other)
-      (names_back : own_peer w other.history ≡ Some (record { addr = addr; id = own })) (h : History C) (P : ℕ → Type 0)
-      (are : AreAckMates w P addr own h other_addr other.own other.history) where
+  module _ (net : List (EndpointRecord C)) (addr other_addr : Addr) (own other_own : ℕ) (h g : History C)
+      (comes : ComesNear w net addr own other_addr g) (P : ℕ → Type 0) (are : AreAckMates w P addr own h other_addr other_own g) where
     -- all below this offset meets it
     abbrev AllBelow : ℕ → Type 0
-    AllBelow offset = AllBetween P (start_of other.history) offset
+    AllBelow offset = AllBetween P (start_of g) offset
 
     act-acks : (s : State C) (act : Act) → s.own ≡ own → s.peer.addr ≡ other_addr → s.sending.isn ≡ h.opening.sending.isn
         → IsHonestAct w net addr s act → AcksAct AllBelow s act
     act-acks s (Arrive from bytes) own_is addr_is isn_is was = λ number stamp body offset from_is reads at.
-        let near = from-sender w net lawful addr other_addr own other stands names_back s from bytes (Ack number stamp s.own body)
-        (from_is ∙ addr_is) was reads refl own_is in
+        let near = comes s from bytes (Ack number stamp s.own body) (from_is ∙ addr_is) was reads refl own_is in
         let tells = are.tells near.emission number stamp s.own body near.among (ap read near.same ∙ reads) in
         let close = near.close tells.offset (subst (λ (offsets : List ℕ). Contains offsets tells.offset) (sym tells.names) (Contains-push [] tells.offset)) in
         let carries : sequence_number s.sending.isn tells.offset ≡ acked_number body =
@@ -82,58 +81,46 @@ module _ {C : Type 0} (w : Ways C) where
         subst AllBelow is tells.all
     act-acks s act own_is addr_is isn_is honest = tt
 
-    items-ack : (s : State C) (items : List Item) → s.own ≡ own → s.peer.addr ≡ other_addr → s.sending.isn ≡ h.opening.sending.isn
-        → AreHonest w net addr s items → AllAck w AllBelow s items
+    items-ack : (s : State C) (items : List Item) → is_settled s.phase ≡ true → s.own ≡ own → s.peer.addr ≡ other_addr
+        → s.sending.isn ≡ h.opening.sending.isn → AreHonest w net addr s items → AllAck w AllBelow s items
     unfolding AreHonest
-    items-ack s [] own_is addr_is isn_is honest = tt
-    items-ack s (item ∷ items) own_is addr_is isn_is honest =
-        let same = step-keeps w s item.event in (
+    items-ack s [] settled own_is addr_is isn_is honest = tt
+    items-ack s (item ∷ items) settled own_is addr_is isn_is honest =
+        let same = step-keeps w s item.event settled in (
           act-acks s item.event.act own_is addr_is isn_is honest.0,
-          items-ack (step w s item.event).after items (same.own ∙ own_is) (ap (λ (p : Peer). p.addr) same.peer ∙ addr_is)
-              (same.sending.isn ∙ isn_is) honest.1,
+          items-ack (step w s item.event).after items (same.settled settled) (same.own ∙ own_is)
+              (ap (λ (p : Peer). p.addr) same.peer ∙ addr_is) (same.sending.isn ∙ isn_is) honest.1,
         )
 
-    history-acks : AreHonest w net addr h.opening h.items → AcksOnly w P h other.history
-    history-acks honest = record {
-      same_start = are.same_start;
-      all = items-acked w AllBelow h.opening h.items
-          (items-ack h.opening h.items are.own_is are.peer_addr refl honest) (begins-acked P h other.history are.same_start);
-    }
-
-  -- of two sockets of these that were made as a pair, whatever the one counts as acknowledged meets what all that the other
+  -- of two histories that begin as connected to each other, whatever the one counts as acknowledged meets what all that the other
   -- places and drops meets
-  acknowledged-meets : (net : List (EndpointRecord C)) (addr other_addr : Addr) (socket other : Enrolled C) (P : ℕ → Type 0)
-      → AreLawful w net → IsHonest w net → StandsAt net addr socket → StandsAt net other_addr other
-      → AreOwnPair w addr socket other_addr other → ItemsMeet w P other.history.opening other.history.items
-      → AcksOnly w P socket.history other.history
-  acknowledged-meets net addr other_addr socket other P lawful honest here there pair meet =
-      let are = ack-mates w P addr socket.own socket.way socket.history other_addr other.own other.way other.history pair.paired
-      pair.socket_is.opened pair.other_is.in_range pair.other_is.opened pair.other_is.legal meet in
-      let names_back = names w other.history addr socket.own are.back_addr are.back_id in
-      history-acks net lawful addr other_addr socket.own other there names_back socket.history P are (honest addr socket here)
+  pub acknowledged-meets : (net : List (EndpointRecord C)) (addr : Addr) (own : ℕ) (h : History C) (other_addr : Addr) (other_own : ℕ) (g : History C)
+      (P : ℕ → Type 0) → AreConnected w addr own h other_addr other_own g → ComesNear w net addr own other_addr g
+      → AreHonest w net addr h.opening h.items → ItemsMeet w P g.opening g.items → AcksOnly w P h g
+  acknowledged-meets net addr own h other_addr other_own g P connected comes honest meet =
+      let are = ack-mates w P addr own h other_addr other_own g connected meet in
+      record {
+        same_start = are.same_start;
+        all = items-acked w (AllBetween P (start_of g)) h.opening h.items
+            (items-ack net addr other_addr own other_own h g comes P are h.opening h.items are.settled are.own_is are.peer_addr refl honest)
+            (begins-acked P h g are.same_start);
+      }
 
-  pub prefix-arrived : (net : List (EndpointRecord C)) (addr : Addr) (socket other : Enrolled C) (peer : PeerPair) → AreLawful w net → IsHonest w net
-      → StandsAt net addr socket → socket.history.opening.kind ≡ Stream → own_peer w socket.history ≡ Some peer → StandsAt net peer.addr other → other.own ≡ peer.id
-      → acked w socket.history ≤ arrived w other.history
-  prefix-arrived net addr socket other peer lawful honest here stream peer_is there own_is =
-      let pair = own-pair w net lawful addr socket other peer here peer_is there own_is in
-      let other_stream = pair-stream w addr socket.own socket.way socket.history peer.addr other.own other.way other.history pair.paired
-      pair.socket_is.opened pair.other_is.opened stream in
-      all-arrived w socket.history other.history
-      (acknowledged-meets net addr peer.addr socket other (HasPlaced w other.history) lawful honest here there pair
-      (stream-placed w other.history other_stream))
+  pub prefix-arrived : (net : List (EndpointRecord C)) (addr : Addr) (own : ℕ) (h : History C) (peer_addr : Addr) (peer_own : ℕ) (g : History C)
+      → AreConnected w addr own h peer_addr peer_own g → ComesNear w net addr own peer_addr g → AreHonest w net addr h.opening h.items
+      → h.opening.kind ≡ Stream → acked w h ≤ arrived w g
+  prefix-arrived net addr own h peer_addr peer_own g connected comes honest stream =
+      all-arrived w h g
+      (acknowledged-meets net addr own h peer_addr peer_own g (HasPlaced w g) connected comes honest
+      (stream-placed w g (connected.same_kind ∙ stream)))
 
-  -- of a socket of any kind: what its own peer counts as acknowledged was placed at it, or dropped there
-  pub acked-arrived-or-dropped : (net : List (EndpointRecord C)) (addr : Addr) (socket other : Enrolled C) (peer : PeerPair)
-      → AreLawful w net → IsHonest w net → StandsAt net addr socket → own_peer w socket.history ≡ Some peer
-      → StandsAt net peer.addr other → other.own ≡ peer.id
-      → (offset : ℕ) → start_of other.history ≤ offset → offset < start_of other.history + acked w other.history
-      → Contains (placed_offsets w socket.history ++ dropped_offsets w socket.history) offset
-  acked-arrived-or-dropped net addr socket other peer lawful honest here peer_is there own_is offset low high =
-      let pair = own-pair w net lawful addr socket other peer here peer_is there own_is in
-      let acks = acknowledged-meets net peer.addr addr other socket (HasTaken w socket.history) lawful honest there here
-      (own-pair-back w addr socket peer.addr other pair) (all-taken w socket.history) in
-      taken-contained other.history socket.history acks offset low high
+  -- of sockets of any kind: what the one counts as acknowledged was placed at the other, or dropped there
+  pub acked-arrived-or-dropped : (net : List (EndpointRecord C)) (addr : Addr) (own : ℕ) (h : History C) (peer_addr : Addr) (peer_own : ℕ) (g : History C)
+      → AreConnected w addr own h peer_addr peer_own g → ComesNear w net addr own peer_addr g → AreHonest w net addr h.opening h.items
+      → (offset : ℕ) → start_of h ≤ offset → offset < start_of h + acked w h → Contains (placed_offsets w g ++ dropped_offsets w g) offset
+  acked-arrived-or-dropped net addr own h peer_addr peer_own g connected comes honest offset low high =
+      taken-contained h g
+      (acknowledged-meets net addr own h peer_addr peer_own g (HasTaken w g) connected comes honest (all-taken w g)) offset low high
 
   -- ---- where two sockets were made as a pair
 
@@ -161,16 +148,16 @@ module _ {C : Type 0} (w : Ways C) where
         λ n low less. tells.all n low (omega (arith, less, fits))
     act-below s act own_is addr_is isn_is below among = tt
 
-    items-below : (s : State C) (items : List Item) → s.own ≡ socket.own → s.peer.addr ≡ from → s.sending.isn ≡ socket.history.opening.sending.isn
+    items-below : (s : State C) (items : List Item) → is_settled s.phase ≡ true → s.own ≡ socket.own → s.peer.addr ≡ from → s.sending.isn ≡ socket.history.opening.sending.isn
         → SendsBelow w high s items
         → ((datagram : Datagram) → Contains (arrived_by items) datagram → Contains (arrivals socket.history) datagram)
         → AllAck w (AllBetween P (start_of other.history)) s items
     unfolding arrived_by
-    items-below s [] own_is addr_is isn_is below among = tt
-    items-below s (item ∷ items) own_is addr_is isn_is below among =
-        let same = step-keeps w s item.event in (
+    items-below s [] settled own_is addr_is isn_is below among = tt
+    items-below s (item ∷ items) settled own_is addr_is isn_is below among =
+        let same = step-keeps w s item.event settled in (
           act-below s item.event.act own_is addr_is isn_is below.0 (λ datagram h. among datagram (Contains-append_left _ _ datagram h)),
-          items-below (step w s item.event).after items (same.own ∙ own_is) (ap (λ (p : Peer). p.addr) same.peer ∙ addr_is)
+          items-below (step w s item.event).after items (same.settled settled) (same.own ∙ own_is) (ap (λ (p : Peer). p.addr) same.peer ∙ addr_is)
               (same.sending.isn ∙ isn_is) below.1 (λ datagram h. among datagram (Contains-append_right _ _ datagram h)),
         )
 
@@ -182,12 +169,13 @@ module _ {C : Type 0} (w : Ways C) where
   below-acks addr peer_addr socket other P high is_socket is_other paired meet comes few below =
       let h = socket.history in
       let g = other.history in
-      let are = ack-mates w P addr socket.own socket.way h peer_addr other.own other.way g paired
-      is_socket.opened is_other.in_range is_other.opened is_other.legal meet in
+      let are = ack-mates w P addr socket.own h peer_addr other.own g
+      (paired-connected w addr socket peer_addr other is_socket is_other paired) meet in
       record {
         same_start = are.same_start;
         all = items-acked w (AllBetween P (start_of g)) h.opening h.items
-            (items-below addr peer_addr socket other is_other comes P are high few h.opening h.items are.own_is are.peer_addr refl below (λ datagram among. among))
+            (items-below addr peer_addr socket other is_other comes P are high few h.opening h.items are.settled are.own_is are.peer_addr refl below
+            (λ datagram among. among))
             (begins-acked P h g are.same_start);
       }
 
@@ -198,7 +186,7 @@ module _ {C : Type 0} (w : Ways C) where
   below-arrived addr peer_addr socket other high is_socket is_other paired stream comes few below =
       let h = socket.history in
       let g = other.history in
-      let other_stream = pair-stream w addr socket.own socket.way h peer_addr other.own other.way g paired is_socket.opened is_other.opened stream in
+      let other_stream = (paired-connected w addr socket peer_addr other is_socket is_other paired).same_kind ∙ stream in
       all-arrived w h g
       (below-acks addr peer_addr socket other (HasPlaced w g) high is_socket is_other paired (stream-placed w g other_stream) comes few below)
 
@@ -207,7 +195,7 @@ module _ {C : Type 0} (w : Ways C) where
   pair-arrived addr peer_addr socket other is_socket is_other paired stream comes few =
       let h = socket.history in
       below-arrived addr peer_addr socket other (start_of h + length (sent h)) is_socket is_other paired stream comes (omega (arith, few))
-      (sends-below_sent w socket.own socket.way h is_socket.in_range is_socket.opened stream is_socket.legal)
+      (sends-below_sent w h (paired-connected w addr socket peer_addr other is_socket is_other paired).begins stream)
 
   -- and one an event at most
   pub events-arrived : (addr peer_addr : Addr) (socket other : Enrolled C) → IsSocket w socket → IsSocket w other
@@ -216,4 +204,4 @@ module _ {C : Type 0} (w : Ways C) where
   events-arrived addr peer_addr socket other is_socket is_other paired stream comes few =
       let h = socket.history in
       below-arrived addr peer_addr socket other (start_of h + length h.items) is_socket is_other paired stream comes (omega (arith, few))
-      (sends-below_events w socket.own socket.way h is_socket.in_range is_socket.opened stream)
+      (sends-below_events w h (paired-connected w addr socket peer_addr other is_socket is_other paired).begins stream)

@@ -4,8 +4,8 @@ use Rattle.std.specs.Prelude.{Option, None, Result, nat_lt}
 use Rattle.std.proofs.lemmas.Bool.{cases_Bool}
 use Rattle.std.proofs.Common.{arith}
 use Rattle.udt_model.specs.declared.addresses.Addr.{Addr}
-use Rattle.udt_model.specs.declared.answers.Phase.{Phase}
-use Rattle.udt_model.specs.declared.answers.Phase.TheVariants as phase
+use Rattle.udt_model.specs.Phases.{Phase, Link, Stands, Lost, Absent, link_of}
+use Rattle.udt_model.specs.Phases as phase
 use Rattle.udt_model.specs.declared.answers.SendNo.{SendNo}
 use Rattle.udt_model.specs.declared.packets.AckBody.{AckBody}
 use Rattle.udt_model.specs.declared.packets.Kind.{Kind}
@@ -15,18 +15,20 @@ use Rattle.udt_model.specs.declared.sockets.ExpOutcome.{ExpOutcome}
 use Rattle.udt_model.specs.declared.sockets.ExpOutcome.TheVariants as exp
 use Rattle.udt_model.specs.Arrivals.{on_read}
 use Rattle.udt_model.specs.Calls.{send_in, send_as, recv_in, recv_as, send_message_in, send_message_as, recv_message_in, recv_message_as, packed_so, pack_in}
-use Rattle.udt_model.specs.Events.{Act, Send, Recv, SendMessage, RecvMessage, Pack, Tick, Close, Measure, Arrive, Event, at_moment}
+use Rattle.udt_model.specs.Connections.{repeats}
+use Rattle.udt_model.specs.Events.{Act, Send, Recv, SendMessage, RecvMessage, Pack, Tick, Arrive, Event, at_moment}
 use Rattle.udt_model.specs.History.{Item, after_items}
 use Rattle.udt_model.specs.Losses.{LostRange}
 use Rattle.udt_model.specs.Rate.{Ways}
 use Rattle.udt_model.specs.SendHalf.{Sending, send_answer, message_answer, expiry_of, after_answer, after_send, after_send_message, Packing, Waits, Retransmits, Drops, Sends, Idles, packing}
 use Rattle.udt_model.specs.SendReports.{acked_number, entering, after_entering, after_nak, after_timeout}
-use Rattle.udt_model.specs.State.{State}
+use Rattle.udt_model.specs.State.{State, Emission}
 use Rattle.udt_model.specs.Step.{on_act, step}
 use Rattle.udt_model.specs.Ticks.{exp_outcome, after_exp, after_reports, tick_in}
 use Rattle.udt_model.specs.Timing.{RoundTrip}
 use Rattle.udt_model.specs.Wire.{Packet, WireRange, Ack, read}
 use Rattle.udt_model.proofs.ArrivalLemmas.{arrival-shows}
+use Rattle.udt_model.proofs.PhaseLemmas.{repeats-show}
 use Rattle.udt_model.proofs.SendingLemmas.{IsAcked, acking-acks, after_ack-acked}
 
 module _ {C : Type 0} where
@@ -81,48 +83,44 @@ module _ {C : Type 0} (w : Ways C) where
       still : (sending : Sending C) → sending.blocks.first ≡ s.sending.blocks.first → Q sending.blocks.first
       still sending same = subst Q (sym same) is
 
-      sends-acked : (bytes : List ℕ) (phase : Phase) → Q (send_in s bytes phase).after.sending.blocks.first
-      sends-acked bytes phase.Connected = still (after_send s.sending bytes) (send-first s.sending bytes)
-      sends-acked bytes (phase.Broken why) = is
-      sends-acked bytes phase.Closing = is
-      sends-acked bytes phase.Closed = is
+      sends-acked : (bytes : List ℕ) (link : Link) → Q (send_in s bytes link).after.sending.blocks.first
+      sends-acked bytes Stands = still (after_send s.sending bytes) (send-first s.sending bytes)
+      sends-acked bytes (Lost why) = is
+      sends-acked bytes Absent = is
 
-      recvs-acked : (room : ℕ) (phase : Phase) → Q (recv_in s room phase).after.sending.blocks.first
-      recvs-acked room phase.Connected = is
-      recvs-acked room (phase.Broken why) = is
-      recvs-acked room phase.Closing = is
-      recvs-acked room phase.Closed = is
+      recvs-acked : (room : ℕ) (link : Link) → Q (recv_in s room link).after.sending.blocks.first
+      recvs-acked room Stands = is
+      recvs-acked room (Lost why) = is
+      recvs-acked room Absent = is
 
       send_as-acked : (bytes : List ℕ) (k : Kind) → Q (send_as s bytes k).after.sending.blocks.first
-      send_as-acked bytes kind.Stream = sends-acked bytes s.phase
+      send_as-acked bytes kind.Stream = sends-acked bytes (link_of s.phase)
       send_as-acked bytes kind.Message = is
 
       recv_as-acked : (room : ℕ) (k : Kind) → Q (recv_as s room k).after.sending.blocks.first
-      recv_as-acked room kind.Stream = recvs-acked room s.phase
+      recv_as-acked room kind.Stream = recvs-acked room (link_of s.phase)
       recv_as-acked room kind.Message = is
 
-      asks-acked : (ttl : Option ℕ) (order : Bool) (bytes : List ℕ) (phase : Phase)
-          → Q (send_message_in s ttl order bytes phase).after.sending.blocks.first
-      asks-acked ttl order bytes phase.Connected =
+      asks-acked : (ttl : Option ℕ) (order : Bool) (bytes : List ℕ) (link : Link)
+          → Q (send_message_in s ttl order bytes link).after.sending.blocks.first
+      asks-acked ttl order bytes Stands =
           still (after_send_message s.sending s.last ttl order bytes) (message-first s.sending s.last ttl order bytes)
-      asks-acked ttl order bytes (phase.Broken why) = is
-      asks-acked ttl order bytes phase.Closing = is
-      asks-acked ttl order bytes phase.Closed = is
+      asks-acked ttl order bytes (Lost why) = is
+      asks-acked ttl order bytes Absent = is
 
       ask_as-acked : (ttl : Option ℕ) (order : Bool) (bytes : List ℕ) (k : Kind)
           → Q (send_message_as s ttl order bytes k).after.sending.blocks.first
       ask_as-acked ttl order bytes kind.Stream = is
-      ask_as-acked ttl order bytes kind.Message = asks-acked ttl order bytes s.phase
+      ask_as-acked ttl order bytes kind.Message = asks-acked ttl order bytes (link_of s.phase)
 
-      shows-acked : (room : ℕ) (phase : Phase) → Q (recv_message_in s room phase).after.sending.blocks.first
-      shows-acked room phase.Connected = is
-      shows-acked room (phase.Broken why) = is
-      shows-acked room phase.Closing = is
-      shows-acked room phase.Closed = is
+      shows-acked : (room : ℕ) (link : Link) → Q (recv_message_in s room link).after.sending.blocks.first
+      shows-acked room Stands = is
+      shows-acked room (Lost why) = is
+      shows-acked room Absent = is
 
       show_as-acked : (room : ℕ) (k : Kind) → Q (recv_message_as s room k).after.sending.blocks.first
       show_as-acked room kind.Stream = is
-      show_as-acked room kind.Message = shows-acked room s.phase
+      show_as-acked room kind.Message = shows-acked room (link_of s.phase)
 
       packed-acked : (p : Packing) → Q (packed_so w s p).after.sending.blocks.first
       packed-acked (Waits until) = is
@@ -131,11 +129,10 @@ module _ {C : Type 0} (w : Ways C) where
       packed-acked (Sends block) = is
       packed-acked Idles = is
 
-      packs-acked : (phase : Phase) → Q (pack_in w s phase).after.sending.blocks.first
-      packs-acked phase.Connected = packed-acked (packing w s.sending s.last)
-      packs-acked (phase.Broken why) = is
-      packs-acked phase.Closing = is
-      packs-acked phase.Closed = is
+      packs-acked : (link : Link) → Q (pack_in w s link).after.sending.blocks.first
+      packs-acked Stands = packed-acked (packing w s.sending s.last)
+      packs-acked (Lost why) = is
+      packs-acked Absent = is
 
       silent-acked : (what : ExpOutcome) → Q (after_exp w (after_reports s) what).sending.blocks.first
       silent-acked exp.NotDue = is
@@ -143,11 +140,16 @@ module _ {C : Type 0} (w : Ways C) where
       silent-acked exp.LosesAll = still (after_timeout w s.sending s.rtt) (timeout-first s.sending s.rtt)
       silent-acked exp.KeepsAlive = is
 
+      repeats-acked : (began again : ℕ) (next : Phase) (emission : Emission) → Q (repeats s began again next emission).after.sending.blocks.first
+      repeats-acked began again next emission =
+          repeats-show s began again next emission (λ outcome. Q outcome.after.sending.blocks.first) (record { fails = is; again = is; waits = is })
+
       ticks-acked : (phase : Phase) → Q (tick_in w s phase).after.sending.blocks.first
       ticks-acked phase.Connected = silent-acked (exp_outcome s)
-      ticks-acked (phase.Broken why) = is
+      ticks-acked (phase.Connecting c again) = repeats-acked c.caller.began again _ _
+      ticks-acked (phase.Meeting m again) = repeats-acked m.caller.began again _ _
       ticks-acked phase.Closing = is
-      ticks-acked phase.Closed = is
+      ticks-acked _ = is
 
       reads-acked : (from : Addr) (bytes : List ℕ) (result : Result Packet Malformed) → read bytes ≡ result → AcksAct Q s (Arrive from bytes)
           → Q (on_read w s from result).after.sending.blocks.first
@@ -163,6 +165,9 @@ module _ {C : Type 0} (w : Ways C) where
             reported = λ stamp ranges connected sender said. still (after_nak w s.sending s.rtt ranges) (nak-first s.sending s.rtt ranges);
             confirmed = λ number ack connected found. is;
             ended = λ connected. is;
+            again = λ stamp dest shake answer connected sender said same answers. is;
+            shaken = λ next peer origin answer emissions differs drops unsettled said. is;
+            linked = λ peer origin emissions unsettled said. is;
           })
 
       acts-acked : (act : Act) → AcksAct Q s act → Q (on_act w s act).after.sending.blocks.first
@@ -170,11 +175,10 @@ module _ {C : Type 0} (w : Ways C) where
       acts-acked (Recv room) meets = recv_as-acked room s.kind
       acts-acked (SendMessage ttl order bytes) meets = ask_as-acked ttl order bytes s.kind
       acts-acked (RecvMessage room) meets = show_as-acked room s.kind
-      acts-acked Pack meets = packs-acked s.phase
+      acts-acked Pack meets = packs-acked (link_of s.phase)
       acts-acked Tick meets = ticks-acked s.phase
-      acts-acked Close meets = is
-      acts-acked Measure meets = is
       acts-acked (Arrive from bytes) meets = reads-acked from bytes (read bytes) refl meets
+      acts-acked _ meets = is
 
     step-acked : (s : State C) (event : Event) → AcksAct Q s event.act → Q s.sending.blocks.first → Q (step w s event).after.sending.blocks.first
     unfolding step

@@ -4,31 +4,27 @@ use Rattle.std.specs.List.{Contains}
 use Rattle.std.proofs.lemmas.Bool.{or_left, or_right}
 use Rattle.std.proofs.lemmas.List.Folds.{list_any-append}
 use Rattle.udt_model.specs.declared.packets.Kind.TheVariants.{Stream}
-use Rattle.udt_model.specs.declared.answers.Peer.{Peer}
 use Rattle.udt_model.specs.declared.packets.AckBody.{AckBody}
-use Rattle.udt_model.specs.declared.packets.Config.{Config}
 use Rattle.udt_model.specs.Emissions.{emitted}
 use Rattle.udt_model.specs.Events.{Act, Reply, at_moment}
 use Rattle.udt_model.specs.History.{Item, History, start_of, after_items, IsLegal, placed_offsets, dropped_offsets}
 use Rattle.udt_model.specs.Numbers.{sequence_number}
-use Rattle.udt_model.specs.Opening.{opening}
 use Rattle.udt_model.specs.Rate.{Ways}
-use Rattle.udt_model.specs.Records.{Way, PairedAt, opened_by, IsWay}
 use Rattle.udt_model.specs.ReceiveHalf.{after_block}
 use Rattle.udt_model.specs.ReceiveReports.{ack_offset, full_ack, light_ack}
 use Rattle.udt_model.specs.SendReports.{acked_number}
 use Rattle.udt_model.specs.State.{State, Emission}
 use Rattle.udt_model.specs.Wire.{Ack, read}
-use Rattle.udt_model.proofs.EmissionLemmas.{Emitting, NewBlock, LostBlock, DropRequest, FullAck, LightAck, Reports, ReportsGap, ReportsDropGap, AnswersAck, SendsKeepAlive, TheEnd}
+use Rattle.udt_model.proofs.EmissionLemmas.{Emitting, NewBlock, LostBlock, DropRequest, FullAck, LightAck, Reports, ReportsGap, ReportsDropGap, AnswersAck, SendsKeepAlive, TheEnd, SendsHandshake}
 use Rattle.udt_model.proofs.HalfLemmas.{after_block-keeps}
 use Rattle.udt_model.proofs.TickLemmas.{ack_outcome-tells}
-use Rattle.udt_laws.proofs.sockets.Opened.{opened_start}
+use Rattle.udt_laws.proofs.sockets.Begins.{Begins, begins_base, begins_top}
 use Rattle.udt_laws.proofs.acked_has_arrived.CountsWithoutGap.{IsAmong, AllBetween}
 use Rattle.udt_laws.proofs.acked_has_arrived.BelowGapWasPlaced.{Covers, ack_emitted-covered}
 use Rattle.udt_laws.proofs.acked_has_arrived.EventsPlace.{EventMeets, ItemsMeet, items-covers, carried-covers, item-meets}
 use Rattle.udt_laws.proofs.sent_blocks.EmissionsRead.{packet_of}
 use Rattle.udt_laws.proofs.sent_blocks.ReportsFit.{ReportsFit, block-fits}
-use Rattle.udt_laws.proofs.sent_blocks.SentBlocks.{same-packet, moment-at, way-begins, emission-at, emission-reads}
+use Rattle.udt_laws.proofs.sent_blocks.SentBlocks.{same-packet, moment-at, begins-well, emission-at, emission-reads}
 
 -- the datagram names one offset, which has this sequence number, and all from the start on and before it meet this
 pub record TellsOf (P : ℕ → Type 0) (start isn : ℕ) (emission : Emission) (number : ℕ) : Type 0 where
@@ -79,6 +75,7 @@ module _ {C : Type 0} (w : Ways C) where
   emitting-tells P start s act reply emission (AnswersAck number' connected is) number stamp dest body fits covers meets same = absurd (cc)
   emitting-tells P start s act reply emission (SendsKeepAlive connected is) number stamp dest body fits covers meets same = absurd (cc)
   emitting-tells P start s act reply emission (TheEnd closing is) number stamp dest body fits covers meets same = absurd (cc)
+  emitting-tells P start s act reply emission (SendsHandshake to dest' shake sends is) number stamp dest body fits covers meets same = absurd (cc)
 
   -- a block of this offset was placed in this history
   abbrev pub HasPlaced : History C → ℕ → Type 0
@@ -98,30 +95,26 @@ module _ {C : Type 0} (w : Ways C) where
   }
 
   -- a history knows of no offset when it begins
-  opening-covers : (P : ℕ → Type 0) (own : ℕ) (config : Config) (peer : Peer) (now start : ℕ) → Covers P start (opening w own config peer now start).receiving
-  unfolding opening
-  opening-covers P own config peer now start = record { begun = omega arith; there = λ n low high none. absurd (omega (arith, low, high)) }
-
-  way-covers : (P : ℕ → Type 0) (own : ℕ) (way : Way) (h : History C) → h.opening ≡ opened_by w own way → Covers P (start_of h) h.opening.receiving
-  way-covers P own (PairedAt config peer now start) h opened =
-      subst (λ (n : ℕ). Covers P n h.opening.receiving) (sym (opened_start w own config peer now start h opened))
-      (subst (λ (s : State C). Covers P start s.receiving) (sym opened) (opening-covers P own config peer now start))
+  pub begins-covers : (P : ℕ → Type 0) (h : History C) → Begins w h → Covers P (start_of h) h.opening.receiving
+  begins-covers P h begins = record {
+    begun = omega (arith, begins_base w h begins);
+    there = λ n low high none. absurd (omega (arith, low, high, begins_top w h begins));
+  }
 
   -- so what it emits and is read as an ACK tells of what all that it places and drops meets
-  pub history-tells : (P : ℕ → Type 0) (own : ℕ) (way : Way) (h : History C) → IsWay own way → h.opening ≡ opened_by w own way → IsLegal w h
-      → ItemsMeet w P h.opening h.items
+  pub history-tells : (P : ℕ → Type 0) (h : History C) → Begins w h → ItemsMeet w P h.opening h.items
       → (emission : Emission) (number stamp dest : ℕ) (body : AckBody) → Contains (emitted w h) emission
       → read emission.datagram.bytes ≡ Ok (Ack number stamp dest body)
       → TellsOf P (start_of h) h.opening.receiving.isn emission (acked_number body)
-  history-tells P own way h in_range opened legal meet emission number stamp dest body among reads =
-      let at = emission-at w own way h in_range opened legal emission among in
-      let spelled = emission-reads w own way h in_range opened legal emission at in
+  history-tells P h begins meet emission number stamp dest body among reads =
+      let at = emission-at w h begins emission among in
+      let spelled = emission-reads w h begins emission at in
       let there = after_items w h.opening at.front in
-      let moment = moment-at w own way h in_range opened legal emission at in
-      let here_legal = subst (λ (items : List Item). IsLegal w (record { opening = h.opening; items = items })) at.joined legal in
+      let moment = moment-at w h begins emission at in
+      let here_legal = subst (λ (items : List Item). IsLegal w (record { opening = h.opening; items = items })) at.joined begins.legal in
       let all_meet = subst (ItemsMeet w P h.opening) at.joined meet in
       let covers = items-covers w P (start_of h) h.opening at.front (at.item ∷ at.rest) here_legal all_meet
-      (way-begins w own way h in_range opened).reports (way-covers P own way h opened) in
+      (begins-well w h begins).reports (begins-covers P h begins) in
       let meets = item-meets w P h.opening at.front at.item at.rest here_legal all_meet in
       subst (λ (isn : ℕ). TellsOf P (start_of h) isn emission (acked_number body)) moment.receiving_isn
       (emitting-tells P (start_of h) (at_moment there at.item.event.now) at.item.event.act _ emission at.emitting number stamp dest body

@@ -22,7 +22,7 @@ use Rattle.udt_model.specs.Wire.{Packet, Block, DropAsk, read}
 use Rattle.udt_model.proofs.ArrivalLemmas.{arrival-shows}
 use Rattle.udt_model.proofs.ReceivingLemmas.{offset_of-some}
 use Rattle.udt_model.proofs.ReceivingSteps.{receiving-shows}
-use Rattle.udt_model.proofs.StepLemmas.{step-keeps}
+use Rattle.udt_model.proofs.StepLemmas.{step-keeps_name}
 use Rattle.udt_laws.proofs.acked_has_arrived.CountsWithoutGap.{IsAmong}
 use Rattle.udt_laws.proofs.acked_has_arrived.BelowGapWasPlaced.{Covers, placed_by_placing, receive-covers, block-covers, show-covers, taken-covers, reports-cover, ack2-covers}
 use Rattle.udt_laws.proofs.sent_blocks.ReportsFit.{ReportsFit, step-fits}
@@ -110,7 +110,7 @@ module _ {C : Type 0} (w : Ways C) (P : ℕ → Type 0) where
   unfolding placed_from dropped_from
   others-meet s item items meets = record {
     placed = λ n among. meets.placed n (list_any-append _ (placed_by s item.event.act item.reply) _ ∙ or_right _ _ among);
-    dropped = λ messages n among. meets.dropped (sym (step-keeps w s item.event).kind ∙ messages) n
+    dropped = λ messages n among. meets.dropped (sym (step-keeps_name w s item.event).kind ∙ messages) n
         (list_any-append _ (dropped_by s item.event.act item.reply) _ ∙ or_right _ _ among);
   }
 
@@ -146,6 +146,9 @@ module _ {C : Type 0} (w : Ways C) (P : ℕ → Type 0) (start : ℕ) where
         reported = λ stamp ranges connected sender is placed dropped. covers;
         confirmed = λ number ack connected found placed dropped. ack2-covers P start s.receiving number covers;
         ended = λ connected placed dropped. covers;
+        again = λ stamp dest shake answer connected sender is same answers placed dropped. covers;
+        shaken = λ next peer origin answer emissions differs drops unsettled is placed dropped. covers;
+        linked = λ peer origin emissions unsettled is placed dropped. record { begun = covers.begun; there = covers.there };
       }) placed dropped
 
   -- no other event places or drops anything
@@ -159,6 +162,7 @@ module _ {C : Type 0} (w : Ways C) (P : ℕ → Type 0) (start : ℕ) where
     drops = λ now from raw message stamp first last range is sender reads messages taken. absurd (other from raw is);
     tells = λ now known. reports-cover P start s.receiving now known covers;
     confirms = λ number. ack2-covers P start s.receiving number covers;
+    links = λ now peer unsettled. record { begun = covers.begun; there = covers.there };
   })
 
   act-covers : (s : State C) (now : ℕ) (act : Act) → ReportsFit s.receiving

@@ -2,8 +2,8 @@
 use Rattle.std.proofs.Common.{◌≡◌, ◌∙◌, ℕ, List, [], ◌∷◌, ◌++◌, Some, Ok, refl, sym, subst}
 use Rattle.std.proofs.lemmas.List.{append_assoc, append-nil}
 use Rattle.udt_model.specs.declared.addresses.Addr.{Addr}
-use Rattle.udt_model.specs.declared.answers.Phase.{Phase}
-use Rattle.udt_model.specs.declared.answers.Phase.TheVariants as phase
+use Rattle.udt_model.specs.Phases.{Phase, Link, Stands, Lost, Absent, link_of}
+use Rattle.udt_model.specs.Phases as phase
 use Rattle.udt_model.specs.declared.answers.Refusal.TheVariants as refusal
 use Rattle.udt_model.specs.declared.packets.Flags.{Flags}
 use Rattle.udt_model.specs.declared.packets.Kind.{Kind}
@@ -12,18 +12,20 @@ use Rattle.udt_model.specs.declared.sockets.ExpOutcome.{ExpOutcome}
 use Rattle.udt_model.specs.declared.sockets.ExpOutcome.TheVariants as exp
 use Rattle.udt_model.specs.Arrivals.{on_read}
 use Rattle.udt_model.specs.Calls.{send_in, send_as, recv_in, recv_as, send_message_as, recv_message_as, pack_in}
-use Rattle.udt_model.specs.Events.{Act, Send, Recv, SendMessage, RecvMessage, Pack, Tick, Close, Measure, Arrive, Event, Outcome, at_moment}
+use Rattle.udt_model.specs.Connections.{repeats}
+use Rattle.udt_model.specs.Events.{Act, Send, Recv, SendMessage, RecvMessage, Pack, Tick, Arrive, Event, Outcome, at_moment}
 use Rattle.udt_model.specs.History.{Item, given_by, delivered_by, after_items, AreLegal}
 use Rattle.udt_model.specs.Numbers.{near}
 use Rattle.udt_model.specs.Rate.{Ways}
 use Rattle.udt_model.specs.ReceiveBlocks.{ReceiveBlocks}
-use Rattle.udt_model.specs.State.{State}
+use Rattle.udt_model.specs.State.{State, Emission}
 use Rattle.udt_model.specs.Step.{on_act, step}
 use Rattle.udt_model.specs.Ticks.{exp_outcome, after_exp, after_reports, tick_in}
 use Rattle.udt_model.specs.Wire.{Block, read}
 use Rattle.std.specs.Prelude.{Bool, Option}
 use Rattle.udt_model.proofs.ArrivalLemmas.{arrival-shows}
-use Rattle.udt_model.proofs.StepLemmas.{step-keeps}
+use Rattle.udt_model.proofs.PhaseLemmas.{repeats-show}
+use Rattle.udt_model.proofs.StepLemmas.{step-keeps_name}
 use Rattle.udt_laws.proofs.delivered_is_carried.ReportsLeave.{reports-leave, ack2-leaves}
 use Rattle.udt_laws.proofs.delivered_is_carried.GivenIsOfBlocks.{Kept, keep-receive, keep-arrival, IsPrefixOf, kept-front}
 
@@ -60,24 +62,22 @@ module _ {C : Type 0} (w : Ways C) where
     nothing : Kept P start s.receiving.blocks (got ++ [])
     nothing = keep-none P start s.receiving.blocks got kept
 
-    keep-send : (bytes : List ℕ) (phase : Phase) → Keeps P start got (send_in s bytes phase)
-    keep-send bytes phase.Connected = nothing
-    keep-send bytes (phase.Broken why) = nothing
-    keep-send bytes phase.Closing = nothing
-    keep-send bytes phase.Closed = nothing
+    keep-send : (bytes : List ℕ) (link : Link) → Keeps P start got (send_in s bytes link)
+    keep-send bytes Stands = nothing
+    keep-send bytes (Lost why) = nothing
+    keep-send bytes Absent = nothing
 
-    keep-recv : (room : ℕ) (phase : Phase) → Keeps P start got (recv_in s room phase)
-    keep-recv room phase.Connected = keep-receive P start s.receiving got room refusal.AgainRecv kept
-    keep-recv room (phase.Broken why) = keep-receive P start s.receiving got room (refusal.ConnLost why) kept
-    keep-recv room phase.Closing = nothing
-    keep-recv room phase.Closed = nothing
+    keep-recv : (room : ℕ) (link : Link) → Keeps P start got (recv_in s room link)
+    keep-recv room Stands = keep-receive P start s.receiving got room refusal.AgainRecv kept
+    keep-recv room (Lost why) = keep-receive P start s.receiving got room (refusal.ConnLost why) kept
+    keep-recv room Absent = nothing
 
     keep-send_as : (bytes : List ℕ) (k : Kind) → Keeps P start got (send_as s bytes k)
-    keep-send_as bytes kind.Stream = keep-send bytes s.phase
+    keep-send_as bytes kind.Stream = keep-send bytes (link_of s.phase)
     keep-send_as bytes kind.Message = nothing
 
     keep-recv_as : (room : ℕ) (k : Kind) → Keeps P start got (recv_as s room k)
-    keep-recv_as room kind.Stream = keep-recv room s.phase
+    keep-recv_as room kind.Stream = keep-recv room (link_of s.phase)
     keep-recv_as room kind.Message = nothing
 
     keep-send_message : (ttl : Option ℕ) (order : Bool) (bytes : List ℕ) (k : Kind) → s.kind ≡ k
@@ -89,11 +89,10 @@ module _ {C : Type 0} (w : Ways C) where
     keep-recv_message room kind.Stream is = nothing
     keep-recv_message room kind.Message is = absurd (cc)
 
-    keep-pack : (phase : Phase) → Keeps P start got (pack_in w s phase)
-    keep-pack phase.Connected = nothing
-    keep-pack (phase.Broken why) = nothing
-    keep-pack phase.Closing = nothing
-    keep-pack phase.Closed = nothing
+    keep-pack : (link : Link) → Keeps P start got (pack_in w s link)
+    keep-pack Stands = nothing
+    keep-pack (Lost why) = nothing
+    keep-pack Absent = nothing
 
     told : Kept P start (after_reports s).receiving.blocks (got ++ [])
     told = rw ((reports-leave s.receiving s.last s.rtt).blocks) nothing
@@ -104,11 +103,16 @@ module _ {C : Type 0} (w : Ways C) where
     keep-exp exp.LosesAll = told
     keep-exp exp.KeepsAlive = told
 
+    keep-repeats : (began again : ℕ) (next : Phase) (emission : Emission) → Keeps P start got (repeats s began again next emission)
+    keep-repeats began again next emission =
+        repeats-show s began again next emission (Keeps P start got) (record { fails = nothing; again = nothing; waits = nothing })
+
     keep-tick : (phase : Phase) → Keeps P start got (tick_in w s phase)
     keep-tick phase.Connected = keep-exp (exp_outcome s)
-    keep-tick (phase.Broken why) = nothing
+    keep-tick (phase.Connecting c again) = keep-repeats c.caller.began again _ _
+    keep-tick (phase.Meeting m again) = keep-repeats m.caller.began again _ _
     keep-tick phase.Closing = nothing
-    keep-tick phase.Closed = nothing
+    keep-tick _ = nothing
 
     keep-on_read : (from : Addr) (bytes : List ℕ) → MeetsAct P s (Arrive from bytes) → Keeps P start got (on_read w s from (read bytes))
     keep-on_read from bytes meets = arrival-shows w s from (Keeps P start got) (read bytes) (record {
@@ -123,6 +127,9 @@ module _ {C : Type 0} (w : Ways C) where
       reported = λ stamp ranges connected sender is. nothing;
       confirmed = λ number ack connected found. rw ((ack2-leaves s.receiving number).blocks) nothing;
       ended = λ connected. nothing;
+      again = λ stamp dest shake answer connected sender is same answers. nothing;
+      shaken = λ next peer origin answer emissions differs drops unsettled is. nothing;
+      linked = λ peer origin emissions unsettled is. nothing;
     })
 
     keep-act : (act : Act) → MeetsAct P s act → Keeps P start got (on_act w s act)
@@ -130,11 +137,10 @@ module _ {C : Type 0} (w : Ways C) where
     keep-act (Recv room) meets = keep-recv_as room s.kind
     keep-act (SendMessage ttl order bytes) meets = keep-send_message ttl order bytes s.kind refl
     keep-act (RecvMessage room) meets = keep-recv_message room s.kind refl
-    keep-act Pack meets = keep-pack s.phase
+    keep-act Pack meets = keep-pack (link_of s.phase)
     keep-act Tick meets = keep-tick s.phase
-    keep-act Close meets = nothing
-    keep-act Measure meets = nothing
     keep-act (Arrive from bytes) meets = keep-on_read from bytes meets
+    keep-act _ meets = nothing
 
   module _ (P : ℕ → List ℕ → Type 0) (start : ℕ) where
     keep-step : (s : State C) (got : List ℕ) (event : Event) → s.kind ≡ kind.Stream → MeetsAct P s event.act → Kept P start s.receiving.blocks got
@@ -153,7 +159,7 @@ module _ {C : Type 0} (w : Ways C) where
         let next = (step w s item.event).after in
         let after = keep-step s got item.event stream meets.0 kept in
         let given = subst (λ reply. Kept P start next.receiving.blocks (got ++ given_by reply)) (sym legal.0) after in
-        let all = keep-items next items (got ++ given_by item.reply) ((step-keeps w s item.event).kind ∙ stream) legal.2 meets.1 given in
+        let all = keep-items next items (got ++ given_by item.reply) ((step-keeps_name w s item.event).kind ∙ stream) legal.2 meets.1 given in
         subst (Kept P start (after_items w next items).receiving.blocks)
         (append_assoc got (given_by item.reply) (delivered_by items)) all
 

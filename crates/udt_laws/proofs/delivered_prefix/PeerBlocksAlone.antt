@@ -1,5 +1,5 @@
 -- A socket whose peer's datagrams alone arrive delivers a prefix of what the peer accepted.
-use Rattle.std.proofs.Common.{◌≡◌, ℕ, zero, suc, ◌+◌, ◌-◌, List, [], ◌∷◌, ◌++◌, drop, Some, Ok, refl, ap, ◌∙◌, sym, subst, arith}
+use Rattle.std.proofs.Common.{◌≡◌, ℕ, zero, suc, ◌+◌, ◌-◌, List, [], ◌∷◌, ◌++◌, drop, Some, Ok, refl, ap, ◌∙◌, sym, subst, true, arith}
 use Rattle.std.specs.Prelude.{slice_get}
 use Rattle.std.specs.List.{Contains, concat}
 use Rattle.std.proofs.lemmas.Option.{same_Some}
@@ -7,26 +7,25 @@ use Rattle.std.proofs.lemmas.List.{append_assoc}
 use Rattle.std.proofs.lemmas.List.Elements.{Contains-push}
 use Rattle.udt_model.specs.declared.packets.Kind.TheVariants.{Stream}
 use Rattle.udt_model.specs.declared.answers.Peer.{Peer}
-use Rattle.udt_model.specs.declared.packets.Config.{Config}
 use Rattle.udt_model.specs.declared.packets.Flags.{Flags}
 use Rattle.udt_model.specs.Numbers.{sequence_number, near}
 use Rattle.udt_model.specs.Wire.{Block, read}
-use Rattle.udt_model.specs.Opening.{opening}
-use Rattle.udt_model.specs.History.{History, state_of, start_of, IsLegal, accepted, delivered}
+use Rattle.udt_model.specs.History.{History, state_of, start_of, accepted, delivered}
 use Rattle.udt_model.specs.declared.addresses.Addr.{Addr}
-use Rattle.udt_model.specs.Records.{Way, PairedAt, opened_by, IsWay, ArePaired}
 use Rattle.udt_model.specs.Emissions.{IsPrefix}
 use Rattle.udt_model.specs.Rate.{Ways}
 use Rattle.udt_model.specs.State.{Emission}
 use Rattle.udt_model.proofs.NearLemmas.{near-is}
+use Rattle.udt_model.proofs.PhaseLemmas.{is_settled}
 use Rattle.udt_model.proofs.ReceivingLemmas.{AllFrom, concat-append}
 use Rattle.udt_laws.specs.Laws.{HasBlocks}
 use Rattle.udt_laws.proofs.delivered_is_carried.GivenIsOfBlocks.{IsPrefixOf}
 use Rattle.udt_laws.proofs.delivered_is_carried.DeliversPlacedBlocks.{AllMeet, delivers-front_of}
-use Rattle.udt_laws.proofs.sockets.Opened.{opened_own, opened_peer, opened_receiving, opened_start, opened_top, opened_base, opened_placed, last_peer, last_isn}
+use Rattle.udt_laws.proofs.sockets.Begins.{Begins, begins_settled, begins_receiving, begins_top, begins_base, begins_placed, last_peer, last_isn}
+use Rattle.udt_laws.proofs.sockets.Opened.{AreConnected}
 use Rattle.udt_laws.proofs.sockets.OneSocket.{IsEmittedNear}
 use Rattle.udt_laws.proofs.delivered_prefix.WindowRises.{IsWithin}
-use Rattle.udt_laws.proofs.delivered_is_carried.DeliveredIsCarried.{opened_kept}
+use Rattle.udt_laws.proofs.delivered_is_carried.DeliveredIsCarried.{begins_given_none}
 use Rattle.udt_laws.proofs.sent_blocks.SentBlocks.{has_blocks}
 
 -- a block at its place in a list begins what stands from there on
@@ -85,19 +84,20 @@ module _ {C : Type 0} (w : Ways C) where
         )
 
     -- a socket that begins where the sender does, and places only its blocks, delivers a front of what it accepted
-    pub delivers-front : (own : ℕ) (config : Config) (peer : Peer) (now start : ℕ) (h : History C) → h.opening ≡ opening w own config peer now start
-        → IsLegal w h → start_of g ≡ start → h.opening.kind ≡ Stream → AllMeet w IsBlockAt h.opening h.items → IsPrefix (delivered h) (accepted g)
-    delivers-front own config peer now start h opened legal same_start stream meets =
-        let front = delivers-front_of w IsBlockAt start h.opening h.items stream legal meets
-        (opened_kept w own config peer now start h opened legal IsBlockAt) in
+    pub delivers-front : (h : History C) → Begins w h → start_of g ≡ start_of h → h.opening.kind ≡ Stream → AllMeet w IsBlockAt h.opening h.items
+        → IsPrefix (delivered h) (accepted g)
+    delivers-front h begins same_start stream meets =
+        let front = delivers-front_of w IsBlockAt (start_of h) h.opening h.items stream begins.legal meets
+        (begins_given_none w IsBlockAt h begins) in
         front-accepted (delivered h) (subst (λ (n : ℕ). IsPrefixOf IsBlockAt n (delivered h)) (sym same_start) front)
 
-  -- ---- pairs
+  -- ---- histories that begin as connected to each other
 
   -- two sockets name each other as peer, count from one initial sequence number and one offset, and the one delivers a front of
   -- what the other accepted where it places only its blocks
   pub record AreMates (addr : Addr) (own : ℕ) (h : History C) (other_addr : Addr) (other_own : ℕ) (g : History C) : Type 0 where
     pub has : HasBlocks w g
+    pub settled : is_settled h.opening.phase ≡ true
     pub own_is : h.opening.own ≡ own
     pub peer_addr : h.opening.peer.addr ≡ other_addr
     pub back_addr : (state_of w g).peer.addr ≡ addr
@@ -107,28 +107,29 @@ module _ {C : Type 0} (w : Ways C) where
     pub stands : IsWithin (start_of h) (start_of h) h.opening.receiving
     pub front : h.opening.kind ≡ Stream → AllMeet w (IsBlockAt g has) h.opening h.items → IsPrefix (delivered h) (accepted g)
 
-  pub mates : (addr : Addr) (own : ℕ) (way : Way) (h : History C) (other_addr : Addr) (other_own : ℕ) (other_way : Way) (g : History C)
-      → ArePaired addr own way other_addr other_own other_way → h.opening ≡ opened_by w own way → IsLegal w h
-      → IsWay other_own other_way → g.opening ≡ opened_by w other_own other_way → IsLegal w g → AreMates addr own h other_addr other_own g
-  mates addr own (PairedAt config peer now start) h other_addr other_own (PairedAt other_config other_peer other_now other_start) g paired opened legal in_range other_opened other_legal =
-      let has = has_blocks w other_own (PairedAt other_config other_peer other_now other_start) g in_range other_opened other_legal in
-      let peer_is = opened_peer w own config peer now start h opened in
-      let back_is = last_peer w other_own other_config other_peer other_now other_start g other_opened in
-      let start_is = opened_start w other_own other_config other_peer other_now other_start g other_opened ∙ paired.6 in
+  -- a receiving half that begins stands where its direction begins
+  stands-begun : (h : History C) → Begins w h → IsWithin (start_of h) (start_of h) h.opening.receiving
+  stands-begun h begins = record {
+    not_below = omega (arith, begins_base w h begins);
+    base = omega (arith, begins_base w h begins, begins_top w h begins);
+    placed = rw (begins_placed w h begins) tt;
+    not_above = omega (arith, begins_top w h begins);
+  }
+
+  pub mates : (addr : Addr) (own : ℕ) (h : History C) (other_addr : Addr) (other_own : ℕ) (g : History C)
+      → AreConnected w addr own h other_addr other_own g → AreMates addr own h other_addr other_own g
+  mates addr own h other_addr other_own g are =
+      let has = has_blocks w g are.other_begins in
+      let back_is = last_peer w g are.other_begins in
       record {
         has = has;
-        own_is = opened_own w own config peer now start h opened;
-        peer_addr = ap (λ (p : Peer). p.addr) peer_is ∙ paired.0;
-        back_addr = ap (λ (p : Peer). p.addr) back_is ∙ paired.2;
-        back_id = ap (λ (p : Peer). p.id) back_is ∙ paired.3;
-        same_isn = last_isn w other_own other_config other_peer other_now other_start g other_opened ∙ paired.5
-            ∙ sym (opened_receiving w own config peer now start h opened);
-        same_start = start_is ∙ sym (opened_start w own config peer now start h opened);
-        stands = subst (λ (n : ℕ). IsWithin n n h.opening.receiving) (sym (opened_start w own config peer now start h opened)) (record {
-          not_below = omega (arith, opened_base w own config peer now start h opened);
-          base = omega (arith, opened_base w own config peer now start h opened, opened_top w own config peer now start h opened);
-          placed = rw (opened_placed w own config peer now start h opened) tt;
-          not_above = omega (arith, opened_top w own config peer now start h opened);
-        });
-        front = delivers-front g has own config peer now start h opened legal start_is;
+        settled = begins_settled w h are.begins;
+        own_is = are.own_is;
+        peer_addr = are.peer_addr;
+        back_addr = ap (λ (p : Peer). p.addr) back_is ∙ are.back_addr;
+        back_id = ap (λ (p : Peer). p.id) back_is ∙ are.back_id;
+        same_isn = last_isn w g are.other_begins ∙ sym are.isn ∙ sym (begins_receiving w h are.begins);
+        same_start = are.same_start;
+        stands = stands-begun h are.begins;
+        front = delivers-front g has h are.begins are.same_start;
       }

@@ -47,7 +47,7 @@ module _ (low high : ℕ) where
   put-below b offset top flags bytes placing.Above is less below = below
   put-below b offset top flags bytes placing.Double is less below = below
 
-  put-base : (b : ReceiveBlocks) (block : PlacedBlock) (p : Placed) → (after_placing_of b block p).base ≡ b.base
+  pub put-base : (b : ReceiveBlocks) (block : PlacedBlock) (p : Placed) → (after_placing_of b block p).base ≡ b.base
   put-base b block placing.New = refl
   put-base b block placing.Below = refl
   put-base b block placing.Above = refl
@@ -140,4 +140,6 @@ module _ {C : Type 0} (w : Ways C) where
     drops = λ now from raw message stamp first last range is sender reads messages taken. absurd (cc);
     tells = λ now known. reports-within low high s.receiving now known within;
     confirms = λ number. ack2-within low high s.receiving number within;
+    links = λ now peer unsettled.
+        record { not_below = within.not_below; base = within.base; placed = within.placed; not_above = within.not_above };
   })

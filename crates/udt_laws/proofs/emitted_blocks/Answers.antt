@@ -1,5 +1,5 @@
 -- The law is proved beside the lemmas on which it stands.
-use Rattle.udt_laws.proofs.sent_blocks.SentBlocks.{emitted_blocks}
+use Rattle.udt_laws.proofs.sent_blocks.SocketsSend.{emitted_blocks}
 use Rattle.udt_laws.proofs.emitted_blocks.Goals as goal
 
 pub returns : goal.returns

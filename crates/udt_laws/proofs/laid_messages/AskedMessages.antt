@@ -6,7 +6,7 @@ use Rattle.udt_model.specs.Rate.{Ways}
 use Rattle.udt_laws.specs.Laws.{WasAsked}
 use Rattle.udt_laws.proofs.laid_messages.Layout.{LaidMessage, asked_as}
 use Rattle.udt_laws.proofs.laid_messages.LayoutEnds.{same-first}
-use Rattle.udt_laws.proofs.laid_messages.Members.{first-contained, other-contained, none-contained, contained-cases}
+use Rattle.udt_model.proofs.Members.{first-contained, other-contained, none-contained, contained-cases}
 use Rattle.udt_laws.proofs.laid_messages.SentMessages.{SendsMessages}
 
 -- one of the messages is the one that was asked

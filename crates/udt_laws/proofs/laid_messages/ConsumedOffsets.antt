@@ -5,7 +5,7 @@ use Rattle.std.specs.List.{Contains}
 use Rattle.std.proofs.lemmas.Bool.{true≢false, cases_lt, cases_eq, cases_Bool}
 use Rattle.udt_model.specs.ReceiveBlocks.{PlacedBlock, ReceiveBlocks, put_block, consumed_at, with_consumed, beginning, given_after, after_consuming}
 use Rattle.udt_model.proofs.ReceivingLemmas.{AreRising, AreApart}
-use Rattle.udt_laws.proofs.laid_messages.Members.{first-contained, other-contained, none-contained, contained-cases}
+use Rattle.udt_model.proofs.Members.{first-contained, other-contained, none-contained, contained-cases}
 use Rattle.udt_laws.proofs.laid_messages.PlacedBlocks.{put-keeps, put-only, consumed-own, consumed-keeps, consumed-only, consumed-rising, MovesOn, beginning-moves}
 
 -- at this offset stands a block that is consumed

@@ -3,8 +3,7 @@ use Rattle.std.proofs.Common.{◌≡◌, ℕ, zero, suc, ◌-◌, ◌≤◌, Boo
 use Rattle.std.specs.Prelude.{Option, Result, nat_lt, if◌then◌else◌}
 use Rattle.std.proofs.lemmas.Bool.{cases_Bool}
 use Rattle.std.proofs.lemmas.List.{append_assoc, append-nil, take_all}
-use Rattle.udt_model.specs.declared.answers.Phase.{Phase}
-use Rattle.udt_model.specs.declared.answers.Phase.TheVariants as phase
+use Rattle.udt_model.specs.Phases.{Link, Stands, Lost, Absent, link_of}
 use Rattle.udt_model.specs.declared.answers.SendNo.{SendNo}
 use Rattle.udt_model.specs.declared.answers.SendNo.TheVariants as no
 use Rattle.udt_model.specs.declared.packets.AckBody.{AckBody}
@@ -12,7 +11,7 @@ use Rattle.udt_model.specs.declared.packets.AckBody.TheVariants.{Light, Buffer, 
 use Rattle.udt_model.specs.declared.packets.Kind.{Kind}
 use Rattle.udt_model.specs.declared.packets.Kind.TheVariants as kind
 use Rattle.udt_model.specs.Calls.{taken_as, send_message_in, send_message_as}
-use Rattle.udt_model.specs.Events.{Act, Send, Recv, SendMessage, RecvMessage, Pack, Tick, Close, Measure, Arrive, event, Reply, SentMessage, at_moment}
+use Rattle.udt_model.specs.Events.{Act, SendMessage, event, Reply, SentMessage, at_moment}
 use Rattle.udt_model.specs.History.{Item, after_items, AreLegal}
 use Rattle.udt_model.specs.Losses.{LostRange}
 use Rattle.udt_model.specs.Rate.{Ways}
@@ -23,6 +22,7 @@ use Rattle.udt_model.specs.State.{State}
 use Rattle.udt_model.specs.Step.{step}
 use Rattle.udt_model.specs.Timing.{RoundTrip}
 use Rattle.udt_model.specs.Wire.{WireRange}
+use Rattle.udt_model.proofs.PhaseLemmas.{is_settled}
 use Rattle.udt_model.proofs.SendingLemmas.{IsCut, acking-acks}
 use Rattle.udt_model.proofs.SendingSteps.{sending-shows}
 use Rattle.udt_model.proofs.StepLemmas.{step-keeps}
@@ -109,23 +109,22 @@ module _ {C : Type 0} (s : State C) (start : ℕ) (messages : List LaidMessage) 
       (answer-whole s.sending (length bytes) n is)
   answered-keeps (Err why) is = none-added s.sending start messages keeps
 
-  asked-keeps : (phase : Phase) → KeepsLaid (send_message_in s ttl order bytes phase).after.sending.blocks start
-      (messages ++ laid_by s (SendMessage ttl order bytes) (send_message_in s ttl order bytes phase).reply)
+  asked-keeps : (link : Link) → KeepsLaid (send_message_in s ttl order bytes link).after.sending.blocks start
+      (messages ++ laid_by s (SendMessage ttl order bytes) (send_message_in s ttl order bytes link).reply)
   unfolding after_send_message
-  asked-keeps phase.Connected = answered-keeps (message_answer s.sending (length bytes)) refl
-  asked-keeps (phase.Broken why) = none-added s.sending start messages keeps
-  asked-keeps phase.Closing = none-added s.sending start messages keeps
-  asked-keeps phase.Closed = none-added s.sending start messages keeps
+  asked-keeps Stands = answered-keeps (message_answer s.sending (length bytes)) refl
+  asked-keeps (Lost why) = none-added s.sending start messages keeps
+  asked-keeps Absent = none-added s.sending start messages keeps
 
   asked_as-keeps : (k : Kind) → KeepsLaid (send_message_as s ttl order bytes k).after.sending.blocks start
       (messages ++ laid_by s (SendMessage ttl order bytes) (send_message_as s ttl order bytes k).reply)
   asked_as-keeps kind.Stream = none-added s.sending start messages keeps
-  asked_as-keeps kind.Message = asked-keeps s.phase
+  asked_as-keeps kind.Message = asked-keeps (link_of s.phase)
 
 -- ---- all events
 
 module _ {C : Type 0} (w : Ways C) (s : State C) (start : ℕ) (messages : List LaidMessage) (blocks : List (List ℕ))
-    (carries : s.kind ≡ kind.Message) (cut : IsCut s.sending start blocks) (keeps : KeepsLaid s.sending.blocks start messages) where
+    (settled : is_settled s.phase ≡ true) (carries : s.kind ≡ kind.Message) (cut : IsCut s.sending start blocks) (keeps : KeepsLaid s.sending.blocks start messages) where
   -- blocks that stay are kept as before
   stay-laid : (b : SendBlocks) → b ≡ s.sending.blocks → KeepsLaid b start messages
   stay-laid b same = subst (λ (c : SendBlocks). KeepsLaid c start messages) (sym same) keeps
@@ -150,35 +149,30 @@ module _ {C : Type 0} (w : Ways C) (s : State C) (start : ℕ) (messages : List 
         acknowledges = λ from raw number stamp body offset is sender reads acks. ack-laid s.rtt body offset acks;
         reports = λ ranges. stay-laid _ (nak-blocks w s.sending s.rtt ranges);
         times_out = stay-laid _ (timeout-blocks w s.sending s.rtt);
+        links = λ peer unsettled. absurd (cc);
       }))
 
   -- each event adds the message that it accepts
   act-keeps : (now : ℕ) (act : Act) → KeepsLaid (step w s (event now act)).after.sending.blocks start
       (messages ++ laid_by (at_moment s now) act (step w s (event now act)).reply)
   unfolding step
-  act-keeps now (Send bytes) = other-keeps now (Send bytes) (λ ttl order bytes is. cc)
-  act-keeps now (Recv room) = other-keeps now (Recv room) (λ ttl order bytes is. cc)
   act-keeps now (SendMessage ttl order bytes) =
       asked_as-keeps (at_moment s now) start messages cut.payload keeps ttl order bytes s.kind
-  act-keeps now (RecvMessage room) = other-keeps now (RecvMessage room) (λ ttl order bytes is. cc)
-  act-keeps now Pack = other-keeps now Pack (λ ttl order bytes is. cc)
-  act-keeps now Tick = other-keeps now Tick (λ ttl order bytes is. cc)
-  act-keeps now Close = other-keeps now Close (λ ttl order bytes is. cc)
-  act-keeps now Measure = other-keeps now Measure (λ ttl order bytes is. cc)
-  act-keeps now (Arrive from raw) = other-keeps now (Arrive from raw) (λ ttl order bytes is. cc)
+  act-keeps now act = other-keeps now act (λ ttl order bytes is. cc)
 
 module _ {C : Type 0} (w : Ways C) where
   -- after all items the messages that they accepted lie after the others
-  pub items-keep : (s : State C) (start : ℕ) (messages : List LaidMessage) (blocks : List (List ℕ)) (items : List Item) → AreLegal w s items
+  pub items-keep : (s : State C) (start : ℕ) (messages : List LaidMessage) (blocks : List (List ℕ)) (items : List Item) → is_settled s.phase ≡ true → AreLegal w s items
       → s.kind ≡ kind.Message → IsCut s.sending start blocks → KeepsLaid s.sending.blocks start messages
       → KeepsLaid (after_items w s items).sending.blocks start (messages ++ laid_from w s items)
   unfolding after_items laid_from AreLegal
-  items-keep s start messages blocks [] legal carries cut keeps = none-added s.sending start messages keeps
-  items-keep s start messages blocks (item ∷ items) legal carries cut keeps =
+  items-keep s start messages blocks [] settled legal carries cut keeps = none-added s.sending start messages keeps
+  items-keep s start messages blocks (item ∷ items) settled legal carries cut keeps =
       let next = (step w s item.event).after in
+      let same = step-keeps w s item.event settled in
       let one = laid_by (at_moment s item.event.now) item.event.act in
       let added = subst (λ (reply : Reply). KeepsLaid next.sending.blocks start (messages ++ one reply)) (sym legal.0)
-      (act-keeps w s start messages blocks carries cut keeps item.event.now item.event.act) in
-      let all = items-keep next start (messages ++ one item.reply) (blocks ++ blocks_of s item.event) items legal.2
-      ((step-keeps w s item.event).kind ∙ carries) (step-cut w start blocks s item.event cut) added in
+      (act-keeps w s start messages blocks settled carries cut keeps item.event.now item.event.act) in
+      let all = items-keep next start (messages ++ one item.reply) (blocks ++ blocks_of s item.event) items
+      (same.settled settled) legal.2 (same.kind ∙ carries) (step-cut w start blocks s item.event settled cut) added in
       subst (KeepsLaid (after_items w next items).sending.blocks start) (append_assoc messages (one item.reply) (laid_from w next items)) all

@@ -3,8 +3,7 @@ use Rattle.std.proofs.Common.{◌≡◌, ℕ, suc, ◌≤◌, true, false, List,
 use Rattle.std.specs.Prelude.{Option, ◌==◌, nat_le, if◌then◌else◌}
 use Rattle.std.proofs.lemmas.Bool.Decides.{nat_tests}
 use Rattle.udt_model.specs.declared.addresses.Addr.{Addr}
-use Rattle.udt_model.specs.declared.answers.Phase.{Phase}
-use Rattle.udt_model.specs.declared.answers.Phase.TheVariants as phase
+use Rattle.udt_model.specs.Phases.{Link, Stands, Lost, Absent, link_of}
 use Rattle.udt_model.specs.declared.answers.Placed.{Placed}
 use Rattle.udt_model.specs.declared.answers.Placed.TheVariants as placing
 use Rattle.udt_model.specs.declared.answers.Refusal.{Refusal}
@@ -156,6 +155,7 @@ module _ (payload start : ℕ) (messages : List LaidMessage) (some : 1 ≤ paylo
               ((subst (MeetsLayout payload messages s) is meets).drops message stamp first last range sender reads taken);
           tells = λ now known. tells-go r kept now known;
           confirms = λ number. confirms-go r kept number;
+          links = λ now peer unsettled. goes-nowhere payload messages r.blocks kept;
         })
 
     -- ---- what an event shows
@@ -179,19 +179,18 @@ module _ (payload start : ℕ) (messages : List LaidMessage) (some : 1 ≤ paylo
         (shown_by s (RecvMessage (suc room)) (gives_message s (suc room) why).reply)
     gives-shows s room why kept = rw (some-room room) (found-shows s room why (next_message s.receiving.blocks) kept refl)
 
-    recv-shows : (s : State C) (room : ℕ) (p : Phase) → IsOfLayout payload messages s.receiving.blocks
-        → StepsSo payload messages s.receiving.blocks (recv_message_in s (suc room) p).after.receiving.blocks
-        (shown_by s (RecvMessage (suc room)) (recv_message_in s (suc room) p).reply)
-    recv-shows s room phase.Connected kept = gives-shows s room refusal.AgainRecv kept
-    recv-shows s room (phase.Broken why) kept = gives-shows s room (refusal.ConnLost why) kept
-    recv-shows s room phase.Closing kept = inl (refl, goes-nowhere payload messages s.receiving.blocks kept)
-    recv-shows s room phase.Closed kept = inl (refl, goes-nowhere payload messages s.receiving.blocks kept)
+    recv-shows : (s : State C) (room : ℕ) (link : Link) → IsOfLayout payload messages s.receiving.blocks
+        → StepsSo payload messages s.receiving.blocks (recv_message_in s (suc room) link).after.receiving.blocks
+        (shown_by s (RecvMessage (suc room)) (recv_message_in s (suc room) link).reply)
+    recv-shows s room Stands kept = gives-shows s room refusal.AgainRecv kept
+    recv-shows s room (Lost why) kept = gives-shows s room (refusal.ConnLost why) kept
+    recv-shows s room Absent kept = inl (refl, goes-nowhere payload messages s.receiving.blocks kept)
 
     recv_as-shows : (s : State C) (room : ℕ) (k : Kind) → IsOfLayout payload messages s.receiving.blocks
         → StepsSo payload messages s.receiving.blocks (recv_message_as s (suc room) k).after.receiving.blocks
         (shown_by s (RecvMessage (suc room)) (recv_message_as s (suc room) k).reply)
     recv_as-shows s room kind.Stream kept = inl (refl, goes-nowhere payload messages s.receiving.blocks kept)
-    recv_as-shows s room kind.Message kept = recv-shows s room s.phase kept
+    recv_as-shows s room kind.Message kept = recv-shows s room (link_of s.phase) kept
 
     receive-shows : (s : State C) (now room : ℕ) → IsOfLayout payload messages s.receiving.blocks
         → StepsSo payload messages s.receiving.blocks (step w s (record { now = now; act = RecvMessage (suc room) })).after.receiving.blocks

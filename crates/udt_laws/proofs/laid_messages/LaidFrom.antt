@@ -2,11 +2,10 @@
 use Rattle.std.proofs.Common.{◌≡◌, ℕ, zero, suc, Bool, List, [], ◌∷◌, ◌++◌, map, Ok, Err, refl, ap, ◌∙◌, sym}
 use Rattle.std.specs.Prelude.{Option}
 use Rattle.std.proofs.lemmas.List.{append_assoc, map-append}
-use Rattle.udt_model.specs.Events.{Act, Send, Recv, SendMessage, RecvMessage, Pack, Tick, Close, Measure, Arrive, Reply, Sent, Received, SentMessage, ReceivedMessage, DidPack, DidTick, DidClose, DidMeasure, DidHear, at_moment}
+use Rattle.udt_model.specs.Events.{Act, SendMessage, Reply, SentMessage, at_moment}
 use Rattle.udt_model.specs.History.{Item, asked_by, asked_from, after_items}
 use Rattle.udt_model.specs.Rate.{Ways}
 use Rattle.udt_model.specs.SendHalf.{expiry_of}
-use Rattle.udt_model.specs.SendReports.{measured}
 use Rattle.udt_model.specs.State.{State}
 use Rattle.udt_model.specs.Step.{step}
 use Rattle.udt_laws.proofs.laid_messages.Layout.{LaidMessage, asked_as}
@@ -22,28 +21,14 @@ module _ {C : Type 0} where
   -- it is the one that was asked
   answered-laid : (s : State C) (now : ℕ) (ttl : Option ℕ) (order : Bool) (bytes : List ℕ) (reply : Reply)
       → asked_by s (SendMessage ttl order bytes) reply ≡ map asked_as (laid_by (at_moment s now) (SendMessage ttl order bytes) reply)
-  answered-laid s now ttl order bytes (Sent taken) = refl
-  answered-laid s now ttl order bytes (Received taken) = refl
   answered-laid s now ttl order bytes (SentMessage (Ok zero)) = refl
   answered-laid s now ttl order bytes (SentMessage (Ok (suc count))) = refl
   answered-laid s now ttl order bytes (SentMessage (Err why)) = refl
-  answered-laid s now ttl order bytes (ReceivedMessage taken) = refl
-  answered-laid s now ttl order bytes (DidPack packed) = refl
-  answered-laid s now ttl order bytes DidTick = refl
-  answered-laid s now ttl order bytes DidClose = refl
-  answered-laid s now ttl order bytes (DidMeasure measured) = refl
-  answered-laid s now ttl order bytes (DidHear heard) = refl
+  answered-laid s now ttl order bytes _ = refl
 
   asked_by-laid : (s : State C) (now : ℕ) (act : Act) (reply : Reply) → asked_by s act reply ≡ map asked_as (laid_by (at_moment s now) act reply)
-  asked_by-laid s now (Send bytes) reply = refl
-  asked_by-laid s now (Recv room) reply = refl
   asked_by-laid s now (SendMessage ttl order bytes) reply = answered-laid s now ttl order bytes reply
-  asked_by-laid s now (RecvMessage room) reply = refl
-  asked_by-laid s now Pack reply = refl
-  asked_by-laid s now Tick reply = refl
-  asked_by-laid s now Close reply = refl
-  asked_by-laid s now Measure reply = refl
-  asked_by-laid s now (Arrive from bytes) reply = refl
+  asked_by-laid s now _ reply = refl
 
 module _ {C : Type 0} (w : Ways C) where
   -- the messages that these items accepted, from this state on

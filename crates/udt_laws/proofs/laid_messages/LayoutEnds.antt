@@ -5,7 +5,7 @@ use Rattle.std.proofs.lemmas.List.Elements.{Contains-append_left}
 use Rattle.udt_model.specs.declared.packets.Flags.{Flags}
 use Rattle.udt_laws.proofs.laid_messages.Layout.{LaidMessage, AreLaidOut, IsBlockOf}
 use Rattle.udt_laws.proofs.laid_messages.LayoutLemmas.{Covers, lies-from, one-message, first-covered}
-use Rattle.udt_laws.proofs.laid_messages.Members.{none-contained, contained-cases}
+use Rattle.udt_model.proofs.Members.{none-contained, contained-cases}
 
 -- the offset at which messages end that begin at this one
 unfoldable pub layout_end : ℕ → List LaidMessage → ℕ

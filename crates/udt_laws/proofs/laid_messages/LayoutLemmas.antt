@@ -7,7 +7,7 @@ use Rattle.std.proofs.lemmas.List.{take-append-drop, drop-drop, take_all, length
 use Rattle.udt_model.specs.SendBlocks.{count_for}
 use Rattle.udt_model.proofs.SendingLemmas.{count_for-enough}
 use Rattle.udt_laws.proofs.laid_messages.Layout.{LaidMessage, AreLaidOut}
-use Rattle.udt_laws.proofs.laid_messages.Members.{none-contained, contained-cases}
+use Rattle.udt_model.proofs.Members.{none-contained, contained-cases}
 
 -- ---- where a message lies
 

@@ -1,6 +1,6 @@
 -- Of two message sockets that were made as a pair, and each got from the other alone, the one shows what the other was asked, where
 -- that one accepted fewer than 2^30 bytes.
-use Rattle.std.proofs.Common.{◌≡◌, ℕ, ◌+◌, ◌^◌, ◌<◌, ◌≤◌, List, [], ◌∷◌, length, Ok, ap, ◌∙◌, sym, subst, inl, inr, arith}
+use Rattle.std.proofs.Common.{◌≡◌, ℕ, ◌+◌, ◌^◌, ◌<◌, ◌≤◌, true, List, [], ◌∷◌, length, Ok, ap, ◌∙◌, sym, subst, inl, inr, arith}
 use Rattle.std.specs.List.{Contains}
 use Rattle.std.proofs.lemmas.List.Elements.{Contains-append_left, Contains-append_right, Contains-push}
 use Rattle.udt_model.specs.declared.addresses.Addr.{Addr}
@@ -8,20 +8,22 @@ use Rattle.udt_model.specs.declared.answers.Peer.{Peer}
 use Rattle.udt_model.specs.declared.packets.Flags.{Flags}
 use Rattle.udt_model.specs.Emissions.{emitted, arrived_by_act, arrived_by, arrivals}
 use Rattle.udt_model.specs.Events.{Act, Arrive}
-use Rattle.udt_model.specs.History.{Item, state_of, start_of, accepted}
+use Rattle.udt_model.specs.History.{Item, History, state_of, start_of, accepted}
 use Rattle.udt_model.specs.Honest.{IsClose}
 use Rattle.udt_model.specs.Rate.{Ways}
 use Rattle.udt_model.specs.Records.{Enrolled, IsSocket, ArePaired}
 use Rattle.udt_model.specs.State.{State, Datagram, Emission}
 use Rattle.udt_model.specs.Step.{step}
 use Rattle.udt_model.specs.Wire.{Block, DropAsk, read}
+use Rattle.udt_model.proofs.PhaseLemmas.{is_settled}
 use Rattle.udt_model.proofs.StepLemmas.{step-keeps}
 use Rattle.udt_laws.specs.Laws.{CarriesMessages, ComesFrom, ShowsMessages}
-use Rattle.udt_laws.proofs.sockets.Opened.{pair-kind}
+use Rattle.udt_laws.proofs.sockets.Begins.{Begins}
+use Rattle.udt_laws.proofs.sockets.Opened.{paired-connected}
 use Rattle.udt_laws.proofs.sockets.OneSocket.{paired-back, comes-emitted}
 use Rattle.udt_laws.proofs.sent_blocks.AcceptedIsCut.{blocks_by-parts}
 use Rattle.udt_laws.proofs.sent_blocks.NamedWasSent.{only-named}
-use Rattle.udt_laws.proofs.sent_blocks.SentBlocks.{way-begins, last-cut}
+use Rattle.udt_laws.proofs.sent_blocks.SentBlocks.{begins-well, last-cut}
 use Rattle.udt_laws.proofs.acked_has_arrived.AckedHasArrived.{below-acks, taken-contained}
 use Rattle.udt_laws.proofs.acked_has_arrived.AcksNamePlaced.{HasTaken, all-taken}
 use Rattle.udt_laws.proofs.acked_has_arrived.SendsOneAnEvent.{sends-below_accepted}
@@ -29,7 +31,7 @@ use Rattle.udt_laws.proofs.delivered_prefix.PeerBlocksAlone.{mates}
 use Rattle.udt_laws.proofs.laid_messages.Layout.{LaidMessage}
 use Rattle.udt_laws.proofs.laid_messages.LayoutEnds.{laid-below}
 use Rattle.udt_laws.proofs.laid_messages.LayoutLemmas.{lies-from, first-covered}
-use Rattle.udt_laws.proofs.laid_messages.Members.{none-contained, contained-cases}
+use Rattle.udt_model.proofs.Members.{none-contained, contained-cases}
 use Rattle.udt_laws.proofs.laid_messages.KeepsLayout.{MeetsLayout, AllMeetLayout}
 use Rattle.udt_laws.proofs.laid_messages.PeerMessagesAlone.{places-laid, drops-laid}
 use Rattle.udt_laws.proofs.laid_messages.SentMessages.{payload_of, SendsMessages, sends_messages}
@@ -42,7 +44,7 @@ stands-close low limit top offset few stands from to =
     (omega (arith, stands.not_below, few, to), omega (arith, stands.not_above, few, from))
 
 -- both ends that are named
-either-named : (first last offset : ℕ) (offsets : List ℕ) → offsets ≡ first ∷ last ∷ [] → Contains offsets offset → first ≤ last
+pub either-named : (first last offset : ℕ) (offsets : List ℕ) → offsets ≡ first ∷ last ∷ [] → Contains offsets offset → first ≤ last
     → (first ≤ offset) × (offset ≤ last)
 either-named first last offset offsets names named order =
     elim (contained-cases first (last ∷ []) offset (subst (λ (l : List ℕ). Contains l offset) names named)) [
@@ -113,29 +115,29 @@ module _ {C : Type 0} (w : Ways C) where
         }
     act-brings s act own_is addr_is isn_is stands among = tt
 
-    all-brought : (s : State C) (items : List Item) → s.own ≡ receiver.own → s.peer.addr ≡ from
+    all-brought : (s : State C) (items : List Item) → is_settled s.phase ≡ true → s.own ≡ receiver.own → s.peer.addr ≡ from
         → (state_of w sender.history).sending.isn ≡ s.receiving.isn → StandsBetween (start_of sender.history) limit s.receiving.top
         → ((datagram : Datagram) → Contains (arrived_by items) datagram → Contains (arrivals receiver.history) datagram)
         → AllMeetLayout (payload_of w sender.history) sends.laid w s items
     unfolding arrived_by
-    all-brought s [] own_is addr_is isn_is stands among = tt
-    all-brought s (item ∷ items) own_is addr_is isn_is stands among =
-        let same = step-keeps w s item.event in
+    all-brought s [] settled own_is addr_is isn_is stands among = tt
+    all-brought s (item ∷ items) settled own_is addr_is isn_is stands among =
+        let same = step-keeps w s item.event settled in
         let meets = act-brings s item.event.act own_is addr_is isn_is stands (λ datagram h. among datagram (Contains-append_left _ _ datagram h)) in (
           meets,
-          all-brought (step w s item.event).after items (same.own ∙ own_is) (ap (λ (p : Peer). p.addr) same.peer ∙ addr_is)
+          all-brought (step w s item.event).after items (same.settled settled) (same.own ∙ own_is) (ap (λ (p : Peer). p.addr) same.peer ∙ addr_is)
               (isn_is ∙ sym same.receiving.isn)
               (step-stands (start_of sender.history) limit w (payload_of w sender.history) sends.laid below s item.event meets stands)
               (λ datagram h. among datagram (Contains-append_right _ _ datagram h)),
         )
 
   -- no message ends past as many offsets as bytes were accepted
-  laid-within : (socket : Enrolled C) → IsSocket w socket → (sends : SendsMessages w socket.history) → (laid : LaidMessage)
-      → Contains sends.laid laid → laid.message.last < start_of socket.history + length (accepted socket.history)
-  laid-within socket is sends laid among =
-      let h = socket.history in
-      let cut = last-cut w socket.own socket.way h is.in_range is.opened is.legal in
-      let parts = blocks_by-parts w h.opening h.items is.legal (way-begins w socket.own socket.way h is.in_range is.opened).cut.payload in
+  pub laid-within : (h : History C) → Begins w h → (sends : SendsMessages w h) → (laid : LaidMessage)
+      → Contains sends.laid laid → laid.message.last < start_of h + length (accepted h)
+  laid-within h begins sends laid among =
+      let cut = last-cut w h begins in
+      let well = begins-well w h begins in
+      let parts = blocks_by-parts w h.opening h.items well.settled begins.legal well.cut.payload in
       omega (arith, laid-below (payload_of w h) (start_of h) sends.laid laid sends.are_laid among, sends.ends, cut.count, parts.few)
 
   pub pair-messages : (addr other_addr : Addr) (socket other : Enrolled C) → IsSocket w socket → IsSocket w other
@@ -146,16 +148,15 @@ module _ {C : Type 0} (w : Ways C) where
       let h = socket.history in
       let g = other.history in
       let limit = start_of g + length (accepted g) in
-      let other_carries = pair-kind w addr socket.own socket.way h other_addr other.own other.way g paired is_socket.opened is_other.opened ∙ carries in
-      let sends = sends_messages w other is_other other_carries in
-      let are = mates w addr socket.own socket.way h other_addr other.own other.way g paired
-      is_socket.opened is_socket.legal is_other.in_range is_other.opened is_other.legal in
+      let connected = paired-connected w addr socket other_addr other is_socket is_other paired in
+      let sends = sends_messages w g connected.other_begins (connected.same_kind ∙ carries) in
+      let are = mates w addr socket.own h other_addr other.own g connected in
       let acks = below-acks w other_addr addr other socket (HasTaken w h) limit is_other is_socket
       (paired-back addr socket.own socket.way other_addr other.own other.way paired) (all-taken w h) back_comes (omega (arith, few))
-      (sends-below_accepted w other.own other.way g is_other.in_range is_other.opened is_other.legal) in
-      shows-asked w socket other is_socket carries sends
-      (all-brought socket other other_addr is_other sends comes limit (omega (arith, few)) (laid-within other is_other sends) h.opening h.items
-      are.own_is are.peer_addr are.same_isn
+      (sends-below_accepted w g connected.other_begins) in
+      shows-asked w h g connected.begins carries sends
+      (all-brought socket other other_addr is_other sends comes limit (omega (arith, few)) (laid-within g connected.other_begins sends) h.opening h.items
+      are.settled are.own_is are.peer_addr are.same_isn
       (record {
         not_below = omega (arith, are.same_start, are.stands.not_below, are.stands.base);
         not_above = omega (arith, are.same_start, are.stands.not_above);

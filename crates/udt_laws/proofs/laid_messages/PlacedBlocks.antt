@@ -4,7 +4,7 @@ use Rattle.std.specs.List.{Contains}
 use Rattle.std.proofs.lemmas.Bool.{and_parts, eqb-true, ltb-true, ltb-false, leb-true, cases_lt, cases_eq, cases_Bool, eqb-false, or_cases}
 use Rattle.udt_model.specs.ReceiveBlocks.{PlacedBlock, Beginning, is_taken, put_block, consumed_at, with_consumed, beginning}
 use Rattle.udt_model.proofs.ReceivingLemmas.{AreRising}
-use Rattle.udt_laws.proofs.laid_messages.Members.{first-contained, other-contained, none-contained, contained-cases}
+use Rattle.udt_model.proofs.Members.{first-contained, other-contained, none-contained, contained-cases}
 
 -- ---- rising blocks
 

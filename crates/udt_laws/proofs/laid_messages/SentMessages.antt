@@ -1,27 +1,28 @@
 -- What a message socket emits: blocks of the messages that it was asked to send, and requests to drop them.
-use Rattle.std.proofs.Common.{◌≡◌, ℕ, ◌≤◌, List, [], ◌∷◌, ◌++◌, map, Some, Ok, ap, ◌∙◌, sym, subst, arith}
+use Rattle.std.proofs.Common.{◌≡◌, ℕ, ◌≤◌, true, List, [], ◌∷◌, ◌++◌, map, Some, Ok, ap, ◌∙◌, sym, subst, arith}
 use Rattle.std.specs.List.{Contains}
 use Rattle.std.proofs.lemmas.List.Elements.{Contains-append_left}
 use Rattle.udt_model.specs.declared.packets.Flags.{Flags}
 use Rattle.udt_model.specs.Calls.{stamp_of, block_emission, drop_emission}
 use Rattle.udt_model.specs.Emissions.{emitted}
 use Rattle.udt_model.specs.Events.{Act, Reply, at_moment}
-use Rattle.udt_model.specs.History.{Item, History, after_items, state_of, start_of, AreLegal, IsLegal, asked}
+use Rattle.udt_model.specs.History.{Item, History, after_items, state_of, start_of, AreLegal, asked}
 use Rattle.udt_model.specs.Numbers.{sequence_number}
 use Rattle.udt_model.specs.Rate.{Ways}
-use Rattle.udt_model.specs.Records.{Enrolled, Way, opened_by, IsWay, IsSocket}
 use Rattle.udt_model.specs.SendBlocks.{Message, KeptBlock, kept_at, end_of}
 use Rattle.udt_model.specs.SendHalf.{block_packet, drop_packet, packing, Drops}
 use Rattle.udt_model.specs.State.{State, Emission}
 use Rattle.udt_model.specs.Wire.{Block, DropAsk, read}
-use Rattle.udt_model.proofs.EmissionLemmas.{Emitting, NewBlock, LostBlock, DropRequest, FullAck, LightAck, Reports, ReportsGap, ReportsDropGap, AnswersAck, SendsKeepAlive, TheEnd, IsEmittedAt}
+use Rattle.udt_model.proofs.EmissionLemmas.{Emitting, NewBlock, LostBlock, DropRequest, FullAck, LightAck, Reports, ReportsGap, ReportsDropGap, AnswersAck, SendsKeepAlive, TheEnd, SendsHandshake, IsEmittedAt}
 use Rattle.udt_model.proofs.HistoryLemmas.{AreLegal-front}
+use Rattle.udt_model.proofs.PhaseLemmas.{is_settled}
 use Rattle.udt_model.proofs.SendingLemmas.{IsCut, kept_at-is, packing-sends, packing-again, packing-drops}
 use Rattle.udt_model.proofs.StepLemmas.{after_items-keeps}
 use Rattle.udt_laws.specs.Laws.{CarriesMessages}
+use Rattle.udt_laws.proofs.sockets.Begins.{Begins, begins_settled}
 use Rattle.udt_laws.proofs.sent_blocks.AcceptedIsCut.{items-cut}
 use Rattle.udt_laws.proofs.sent_blocks.EmissionsRead.{packet_of}
-use Rattle.udt_laws.proofs.sent_blocks.SentBlocks.{same-packet, way-begins, emission-at, emission-reads}
+use Rattle.udt_laws.proofs.sent_blocks.SentBlocks.{same-packet, begins-well, emission-at, emission-reads}
 use Rattle.udt_laws.proofs.laid_messages.Layout.{LaidMessage, asked_as, AreLaidOut, IsBlockOf}
 use Rattle.udt_laws.proofs.laid_messages.LayoutEnds.{layout_end, block_of-more}
 use Rattle.udt_laws.proofs.laid_messages.KeptMessages.{KeepsLaid, none-laid, kept-laid, kept-is_block}
@@ -132,6 +133,7 @@ module _ {C : Type 0} (w : Ways C) where
       block-of (AnswersAck number' connected is) same = absurd (cc)
       block-of (SendsKeepAlive connected is) same = absurd (cc)
       block-of (TheEnd closing is) same = absurd (cc)
+      block-of (SendsHandshake to dest' shake sends is) same = absurd (cc)
 
     module _ (number stamp dest first last : ℕ) where
       -- the message of a kept block that is dropped
@@ -166,26 +168,29 @@ module _ {C : Type 0} (w : Ways C) where
       drop-of (AnswersAck number' connected is) same = absurd (cc)
       drop-of (SendsKeepAlive connected is) same = absurd (cc)
       drop-of (TheEnd closing is) same = absurd (cc)
+      drop-of (SendsHandshake to dest' shake sends is) same = absurd (cc)
 
   -- ---- histories
 
-  module _ (own : ℕ) (way : Way) (h : History C) (in_range : IsWay own way) (opened : h.opening ≡ opened_by w own way) (legal : IsLegal w h)
-      (carries : CarriesMessages h) where
+  module _ (h : History C) (begins : Begins w h) (carries : CarriesMessages h) where
+    settled : is_settled h.opening.phase ≡ true
+    settled = begins_settled w h begins
+
     begins-cut : IsCut h.opening.sending (start_of h) []
-    begins-cut = (way-begins w own way h in_range opened).cut
+    begins-cut = (begins-well w h begins).cut
 
     -- after legal items the kept blocks are those of the messages so far
     keeps-after : (items : List Item) → AreLegal w h.opening items
         → KeepsLaid (after_items w h.opening items).sending.blocks (start_of h) (laid_from w h.opening items)
     keeps-after items legal_items =
-        items-keep w h.opening (start_of h) [] [] items legal_items carries begins-cut
+        items-keep w h.opening (start_of h) [] [] items settled legal_items carries begins-cut
         (none-laid h.opening.sending.blocks (omega (arith, begins-cut.count)))
 
     -- before an emission of the history too
     keeps-at : (emission : Emission) (at : IsEmittedAt w h.opening h.items emission)
         → KeepsLaid (after_items w h.opening at.front).sending.blocks (start_of h) (laid_from w h.opening at.front)
     keeps-at emission at =
-        keeps-after at.front (AreLegal-front w h.opening at.front (at.item ∷ at.rest) (subst (AreLegal w h.opening) at.joined legal))
+        keeps-after at.front (AreLegal-front w h.opening at.front (at.item ∷ at.rest) (subst (AreLegal w h.opening) at.joined begins.legal))
 
     -- all messages are those so far and those after the emission
     abbrev laid-later : (emission : Emission) → IsEmittedAt w h.opening h.items emission → List LaidMessage
@@ -197,20 +202,20 @@ module _ {C : Type 0} (w : Ways C) where
 
     -- the sending half numbers and cuts as at the end
     isn-last : (items : List Item) → (after_items w h.opening items).sending.isn ≡ (state_of w h).sending.isn
-    isn-last items = (after_items-keeps w h.opening items).sending.isn ∙ sym (after_items-keeps w h.opening h.items).sending.isn
+    isn-last items = (after_items-keeps w h.opening items settled).sending.isn ∙ sym (after_items-keeps w h.opening h.items settled).sending.isn
 
     payload-last : (items : List Item) → (after_items w h.opening items).sending.blocks.payload ≡ payload_of h
-    payload-last items = (after_items-keeps w h.opening items).sending.payload ∙ sym (after_items-keeps w h.opening h.items).sending.payload
+    payload-last items = (after_items-keeps w h.opening items settled).sending.payload ∙ sym (after_items-keeps w h.opening h.items settled).sending.payload
 
     sends-block : (emission : Emission) (number : ℕ) (flags : Flags) (stamp dest : ℕ) (payload : List ℕ) → Contains (emitted w h) emission
         → read emission.datagram.bytes ≡ Ok (Block number flags stamp dest payload)
         → SendsBlock (state_of w h).sending.isn (payload_of h) (start_of h) (laid_from w h.opening h.items) emission number flags payload
     sends-block emission number flags stamp dest payload among reads =
-        let at = emission-at w own way h in_range opened legal emission among in
-        let spelled = emission-reads w own way h in_range opened legal emission at in
+        let at = emission-at w h begins emission among in
+        let spelled = emission-reads w h begins emission at in
         let same = same-packet emission.datagram.bytes _ _ spelled.reads reads in
         let messages = laid_from w h.opening at.front in
-        let cut = items-cut w h.opening (start_of h) [] at.front begins-cut in
+        let cut = items-cut w h.opening (start_of h) [] at.front settled begins-cut in
         let found = block-of (at_moment (after_items w h.opening at.front) at.item.event.now) at.item.event.act _ (start_of h) messages _ emission
         cut (keeps-at emission at) number flags stamp dest payload at.emitting same in
         sends-all _ _ _ _ (start_of h) messages (laid-later emission at) _ emission number flags payload (isn-last at.front) (payload-last at.front)
@@ -220,27 +225,23 @@ module _ {C : Type 0} (w : Ways C) where
         → read emission.datagram.bytes ≡ Ok (DropAsk message stamp dest first last)
         → AsksDrop (state_of w h).sending.isn (laid_from w h.opening h.items) emission first last
     asks-drop emission message stamp dest first last among reads =
-        let at = emission-at w own way h in_range opened legal emission among in
-        let spelled = emission-reads w own way h in_range opened legal emission at in
+        let at = emission-at w h begins emission among in
+        let spelled = emission-reads w h begins emission at in
         let same = same-packet emission.datagram.bytes _ _ spelled.reads reads in
         let messages = laid_from w h.opening at.front in
-        let cut = items-cut w h.opening (start_of h) [] at.front begins-cut in
+        let cut = items-cut w h.opening (start_of h) [] at.front settled begins-cut in
         let found = drop-of (at_moment (after_items w h.opening at.front) at.item.event.now) at.item.event.act _ (start_of h) messages _ emission
         cut (keeps-at emission at) message stamp dest first last at.emitting same in
         drops-all _ _ messages (laid-later emission at) _ emission first last (isn-last at.front) (laid-all emission at) found
 
-    history-sends : SendsMessages h
-    history-sends = record {
+    -- so each history of a message socket sends
+    pub sends_messages : SendsMessages h
+    sends_messages = record {
       laid = laid_from w h.opening h.items;
-      some = (items-cut w h.opening (start_of h) [] h.items begins-cut).payload;
-      are_laid = (keeps-after h.items legal).laid_out;
-      ends = (keeps-after h.items legal).ends;
+      some = (items-cut w h.opening (start_of h) [] h.items settled begins-cut).payload;
+      are_laid = (keeps-after h.items begins.legal).laid_out;
+      ends = (keeps-after h.items begins.legal).ends;
       asked_is = asked_from-laid w h.opening h.items;
       sends = sends-block;
       drops = asks-drop;
     }
-
-  -- so each message socket sends
-  pub sends_messages : (socket : Enrolled C) → IsSocket w socket → CarriesMessages socket.history → SendsMessages socket.history
-  sends_messages socket is_socket carries =
-      history-sends socket.own socket.way socket.history is_socket.in_range is_socket.opened is_socket.legal carries

@@ -13,11 +13,11 @@ use Rattle.udt_model.specs.ReceiveBlocks.{PlacedBlock, ReceiveBlocks, WholeMessa
 use Rattle.udt_model.specs.State.{State}
 use Rattle.udt_model.specs.Step.{step}
 use Rattle.udt_model.proofs.ReceivingLemmas.{AreRising}
-use Rattle.udt_model.proofs.StepLemmas.{step-keeps}
+use Rattle.udt_model.proofs.StepLemmas.{step-keeps_name}
 use Rattle.udt_laws.proofs.laid_messages.Layout.{LaidMessage, AreLaidOut}
 use Rattle.udt_laws.proofs.laid_messages.LayoutLemmas.{Covers}
 use Rattle.udt_laws.proofs.laid_messages.LayoutEnds.{same-first}
-use Rattle.udt_laws.proofs.laid_messages.Members.{first-contained, other-contained, none-contained, contained-cases}
+use Rattle.udt_model.proofs.Members.{first-contained, other-contained, none-contained, contained-cases}
 use Rattle.udt_laws.proofs.laid_messages.ConsumedOffsets.{IsConsumed}
 use Rattle.udt_laws.proofs.laid_messages.ReceivedLayout.{IsOfLayout, GoesOn}
 use Rattle.udt_laws.proofs.laid_messages.ReadMessages.{IsReadAs}
@@ -207,7 +207,7 @@ module _ (payload start : ℕ) (messages : List LaidMessage) (some : 1 ≤ paylo
         let shows = subst (λ (reply : Reply). StepsSo payload messages s.receiving.blocks next.receiving.blocks (shown_by s item.event.act reply))
         (sym legal.0) steps in
         steps-shows s.receiving.blocks next.receiving.blocks (shown_by s item.event.act item.reply) (shown_from w next items) shows
-        (items-show next items ((step-keeps w s item.event).kind ∙ only) legal.2 meets.1
+        (items-show next items ((step-keeps_name w s item.event).kind ∙ only) legal.2 meets.1
         (steps-goes s.receiving.blocks next.receiving.blocks _ shows))
 
     -- where nothing was received yet, and what arrivals may place or drop is of the layout, the messages shown are

@@ -1,11 +1,10 @@
 -- What a message socket shows of the layout of its own peer, in the words of what the peer was asked.
-use Rattle.std.proofs.Common.{◌≡◌, ℕ, ◌+◌, ◌<◌, ◌≤◌, List, ◌++◌, ap, ◌∙◌, subst}
+use Rattle.std.proofs.Common.{ℕ, ◌+◌, ◌<◌, ◌≤◌, List, ◌++◌, ap, ◌∙◌, subst}
 use Rattle.std.specs.List.{Contains}
 use Rattle.udt_model.specs.History.{AskedMessage, History, start_of, acked, placed_offsets, dropped_offsets}
 use Rattle.udt_model.specs.Rate.{Ways}
-use Rattle.udt_model.specs.Records.{Way, PairedAt, opened_by, Enrolled, IsSocket}
 use Rattle.udt_laws.specs.Laws.{CarriesMessages, IsOrdered, ShowsMessages}
-use Rattle.udt_laws.proofs.sockets.Opened.{opened_placed, opened_given}
+use Rattle.udt_laws.proofs.sockets.Begins.{Begins, begins_placed, begins_given}
 use Rattle.udt_laws.proofs.laid_messages.AskedMessages.{asked-is, shown-asked}
 use Rattle.udt_laws.proofs.laid_messages.KeepsLayout.{AllMeetLayout}
 use Rattle.udt_laws.proofs.laid_messages.SentMessages.{payload_of, SendsMessages}
@@ -24,22 +23,18 @@ module _ {C : Type 0} (w : Ways C) where
         ordered = ap (λ (x : AskedMessage). x.order) found.is ∙ ordered.ordered;
       }
 
-  -- a socket that was just opened has received nothing
-  way-none : (own : ℕ) (way : Way) (h : History C) → h.opening ≡ opened_by w own way → HasNone h.opening.receiving.blocks
-  way-none own (PairedAt config peer now start) h opened =
-      record { placed = opened_placed w own config peer now start h opened; given = opened_given w own config peer now start h opened }
+  -- a socket that was just connected has received nothing
+  begins-none : (h : History C) → Begins w h → HasNone h.opening.receiving.blocks
+  begins-none h begins = record { placed = begins_placed w h begins; given = begins_given w h begins }
 
   -- where what arrives may place or drop nothing but what the other one sends, the one shows what the other was asked
-  pub shows-asked : (socket other : Enrolled C) → IsSocket w socket → CarriesMessages socket.history → (sends : SendsMessages w other.history)
-      → AllMeetLayout (payload_of w other.history) sends.laid w socket.history.opening socket.history.items
-      → ((offset : ℕ) → start_of other.history ≤ offset → offset < start_of other.history + acked w other.history
-      → Contains (placed_offsets w socket.history ++ dropped_offsets w socket.history) offset)
-      → ShowsMessages w socket.history other.history
-  shows-asked socket other is_socket carries sends meet acknowledged =
-      let h = socket.history in
-      let g = other.history in
+  pub shows-asked : (h g : History C) → Begins w h → CarriesMessages h → (sends : SendsMessages w g)
+      → AllMeetLayout (payload_of w g) sends.laid w h.opening h.items
+      → ((offset : ℕ) → start_of g ≤ offset → offset < start_of g + acked w g → Contains (placed_offsets w h ++ dropped_offsets w h) offset)
+      → ShowsMessages w h g
+  shows-asked h g begins carries sends meet acknowledged =
       let of_layout = shows-layout (payload_of w g) (start_of g) sends.laid sends.some sends.are_laid w h.opening h.items carries
-      (way-none socket.own socket.way h is_socket.opened) is_socket.legal meet in
+      (begins-none h begins) begins.legal meet in
       record {
         whole = λ message there.
             let whole = of_layout.whole message there in

@@ -20,7 +20,7 @@ use Rattle.udt_laws.proofs.laid_messages.Layout.{LaidMessage, IsBlockOf, IsRange
 use Rattle.udt_laws.proofs.laid_messages.KeepsLayout.{BringsLayout, MeetsLayout}
 
 -- a message that is read leaves the top as it is
-show-leaves : (r : Receiving) (room : ℕ) → (after_receive_message r room).top ≡ r.top
+pub show-leaves : (r : Receiving) (room : ℕ) → (after_receive_message r room).top ≡ r.top
 show-leaves r room = grind (arith, cases_Bool (room == 0))
 
 -- ---- what raises it
@@ -43,7 +43,7 @@ module _ (low high : ℕ) where
   placing-stands r now flags bytes None placing.Above below stands = stands
   placing-stands r now flags bytes None placing.Double below stands = stands
 
-  block-stands : (r : Receiving) (now number : ℕ) (flags : Flags) (bytes : List ℕ)
+  pub block-stands : (r : Receiving) (now number : ℕ) (flags : Flags) (bytes : List ℕ)
       → ((offset : ℕ) → near r.isn r.top number ≡ Some offset → offset < high) → StandsBetween low high r.top
       → StandsBetween low high (after_block r now number flags bytes).top
   unfolding after_block
@@ -51,7 +51,7 @@ module _ (low high : ℕ) where
       placing-stands (measured r now number) now flags bytes (offset_of r number) (placing_at r (offset_of r number))
       (λ offset found. below offset (offset_of-some r number offset found).is_near) stands
 
-  taken-stands : (r : Receiving) (now : ℕ) (range : LostRange) → range.last < high → StandsBetween low high r.top
+  pub taken-stands : (r : Receiving) (now : ℕ) (range : LostRange) → range.last < high → StandsBetween low high r.top
       → StandsBetween low high (with_taken r now range).top
   taken-stands r now range below stands =
       record { not_below = omega (arith, stands.not_below); not_above = omega (arith, stands.not_above, below) }
@@ -87,4 +87,5 @@ module _ (low high : ℕ) where
       tells = λ now known. subst (StandsBetween low high)
           (sym (reports-leave s.receiving now known).top) stands;
       confirms = λ number. subst (StandsBetween low high) (sym (ack2-leaves s.receiving number).top) stands;
+      links = λ now peer unsettled. stands;
     })

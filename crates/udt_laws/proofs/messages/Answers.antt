@@ -1,5 +1,5 @@
 -- The law is proved beside the lemmas on which it stands.
-use Rattle.udt_laws.proofs.laid_messages.PeerMessagesAlone.{messages}
+use Rattle.udt_laws.proofs.adoption.SocketsInStep.{messages}
 use Rattle.udt_laws.proofs.messages.Goals as goal
 
 pub returns : goal.returns

@@ -10,14 +10,13 @@ use Rattle.udt_model.specs.Rate.{Ways}
 use Rattle.udt_model.specs.State.{State, Emission}
 use Rattle.udt_model.specs.Step.{step}
 use Rattle.udt_model.specs.History.{Item, History, AreLegal, IsLegal, after_items, start_of}
-use Rattle.udt_model.specs.Records.{Way, opened_by, IsWay}
 use Rattle.udt_model.specs.Emissions.{emitted, sent_by, sent}
 use Rattle.udt_model.proofs.HistoryLemmas.{AreLegal-front}
 use Rattle.udt_model.proofs.RecordLemmas.{sent_by-append}
 use Rattle.udt_model.proofs.EmissionLemmas.{IsEmittedAt}
-use Rattle.udt_laws.proofs.sockets.Opened.{way-next}
+use Rattle.udt_laws.proofs.sockets.Begins.{Begins, begins_next}
 use Rattle.udt_laws.proofs.sent_blocks.SentBlocks.{same-packet, moment-at, emission-at, emission-reads}
-use Rattle.udt_laws.proofs.sent_blocks.NamedWasSent.{opening-endless, items-advance, packet-below, outs-many}
+use Rattle.udt_laws.proofs.sent_blocks.NamedWasSent.{begins-endless, items-advance, packet-below, outs-many}
 
 module _ {C : Type 0} (w : Ways C) where
   -- all data packets of the history name offsets below this one
@@ -38,18 +37,17 @@ module _ {C : Type 0} (w : Ways C) where
   outs-legal s [] item rest legal = legal.1
   outs-legal s (first ∷ front) item rest legal = outs-legal (step w s first.event).after front item rest legal.2
 
-  module _ (own : ℕ) (way : Way) (h : History C) (in_range : IsWay own way) (opened : h.opening ≡ opened_by w own way) (legal : IsLegal w h)
-      (stream : h.opening.kind ≡ Stream) where
+  module _ (h : History C) (is_begun : Begins w h) (stream : h.opening.kind ≡ Stream) where
     comes-to : (emission : Emission) (is : IsEmittedAt w h.opening h.items emission) (offset : ℕ)
         → offset ≤ (after_items w h.opening is.front).sending.next → ComesTo h offset
     unfolding sent_by
     comes-to emission is offset low =
         let front = AreLegal-front w h.opening is.front (is.item ∷ is.rest)
-        (subst (λ (items : List Item). IsLegal w (record { opening = h.opening; items = items })) is.joined legal) in
-        let advanced = items-advance w h.opening is.front (opening-endless w own way h opened stream) front in
-        let begins = way-next w own way h opened in
+        (subst (λ (items : List Item). IsLegal w (record { opening = h.opening; items = items })) is.joined is_begun.legal) in
+        let advanced = items-advance w h.opening is.front (begins-endless w h is_begun stream) front in
+        let begins = begins_next w h is_begun in
         let outs = ap length (outs-legal h.opening is.front is.item is.rest
-        (subst (λ (items : List Item). IsLegal w (record { opening = h.opening; items = items })) is.joined legal)) ∙ outs-many w (step w (after_items w h.opening is.front) is.item.event) in
+        (subst (λ (items : List Item). IsLegal w (record { opening = h.opening; items = items })) is.joined is_begun.legal)) ∙ outs-many w (step w (after_items w h.opening is.front) is.item.event) in
         let all = ap length is.joined in
         let sent_all = ap (λ (items : List Item). length (sent_by items)) is.joined in
         let split = ap length (sent_by-append is.front (is.item ∷ is.rest)) in
@@ -72,9 +70,9 @@ module _ {C : Type 0} (w : Ways C) where
     block-comes_to : (emission : Emission) (number : ℕ) (flags : Flags) (stamp dest : ℕ) (payload : List ℕ) (offset : ℕ) → Contains (emitted w h) emission
         → read emission.datagram.bytes ≡ Ok (Block number flags stamp dest payload) → Contains emission.offsets offset → ComesTo h offset
     block-comes_to emission number flags stamp dest payload offset among reads named =
-        let at = emission-at w own way h in_range opened legal emission among in
-        let spelled = emission-reads w own way h in_range opened legal emission at in
-        let moment = moment-at w own way h in_range opened legal emission at in
+        let at = emission-at w h is_begun emission among in
+        let spelled = emission-reads w h is_begun emission at in
+        let moment = moment-at w h is_begun emission at in
         let same = same-packet emission.datagram.bytes _ _ spelled.reads reads in
         comes-to emission at offset
         (packet-below w _ _ _ (start_of h) _ emission at.emitting number flags stamp dest payload offset moment.cut same named)

@@ -1,6 +1,6 @@
 -- Two sockets that were made as a pair and got from each other alone have honest records: fewer than 2^30 datagrams of
 -- each name no offset too far from where the other reads it.
-use Rattle.std.proofs.Common.{◌≡◌, ℕ, ◌+◌, ◌^◌, ◌<◌, ◌≤◌, List, [], ◌∷◌, ◌++◌, length, Some, Ok, inl, inr, ap, ◌∙◌, sym, subst, arith}
+use Rattle.std.proofs.Common.{◌≡◌, ℕ, ◌+◌, ◌^◌, ◌<◌, ◌≤◌, true, List, [], ◌∷◌, ◌++◌, length, Some, Ok, inl, inr, ap, ◌∙◌, sym, subst, arith}
 use Rattle.std.specs.List.{Contains}
 use Rattle.std.proofs.lemmas.List.Elements.{Contains-append_left, Contains-append_right, Contains-push, Contains-push_cases}
 use Rattle.udt_model.specs.declared.packets.Kind.TheVariants.{Stream}
@@ -21,30 +21,30 @@ use Rattle.udt_model.specs.State.{State, Datagram, Emission}
 use Rattle.udt_model.specs.Step.{step}
 use Rattle.udt_model.specs.Wire.{Packet, Block, read}
 use Rattle.udt_model.proofs.StreamLemmas.{packing-no_drop}
-use Rattle.udt_model.proofs.EmissionLemmas.{Emitting, NewBlock, LostBlock, DropRequest, FullAck, LightAck, Reports, ReportsGap, ReportsDropGap, AnswersAck, SendsKeepAlive, TheEnd, IsEmittedAt}
+use Rattle.udt_model.proofs.EmissionLemmas.{Emitting, NewBlock, LostBlock, DropRequest, FullAck, LightAck, Reports, ReportsGap, ReportsDropGap, AnswersAck, SendsKeepAlive, TheEnd, SendsHandshake, IsEmittedAt}
 use Rattle.udt_model.proofs.ReceivingLemmas.{offset_of-some}
 use Rattle.udt_model.proofs.RecordLemmas.{emitted-from_sent, arrived_by-append}
 use Rattle.udt_model.proofs.SendingLemmas.{IsCut}
+use Rattle.udt_model.proofs.PhaseLemmas.{is_settled}
 use Rattle.udt_model.proofs.StepLemmas.{step-keeps, after_items-keeps}
 use Rattle.udt_model.proofs.TickLemmas.{ack_outcome-tells}
 use Rattle.udt_laws.specs.Laws.{ComesFrom, AllComesFrom, both_records, PairHonest}
-use Rattle.udt_laws.proofs.sockets.Opened.{pair-stream}
+use Rattle.udt_laws.proofs.sockets.Opened.{AreConnected, connected-back, paired-connected}
 use Rattle.udt_laws.proofs.acked_has_arrived.BelowGapWasPlaced.{ack-within}
 use Rattle.udt_laws.proofs.acked_has_arrived.SendsOneAnEvent.{SendsBelow, sends-below_sent}
 use Rattle.udt_laws.proofs.delivered_is_carried.DeliversPlacedBlocks.{MeetsAct, meets-at_moment}
 use Rattle.udt_laws.proofs.delivered_prefix.PeerBlocksAlone.{AreMates, mates}
 use Rattle.udt_laws.proofs.delivered_prefix.WindowRises.{IsWithin, block-within, carries-below}
 use Rattle.udt_laws.proofs.pairs.NamedIsBelow as bounds
-use Rattle.udt_laws.proofs.sockets.OneSocket.{paired-back}
 use Rattle.udt_laws.proofs.pairs.PairIsLawful.{stands_first, stands_second, both-honest, pair-lawful}
 use Rattle.udt_laws.proofs.pairs.PairPrefix.{meets-map, IsBlockBelow, near-receiver, act-below, stays-within, within-after, begins-within}
 use Rattle.udt_laws.proofs.sent_blocks.AcceptedIsCut.{blocks_of, step-cut}
 use Rattle.udt_laws.proofs.sent_blocks.EmissionsRead.{packet_of}
 use Rattle.udt_laws.proofs.sent_blocks.GoesToPeer.{emission-goes}
 use Rattle.udt_laws.proofs.sent_blocks.NakRanges.{EndsMeet, IsBetween, nak-ends, block-gap, gap-found, named-ends}
-use Rattle.udt_laws.proofs.sent_blocks.NamedWasSent.{only-named, IsEndless, items-endless, moment-endless, opening-endless}
+use Rattle.udt_laws.proofs.sent_blocks.NamedWasSent.{only-named, IsEndless, items-endless, moment-endless, begins-endless}
 use Rattle.udt_laws.proofs.sent_blocks.ReportsFit.{ReportsFit, block-fits}
-use Rattle.udt_laws.proofs.sent_blocks.SentBlocks.{same-packet, way-begins, moment-at, emission-at}
+use Rattle.udt_laws.proofs.sent_blocks.SentBlocks.{same-packet, begins-well, moment-at, emission-at}
 
 datagram_from : Addr → List ℕ → Datagram
 datagram_from addr bytes = record { addr = addr; bytes = bytes }
@@ -52,21 +52,21 @@ datagram_from addr bytes = record { addr = addr; bytes = bytes }
 datagram_from-same : (a b : Addr) (m n : List ℕ) → a ≡ b → m ≡ n → datagram_from a m ≡ datagram_from b n
 datagram_from-same a b m n addr bytes = cc
 
-datagram-is : (datagram : Datagram) (addr : Addr) (bytes : List ℕ) → datagram.addr ≡ addr → datagram.bytes ≡ bytes
+pub datagram-is : (datagram : Datagram) (addr : Addr) (bytes : List ℕ) → datagram.addr ≡ addr → datagram.bytes ≡ bytes
     → datagram ≡ record { addr = addr; bytes = bytes }
 unfolding datagram_from
 datagram-is datagram addr bytes addr_is bytes_are = datagram_from-same datagram.addr addr datagram.bytes bytes addr_is bytes_are
 
 -- no offset is among none
-none-named : (offset : ℕ) → Contains [] offset → ⊥
+pub none-named : (offset : ℕ) → Contains [] offset → ⊥
 none-named offset named = omega (arith, named.1)
 
 -- two offsets between these are close
-both-close : (low high offset other : ℕ) → high < low + 2 ^ 30 → low ≤ offset → offset ≤ high → low ≤ other → other ≤ high → IsClose offset other
+pub both-close : (low high offset other : ℕ) → high < low + 2 ^ 30 → low ≤ offset → offset ≤ high → low ≤ other → other ≤ high → IsClose offset other
 both-close low high offset other few a b c d = (omega arith, omega arith)
 
 -- two offsets of a gap
-two-named : (low high : ℕ) (ends : ℕ × ℕ) (offset : ℕ) → (low ≤ ends.0) × (ends.0 ≤ ends.1) × (ends.1 ≤ high) → Contains (ends.0 ∷ ends.1 ∷ []) offset
+pub two-named : (low high : ℕ) (ends : ℕ × ℕ) (offset : ℕ) → (low ≤ ends.0) × (ends.0 ≤ ends.1) × (ends.1 ≤ high) → Contains (ends.0 ∷ ends.1 ∷ []) offset
     → (low ≤ offset) × (offset ≤ high)
 two-named low high ends offset at named = elim (Contains-push_cases (ends.0 ∷ []) ends.1 offset named) [
   | inl first ↦ elim (Contains-push_cases [] ends.0 offset first) [
@@ -122,6 +122,7 @@ module _ {C : Type 0} (w : Ways C) where
   pub record IsOneOfPair (addr : Addr) (socket : Enrolled C) (from : Addr) (other : Enrolled C) : Type 0 where
     pub in_range : IsSocket w socket
     pub other_in : IsSocket w other
+    pub connected : AreConnected w addr socket.own socket.history from other.own other.history
     pub are : AreMates w addr socket.own socket.history from other.own other.history
     pub all : AllComesFrom socket from other
     pub few : length (sent other.history) < 2 ^ 30
@@ -138,8 +139,7 @@ module _ {C : Type 0} (w : Ways C) where
 
     blocks-below : bounds.BlocksBelow w other.history (limit_of other)
     unfolding limit_of
-    blocks-below = bounds.below-sent w other.own other.way other.history pair.other_in.in_range pair.other_in.opened pair.other_in.legal
-        pair.other_stream
+    blocks-below = bounds.below-sent w other.history pair.connected.other_begins pair.other_stream
 
     -- where its receiving half stands in the beginning, and after some items
     begins : IsWithin (start_of other.history) (limit_of other) socket.history.opening.receiving
@@ -150,7 +150,7 @@ module _ {C : Type 0} (w : Ways C) where
         → IsWithin (start_of other.history) (limit_of other) (after_items w socket.history.opening front).receiving
     stands-after front rest joined =
         let split = ap arrived_by joined ∙ arrived_by-append front rest in
-        within-after w socket other from pair.other_in pair.are.has comes (limit_of other) limited blocks-below socket.history.opening front pair.stream pair.are.own_is
+        within-after w socket other from pair.other_in pair.are.has comes (limit_of other) limited blocks-below socket.history.opening front pair.are.settled pair.stream pair.are.own_is
         pair.are.peer_addr pair.are.same_isn begins
         (λ datagram among. subst (λ (l : List Datagram). Contains l datagram) (sym split) (Contains-append_left _ _ datagram among))
 
@@ -172,7 +172,7 @@ module _ {C : Type 0} (w : Ways C) where
     meets-within emission at =
         let g = other.history in
         let there = after_items w g.opening at.front in
-        let same = after_items-keeps w g.opening at.front in
+        let same = after_items-keeps w g.opening at.front back.are.settled in
         let split = ap arrived_by at.joined ∙ arrived_by-append at.front (at.item ∷ at.rest) in
         meets-map (IsBlockBelow w other socket addr back.other_in back.are.has (comes from other addr socket back) (limit_of socket)
         (limited from other addr socket back) (blocks-below from other addr socket back)) (λ offset payload. offset < limit_of socket)
@@ -230,6 +230,8 @@ module _ {C : Type 0} (w : Ways C) where
         absurd (none-named offset (subst (λ (l : List ℕ). Contains l offset) (ap (λ (e : Emission). e.offsets) is) named))
     kind-close s emission bytes offset within acked among bytes_are t act reply (TheEnd closing is) reads named fits stood meets endless =
         absurd (none-named offset (subst (λ (l : List ℕ). Contains l offset) (ap (λ (e : Emission). e.offsets) is) named))
+    kind-close s emission bytes offset within acked among bytes_are t act reply (SendsHandshake to dest shake sends is) reads named fits stood meets endless =
+        absurd (none-named offset (subst (λ (l : List ℕ). Contains l offset) (ap (λ (e : Emission). e.offsets) is) named))
 
     -- so what an emission names is
     close-to : (s : State C) (emission : Emission) (bytes : List ℕ) (packet : Packet) (offset : ℕ)
@@ -237,9 +239,9 @@ module _ {C : Type 0} (w : Ways C) where
         → Contains (emitted w other.history) emission → emission.datagram.bytes ≡ bytes → read bytes ≡ Ok packet → Contains emission.offsets offset
         → IsClose offset (read_by s packet)
     close-to s emission bytes packet offset within acked among bytes_are reads named =
-        let at = emission-at w other.own other.way other.history pair.other_in.in_range pair.other_in.opened pair.other_in.legal emission among in
-        let goes = emission-goes w other.own other.way other.history pair.other_in.in_range pair.other_in.opened pair.other_in.legal emission at in
-        let moment = moment-at w other.own other.way other.history pair.other_in.in_range pair.other_in.opened pair.other_in.legal emission at in
+        let at = emission-at w other.history pair.connected.other_begins emission among in
+        let goes = emission-goes w other.history pair.connected.other_begins emission at in
+        let moment = moment-at w other.history pair.connected.other_begins emission at in
         let same = same-packet bytes _ packet (ap read (sym bytes_are) ∙ goes.reads) reads in
         subst (λ (p : Packet). IsClose offset (read_by s p)) same
         (kind-close s emission bytes offset within acked among bytes_are (at_moment (after_items w other.history.opening at.front) at.item.event.now)
@@ -247,7 +249,7 @@ module _ {C : Type 0} (w : Ways C) where
         (meets-at_moment (λ n payload. n < limit_of socket) (after_items w other.history.opening at.front) at.item.event.now at.item.event.act (meets-within emission at))
         (moment-endless w (after_items w other.history.opening at.front) at.item.event.now
         (items-endless w other.history.opening at.front
-        (opening-endless w other.own other.way other.history pair.other_in.opened pair.other_stream))))
+        (begins-endless w other.history pair.connected.other_begins pair.other_stream))))
 
     act-honest : (s : State C) (act : Act) → IsWithin (start_of other.history) (limit_of other) s.receiving
         → IsAckedWithin (start_of socket.history) (limit_of socket) s
@@ -257,8 +259,8 @@ module _ {C : Type 0} (w : Ways C) where
         let came = pair.all (record { addr = a; bytes = bytes }) (among _ (Contains-push [] _)) in
         let is = emitted-from_sent w other.history.opening other.history.items came.1.0 pair.other_in.legal came.1.1 in
         let bytes_are : is.emission.datagram.bytes ≡ bytes = ap (λ (d : Datagram). d.bytes) is.datagram_is ∙ came.1.2 in
-        let at = emission-at w other.own other.way other.history pair.other_in.in_range pair.other_in.opened pair.other_in.legal is.emission is.among in
-        let goes = emission-goes w other.own other.way other.history pair.other_in.in_range pair.other_in.opened pair.other_in.legal is.emission at in
+        let at = emission-at w other.history pair.connected.other_begins is.emission is.among in
+        let goes = emission-goes w other.history pair.connected.other_begins is.emission at in
         record {
           socket = other;
           emission = is.emission;
@@ -269,16 +271,16 @@ module _ {C : Type 0} (w : Ways C) where
         }
     act-honest s act within acked among = tt
 
-    items-honest : (s : State C) (blocks : List (List ℕ)) (items : List Item) → s.kind ≡ Stream → s.own ≡ socket.own → s.peer.addr ≡ from
+    items-honest : (s : State C) (blocks : List (List ℕ)) (items : List Item) → is_settled s.phase ≡ true → s.kind ≡ Stream → s.own ≡ socket.own → s.peer.addr ≡ from
         → (state_of w other.history).sending.isn ≡ s.receiving.isn
         → IsWithin (start_of other.history) (limit_of other) s.receiving → IsCut s.sending (start_of socket.history) blocks
         → SendsBelow w (limit_of socket) s items
         → ((datagram : Datagram) → Contains (arrived_by items) datagram → Contains (arrivals socket.history) datagram)
         → AreHonest w net addr s items
     unfolding arrived_by AreHonest
-    items-honest s blocks [] stream own_is addr_is isn_is within is_cut below among = tt
-    items-honest s blocks (item ∷ items) stream own_is addr_is isn_is within is_cut below among =
-        let same = step-keeps w s item.event in
+    items-honest s blocks [] settled stream own_is addr_is isn_is within is_cut below among = tt
+    items-honest s blocks (item ∷ items) settled stream own_is addr_is isn_is within is_cut below among =
+        let same = step-keeps w s item.event settled in
         let here = λ (datagram : Datagram) (h : Contains (arrived_by_act item.event.act) datagram). among datagram (Contains-append_left _ _ datagram h) in
         let meets = act-below w socket other from pair.other_in pair.are.has (comes addr socket from other pair) (limit_of other) (limited addr socket from other pair)
         (blocks-below addr socket from other pair) s item.event.act own_is addr_is isn_is within here in
@@ -287,8 +289,9 @@ module _ {C : Type 0} (w : Ways C) where
         let acked : IsAckedWithin (start_of socket.history) (limit_of socket) s =
         record { not_below = is_cut.not_before; not_above = omega (arith, is_cut.sent_from, below.0) } in (
           act-honest s item.event.act within acked here,
-          items-honest (step w s item.event).after (blocks ++ blocks_of s item.event) items (same.kind ∙ stream) (same.own ∙ own_is) (ap (λ (p : Peer). p.addr) same.peer ∙ addr_is)
-              (isn_is ∙ sym same.receiving.isn) next (step-cut w (start_of socket.history) blocks s item.event is_cut) below.1
+          items-honest (step w s item.event).after (blocks ++ blocks_of s item.event) items
+              (same.settled settled) (same.kind ∙ stream) (same.own ∙ own_is) (ap (λ (p : Peer). p.addr) same.peer ∙ addr_is)
+              (isn_is ∙ sym same.receiving.isn) next (step-cut w (start_of socket.history) blocks s item.event settled is_cut) below.1
               (λ datagram h. among datagram (Contains-append_right _ _ datagram h)),
         )
 
@@ -296,22 +299,24 @@ module _ {C : Type 0} (w : Ways C) where
     unfolding limit_of
     history-honest =
         let h = socket.history in
-        let well = way-begins w socket.own socket.way h pair.in_range.in_range pair.in_range.opened in
-        items-honest h.opening [] h.items pair.stream pair.are.own_is pair.are.peer_addr pair.are.same_isn (begins addr socket from other pair)
-        well.cut (sends-below_sent w socket.own socket.way h pair.in_range.in_range pair.in_range.opened pair.stream pair.in_range.legal)
+        let well = begins-well w h pair.connected.begins in
+        items-honest h.opening [] h.items pair.are.settled pair.stream pair.are.own_is pair.are.peer_addr pair.are.same_isn (begins addr socket from other pair)
+        well.cut (sends-below_sent w h pair.connected.begins pair.stream)
         (λ datagram among. among)
 
   pub pair_honest : PairHonest w
   pair_honest addr other_addr socket other apart in_range other_in paired stream all other_all few other_few =
       let net = both_records addr socket other_addr other in
-      let other_stream = pair-stream w addr socket.own socket.way socket.history other_addr other.own other.way other.history paired
-      in_range.opened other_in.opened stream in
-      let back = paired-back addr socket.own socket.way other_addr other.own other.way paired in
+      let h = socket.history in
+      let g = other.history in
+      let connected = paired-connected w addr socket other_addr other in_range other_in paired in
+      let back = connected-back w addr socket.own h other_addr other.own g connected in
+      let other_stream = connected.same_kind ∙ stream in
       let one : IsOneOfPair addr socket other_addr other = record {
         in_range = in_range;
         other_in = other_in;
-        are = mates w addr socket.own socket.way socket.history other_addr other.own other.way other.history paired
-            in_range.opened in_range.legal other_in.in_range other_in.opened other_in.legal;
+        connected = connected;
+        are = mates w addr socket.own h other_addr other.own g connected;
         all = all;
         few = other_few;
         stream = stream;
@@ -320,8 +325,8 @@ module _ {C : Type 0} (w : Ways C) where
       let two : IsOneOfPair other_addr other addr socket = record {
         in_range = other_in;
         other_in = in_range;
-        are = mates w other_addr other.own other.way other.history addr socket.own socket.way socket.history back
-            other_in.opened other_in.legal in_range.in_range in_range.opened in_range.legal;
+        connected = back;
+        are = mates w other_addr other.own g addr socket.own h back;
         all = other_all;
         few = few;
         stream = other_stream;

@@ -5,11 +5,11 @@ use Rattle.std.proofs.lemmas.List.Elements.{Contains-append_left, Contains-appen
 use Rattle.udt_model.specs.declared.addresses.Addr.{Addr}
 use Rattle.udt_model.specs.Wire.{destination}
 use Rattle.udt_model.specs.Rate.{Ways}
-use Rattle.udt_model.specs.Records.{Enrolled, IsSocket, EndpointRecord, StandsAt, ArePaired, IsPaired, IsLawful, AreLawful, own_peer}
+use Rattle.udt_model.specs.Records.{Way, PairedAt, Enrolled, IsSocket, EndpointRecord, StandsAt, ArePaired, IsAsked, IsLawful, AreLawful, own_peer}
 use Rattle.udt_model.specs.Emissions.{emitted}
 use Rattle.udt_model.specs.Honest.{AreHonest, IsHonest}
 use Rattle.udt_laws.specs.Laws.{both_records}
-use Rattle.udt_laws.proofs.sent_blocks.GoesToPeer.{goes-to_peer}
+use Rattle.udt_laws.proofs.sent_blocks.SocketsSend.{addressed, named}
 use Rattle.udt_laws.proofs.sockets.OneSocket.{paired-back}
 
 module _ {C : Type 0} (w : Ways C) where
@@ -19,6 +19,18 @@ module _ {C : Type 0} (w : Ways C) where
   only-endpoint : (first other : EndpointRecord C) → Contains (first ∷ []) other → first ≡ other
   only-endpoint first other among = elim (Contains-push_cases [] first other among) [ inl none ↦ absurd (omega (arith, none.1)) | inr same ↦ same ]
 
+  -- a socket that was made as a pair may be opened so
+  paired-asked : (net : List (EndpointRecord C)) (endpoint : EndpointRecord C) (socket : Enrolled C) (other_addr : Addr) (other : Enrolled C) (way : Way)
+      → socket.way ≡ way → StandsAt net other_addr other → ArePaired endpoint.addr socket.own way other_addr other.own other.way
+      → IsAsked net endpoint socket way
+  paired-asked net endpoint socket other_addr other (PairedAt config peer now start) is stands paired = record {
+    other_addr = other_addr;
+    other = other;
+    stands = stands;
+    paired = subst (λ (way : Way). ArePaired endpoint.addr socket.own way other_addr other.own other.way) (sym is) paired;
+  }
+  paired-asked net endpoint socket other_addr other _ is stands paired = absurd paired
+
   -- the record of an endpoint with one socket, whose other half stands in the records
   lone-lawful : (net : List (EndpointRecord C)) (addr : Addr) (socket : Enrolled C) (other_addr : Addr) (other : Enrolled C) → IsSocket w socket
       → StandsAt net other_addr other → ArePaired addr socket.own socket.way other_addr other.own other.way
@@ -27,13 +39,18 @@ module _ {C : Type 0} (w : Ways C) where
     sockets = λ one among. subst (IsSocket w) (only-socket socket one among) in_range;
     ids = λ one two first second own. sym (only-socket socket one first) ∙ only-socket socket two second;
     peers = λ one two peer first second a b. sym (only-socket socket one first) ∙ only-socket socket two second;
-    addressed = λ one emission packet among emits reads handshake.
+    addressed = λ one emission packet among emits reads bound.
         let same = only-socket socket one among in
         let mine = subst (λ (x : Enrolled C). Contains (emitted w x.history) emission) (sym same) emits in
         subst (λ (x : Enrolled C). own_peer w x.history ≡ Some (record { addr = emission.datagram.addr; id = destination packet }))
-        same (goes-to_peer w socket.own socket.way socket.history in_range.in_range in_range.opened in_range.legal emission packet mine reads);
-    met = λ one among. subst (IsPaired net addr) (only-socket socket one among)
-        (record { other_addr = other_addr; other = other; stands = stands; paired = paired });
+        same (addressed w socket emission packet in_range mine reads bound);
+    named = λ one emission stamp dest shake among emits reads names.
+        let same = only-socket socket one among in
+        let mine = subst (λ (x : Enrolled C). Contains (emitted w x.history) emission) (sym same) emits in
+        subst (λ (x : Enrolled C). (shake.id ≡ x.own) × (shake.isn ≡ x.history.opening.isn))
+        same (named w socket emission stamp dest shake in_range mine reads names);
+    met = λ one among. subst (λ (x : Enrolled C). IsAsked net (record { addr = addr; sockets = socket ∷ [] }) x x.way) (only-socket socket one among)
+        (paired-asked net (record { addr = addr; sockets = socket ∷ [] }) socket other_addr other socket.way refl stands paired);
   }
 
   module _ (addr other_addr : Addr) (socket other : Enrolled C) where

@@ -1,6 +1,6 @@
 -- Of two sockets that were made as a pair, fewer than 2^30 events or datagrams of the one can name no offset too far
 -- from where the other stands.
-use Rattle.std.proofs.Common.{◌≡◌, ℕ, ◌+◌, ◌^◌, ◌<◌, ◌≤◌, List, [], ◌∷◌, length, Ok, ap, ◌∙◌, sym, subst, inl, inr, arith}
+use Rattle.std.proofs.Common.{◌≡◌, ℕ, ◌+◌, ◌^◌, ◌<◌, ◌≤◌, true, List, [], ◌∷◌, length, Ok, ap, ◌∙◌, sym, subst, inl, inr, arith}
 use Rattle.std.specs.List.{Contains}
 use Rattle.std.proofs.lemmas.List.Elements.{Contains-append_left, Contains-append_right, Contains-push, Contains-push_cases}
 use Rattle.udt_model.specs.declared.packets.Kind.TheVariants.{Stream}
@@ -17,12 +17,13 @@ use Rattle.udt_model.specs.History.{Item, after_items, state_of, start_of, accep
 use Rattle.udt_model.specs.Records.{Enrolled, IsSocket, ArePaired}
 use Rattle.udt_model.specs.Emissions.{IsPrefix, emitted, arrived_by_act, arrived_by, arrivals, sent}
 use Rattle.udt_model.specs.Honest.{IsClose}
+use Rattle.udt_model.proofs.PhaseLemmas.{is_settled}
 use Rattle.udt_model.proofs.StepLemmas.{step-keeps}
 use Rattle.udt_laws.specs.Laws.{IsStream, HasBlocks, ComesFrom, PairPrefix}
 use Rattle.udt_laws.proofs.delivered_prefix.PeerBlocksAlone.{IsBlockAt, reads-as, mates}
 use Rattle.udt_laws.proofs.delivered_is_carried.DeliversPlacedBlocks.{MeetsAct, AllMeet}
 use Rattle.udt_laws.proofs.sockets.OneSocket.{IsEmittedNear, comes-emitted}
-use Rattle.udt_laws.proofs.sockets.Opened.{pair-stream}
+use Rattle.udt_laws.proofs.sockets.Opened.{paired-connected}
 use Rattle.udt_laws.proofs.pairs.NamedIsBelow.{BlocksBelow, below-sent, below-events}
 use Rattle.udt_laws.proofs.delivered_prefix.WindowRises.{IsWithin, step-within}
 
@@ -97,29 +98,29 @@ module _ {C : Type 0} (w : Ways C) where
         (meets-map IsBlockBelow (λ offset payload. offset < limit) s event.act (λ offset payload both. both.1) meets) within
 
     -- and after all of them
-    pub within-after : (s : State C) (items : List Item) → s.kind ≡ Stream → s.own ≡ receiver.own → s.peer.addr ≡ from → (state_of w sender.history).sending.isn ≡ s.receiving.isn
+    pub within-after : (s : State C) (items : List Item) → is_settled s.phase ≡ true → s.kind ≡ Stream → s.own ≡ receiver.own → s.peer.addr ≡ from → (state_of w sender.history).sending.isn ≡ s.receiving.isn
         → IsWithin (start_of sender.history) limit s.receiving
         → ((datagram : Datagram) → Contains (arrived_by items) datagram → Contains (arrivals receiver.history) datagram)
         → IsWithin (start_of sender.history) limit (after_items w s items).receiving
     unfolding arrived_by after_items
-    within-after s [] stream own_is addr_is isn_is within among = within
-    within-after s (item ∷ items) stream own_is addr_is isn_is within among =
-        let same = step-keeps w s item.event in
+    within-after s [] settled stream own_is addr_is isn_is within among = within
+    within-after s (item ∷ items) settled stream own_is addr_is isn_is within among =
+        let same = step-keeps w s item.event settled in
         let meets = act-below s item.event.act own_is addr_is isn_is within (λ datagram h. among datagram (Contains-append_left _ _ datagram h)) in
-        within-after (step w s item.event).after items (same.kind ∙ stream) (same.own ∙ own_is) (ap (λ (p : Peer). p.addr) same.peer ∙ addr_is) (isn_is ∙ sym same.receiving.isn)
+        within-after (step w s item.event).after items (same.settled settled) (same.kind ∙ stream) (same.own ∙ own_is) (ap (λ (p : Peer). p.addr) same.peer ∙ addr_is) (isn_is ∙ sym same.receiving.isn)
         (stays-within s item.event stream meets within) (λ datagram h. among datagram (Contains-append_right _ _ datagram h))
 
-    all-below : (s : State C) (items : List Item) → s.kind ≡ Stream → s.own ≡ receiver.own → s.peer.addr ≡ from → (state_of w sender.history).sending.isn ≡ s.receiving.isn
+    all-below : (s : State C) (items : List Item) → is_settled s.phase ≡ true → s.kind ≡ Stream → s.own ≡ receiver.own → s.peer.addr ≡ from → (state_of w sender.history).sending.isn ≡ s.receiving.isn
         → IsWithin (start_of sender.history) limit s.receiving
         → ((datagram : Datagram) → Contains (arrived_by items) datagram → Contains (arrivals receiver.history) datagram)
         → AllMeet w (IsBlockAt w sender.history has) s items
     unfolding arrived_by
-    all-below s [] stream own_is addr_is isn_is within among = tt
-    all-below s (item ∷ items) stream own_is addr_is isn_is within among =
-        let same = step-keeps w s item.event in
+    all-below s [] settled stream own_is addr_is isn_is within among = tt
+    all-below s (item ∷ items) settled stream own_is addr_is isn_is within among =
+        let same = step-keeps w s item.event settled in
         let meets = act-below s item.event.act own_is addr_is isn_is within (λ datagram h. among datagram (Contains-append_left _ _ datagram h)) in (
           meets-map IsBlockBelow (IsBlockAt w sender.history has) s item.event.act (λ offset payload both. both.0) meets,
-          all-below (step w s item.event).after items (same.kind ∙ stream) (same.own ∙ own_is) (ap (λ (p : Peer). p.addr) same.peer ∙ addr_is)
+          all-below (step w s item.event).after items (same.settled settled) (same.kind ∙ stream) (same.own ∙ own_is) (ap (λ (p : Peer). p.addr) same.peer ∙ addr_is)
               (isn_is ∙ sym same.receiving.isn) (stays-within s item.event stream meets within)
               (λ datagram h. among datagram (Contains-append_right _ _ datagram h)),
         )
@@ -130,23 +131,19 @@ module _ {C : Type 0} (w : Ways C) where
       → ComesFrom receiver peer_addr sender → BlocksBelow w sender.history limit → start_of sender.history ≤ limit → limit < start_of sender.history + 2 ^ 30
       → IsPrefix (delivered receiver.history) (accepted sender.history)
   prefix-below addr peer_addr receiver sender limit is_receiver is_sender paired stream comes below low few =
-      let are = mates w addr receiver.own receiver.way receiver.history peer_addr sender.own sender.way sender.history paired
-      is_receiver.opened is_receiver.legal is_sender.in_range is_sender.opened is_sender.legal in
+      let are = mates w addr receiver.own receiver.history peer_addr sender.own sender.history
+      (paired-connected w addr receiver peer_addr sender is_receiver is_sender paired) in
       are.front stream (all-below receiver sender peer_addr is_sender are.has comes limit few below receiver.history.opening receiver.history.items
-      stream are.own_is are.peer_addr are.same_isn
+      are.settled stream are.own_is are.peer_addr are.same_isn
       (begins-within receiver.history.opening.receiving (start_of sender.history) (start_of receiver.history) limit (sym are.same_start) low are.stands)
       (λ datagram among. among))
 
-  sender-stream : (addr peer_addr : Addr) (receiver sender : Enrolled C) → IsSocket w receiver → IsSocket w sender
-      → ArePaired addr receiver.own receiver.way peer_addr sender.own sender.way → IsStream receiver.history → IsStream sender.history
-  sender-stream addr peer_addr receiver sender is_receiver is_sender paired stream =
-      pair-stream w addr receiver.own receiver.way receiver.history peer_addr sender.own sender.way sender.history paired
-      is_receiver.opened is_sender.opened stream
-
   pub pair_prefix : PairPrefix w
   pair_prefix addr peer_addr receiver sender is_receiver is_sender paired stream comes few =
-      prefix-below addr peer_addr receiver sender (start_of sender.history + length (sent sender.history)) is_receiver is_sender paired stream comes
-      (below-sent w sender.own sender.way sender.history is_sender.in_range is_sender.opened is_sender.legal (sender-stream addr peer_addr receiver sender is_receiver is_sender paired stream)) (omega arith) (omega (arith, few))
+      let g = sender.history in
+      let connected = paired-connected w addr receiver peer_addr sender is_receiver is_sender paired in
+      prefix-below addr peer_addr receiver sender (start_of g + length (sent g)) is_receiver is_sender paired stream comes
+      (below-sent w g connected.other_begins (connected.same_kind ∙ stream)) (omega arith) (omega (arith, few))
 
   -- and by the number of its events
   pub events-prefix : (addr peer_addr : Addr) (receiver sender : Enrolled C) → IsSocket w receiver → IsSocket w sender
@@ -154,5 +151,7 @@ module _ {C : Type 0} (w : Ways C) where
       → ComesFrom receiver peer_addr sender → length sender.history.items < 2 ^ 30
       → IsPrefix (delivered receiver.history) (accepted sender.history)
   events-prefix addr peer_addr receiver sender is_receiver is_sender paired stream comes few =
-      prefix-below addr peer_addr receiver sender (start_of sender.history + length sender.history.items) is_receiver is_sender paired stream comes
-      (below-events w sender.own sender.way sender.history is_sender.in_range is_sender.opened is_sender.legal (sender-stream addr peer_addr receiver sender is_receiver is_sender paired stream)) (omega arith) (omega (arith, few))
+      let g = sender.history in
+      let connected = paired-connected w addr receiver peer_addr sender is_receiver is_sender paired in
+      prefix-below addr peer_addr receiver sender (start_of g + length g.items) is_receiver is_sender paired stream comes
+      (below-events w g connected.other_begins (connected.same_kind ∙ stream)) (omega arith) (omega (arith, few))

@@ -1,10 +1,6 @@
--- What is delivered and what is acknowledged are proved apart, each beside its lemmas.
-use Rattle.udt_laws.proofs.acked_has_arrived.AckedHasArrived.{prefix-arrived}
-use Rattle.udt_laws.proofs.delivered_prefix.DeliveredPrefix.{prefix-delivered}
+-- The law is proved beside the lemmas on which it stands.
+use Rattle.udt_laws.proofs.adoption.SocketsInStep.{prefix}
 use Rattle.udt_laws.proofs.prefix.Goals as goal
 
 pub returns : goal.returns
-returns g c = λ net addr socket other peer lawful honest here stream peer_is there own_is. record {
-  prefix = prefix-delivered g.C.Control.ways net addr socket other peer lawful honest here stream peer_is there own_is;
-  acknowledged = prefix-arrived g.C.Control.ways net addr socket other peer lawful honest here stream peer_is there own_is;
-}
+returns g c = prefix g.C.Control.ways

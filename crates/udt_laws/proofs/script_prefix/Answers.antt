@@ -1,6 +1,7 @@
 -- The law is proved beside the lemmas on which it stands.
-use Rattle.udt_laws.proofs.scripts.ScriptsInStep.{script_prefix}
+use Rattle.udt_laws.proofs.honest.ScriptPeers.{script_prefix}
+use Rattle.udt_laws.proofs.scripts.ScriptLawful.{script_lawful}
 use Rattle.udt_laws.proofs.script_prefix.Goals as goal
 
 pub returns : goal.returns
-returns g c = script_prefix g.C.Control.ways
+returns g c = script_prefix g.C.Control.ways (script_lawful g.C.Control.ways)

@@ -65,3 +65,16 @@ map-among f (first ∷ others) y among =
           let found = map-among f others y there in
           (found.0, Contains-append_right (first ∷ []) others found.0 found.1, found.2)
     ]
+
+-- a mapped list contains what an element becomes
+pub among-map : {X Y : Type 0} (f : X → Y) (xs : List X) (x : X) → Contains xs x → Contains (map f xs) (f x)
+among-map f [] x among = absurd (omega (arith, among.1))
+among-map f (first ∷ others) x among =
+    elim (Contains-append_cases (first ∷ []) others x among) [
+      | inl here ↦ elim (Contains-push_cases [] first x here) [
+        | inl none ↦ absurd (omega (arith, none.1))
+        | inr same ↦ subst (λ y. Contains (map f (first ∷ others)) (f y)) same
+            (Contains-append_left (f first ∷ []) (map f others) (f first) (Contains-push [] (f first)))
+      ]
+      | inr there ↦ Contains-append_right (f first ∷ []) (map f others) (f x) (among-map f others x there)
+    ]

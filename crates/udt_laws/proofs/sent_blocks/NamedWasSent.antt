@@ -7,8 +7,8 @@ use Rattle.std.proofs.lemmas.Bool.{cases_Bool}
 use Rattle.std.proofs.lemmas.List.{length-append, length-map}
 use Rattle.std.proofs.lemmas.List.Elements.{Contains-push_cases}
 use Rattle.udt_model.specs.declared.addresses.Addr.{Addr}
-use Rattle.udt_model.specs.declared.answers.Phase.{Phase}
-use Rattle.udt_model.specs.declared.answers.Phase.TheVariants as phase
+use Rattle.udt_model.specs.Phases.{Phase, Link, Stands, Lost, Absent, link_of}
+use Rattle.udt_model.specs.Phases as phase
 use Rattle.udt_model.specs.declared.answers.SendNo.{SendNo}
 use Rattle.udt_model.specs.declared.packets.Flags.{Flags}
 use Rattle.udt_model.specs.declared.packets.Kind.{Kind}
@@ -18,12 +18,11 @@ use Rattle.udt_model.specs.declared.sockets.ExpOutcome.TheVariants as exp
 use Rattle.udt_model.specs.Arrivals.{on_read}
 use Rattle.udt_model.specs.Calls.{send_in, send_as, recv_in, recv_as, send_message_in, send_message_as, recv_message_in, recv_message_as, packed_so, pack_in}
 use Rattle.udt_model.specs.Emissions.{sent_by}
-use Rattle.udt_model.specs.Events.{Act, Send, Recv, SendMessage, RecvMessage, Pack, Tick, Close, Measure, Arrive, Event, Reply, Outcome, outs_of, at_moment}
+use Rattle.udt_model.specs.Connections.{repeats}
+use Rattle.udt_model.specs.Events.{Act, Send, Recv, SendMessage, RecvMessage, Pack, Tick, Arrive, Event, Reply, Outcome, outs_of, at_moment}
 use Rattle.udt_model.specs.History.{Item, History, after_items, AreLegal}
 use Rattle.udt_model.specs.Losses.{LostRange}
 use Rattle.udt_model.specs.Rate.{Ways}
-use Rattle.udt_model.specs.Opening.{opening}
-use Rattle.udt_model.specs.Records.{Way, PairedAt, opened_by}
 use Rattle.udt_model.specs.SendHalf.{Sending, send_answer, message_answer, expiry_of, after_answer, after_send, after_send_message, Packing, Waits, Retransmits, Drops, Sends, Idles, packing}
 use Rattle.udt_model.specs.SendReports.{entering, after_entering, after_nak, after_timeout}
 use Rattle.udt_model.specs.State.{State, Emission}
@@ -32,10 +31,12 @@ use Rattle.udt_model.specs.Ticks.{exp_outcome, after_exp, after_reports, tick_in
 use Rattle.udt_model.specs.Timing.{RoundTrip}
 use Rattle.udt_model.specs.Wire.{WireRange, Block, read}
 use Rattle.udt_model.proofs.ArrivalLemmas.{arrival-shows}
-use Rattle.udt_model.proofs.EmissionLemmas.{Emitting, NewBlock, LostBlock, DropRequest, FullAck, LightAck, Reports, ReportsGap, ReportsDropGap, AnswersAck, SendsKeepAlive, TheEnd}
-use Rattle.udt_model.proofs.StepLemmas.{step-keeps}
+use Rattle.udt_model.proofs.EmissionLemmas.{Emitting, NewBlock, LostBlock, DropRequest, FullAck, LightAck, Reports, ReportsGap, ReportsDropGap, AnswersAck, SendsKeepAlive, TheEnd, SendsHandshake}
+use Rattle.udt_model.proofs.PhaseLemmas.{repeats-show}
+use Rattle.udt_model.proofs.StepLemmas.{step-keeps_name}
 use Rattle.udt_model.proofs.StreamLemmas.{NoneExpires, packing-no_drop, stream-none_expires}
 use Rattle.udt_model.proofs.SendingLemmas.{IsCut, after_ack-next, packing-again, lost-within}
+use Rattle.udt_laws.proofs.sockets.Begins.{Begins, begins_kept}
 use Rattle.udt_laws.proofs.sent_blocks.EmissionsRead.{packet_of}
 
 module _ {C : Type 0} where
@@ -85,47 +86,43 @@ module _ {C : Type 0} (w : Ways C) where
   timeout-next s known = grind (arith, cases_Bool (nat_lt s.blocks.first s.next))
 
   module _ (s : State C) where
-    send-advances : (bytes : List ℕ) (phase : Phase) → Advances s.sending.next (send_in s bytes phase)
-    send-advances bytes phase.Connected = stays-next s _ (send-next s.sending bytes)
-    send-advances bytes (phase.Broken why) = stays-next s _ refl
-    send-advances bytes phase.Closing = stays-next s _ refl
-    send-advances bytes phase.Closed = stays-next s _ refl
+    send-advances : (bytes : List ℕ) (link : Link) → Advances s.sending.next (send_in s bytes link)
+    send-advances bytes Stands = stays-next s _ (send-next s.sending bytes)
+    send-advances bytes (Lost why) = stays-next s _ refl
+    send-advances bytes Absent = stays-next s _ refl
 
-    recv-advances : (room : ℕ) (phase : Phase) → Advances s.sending.next (recv_in s room phase)
-    recv-advances room phase.Connected = stays-next s _ refl
-    recv-advances room (phase.Broken why) = stays-next s _ refl
-    recv-advances room phase.Closing = stays-next s _ refl
-    recv-advances room phase.Closed = stays-next s _ refl
+    recv-advances : (room : ℕ) (link : Link) → Advances s.sending.next (recv_in s room link)
+    recv-advances room Stands = stays-next s _ refl
+    recv-advances room (Lost why) = stays-next s _ refl
+    recv-advances room Absent = stays-next s _ refl
 
     send_as-advances : (bytes : List ℕ) (k : Kind) → Advances s.sending.next (send_as s bytes k)
-    send_as-advances bytes kind.Stream = send-advances bytes s.phase
+    send_as-advances bytes kind.Stream = send-advances bytes (link_of s.phase)
     send_as-advances bytes kind.Message = stays-next s _ refl
 
     recv_as-advances : (room : ℕ) (k : Kind) → Advances s.sending.next (recv_as s room k)
-    recv_as-advances room kind.Stream = recv-advances room s.phase
+    recv_as-advances room kind.Stream = recv-advances room (link_of s.phase)
     recv_as-advances room kind.Message = stays-next s _ refl
 
-    message-advances : (ttl : Option ℕ) (order : Bool) (bytes : List ℕ) (phase : Phase)
-        → Advances s.sending.next (send_message_in s ttl order bytes phase)
-    message-advances ttl order bytes phase.Connected = stays-next s _ (message-next s.sending s.last ttl order bytes)
-    message-advances ttl order bytes (phase.Broken why) = stays-next s _ refl
-    message-advances ttl order bytes phase.Closing = stays-next s _ refl
-    message-advances ttl order bytes phase.Closed = stays-next s _ refl
+    message-advances : (ttl : Option ℕ) (order : Bool) (bytes : List ℕ) (link : Link)
+        → Advances s.sending.next (send_message_in s ttl order bytes link)
+    message-advances ttl order bytes Stands = stays-next s _ (message-next s.sending s.last ttl order bytes)
+    message-advances ttl order bytes (Lost why) = stays-next s _ refl
+    message-advances ttl order bytes Absent = stays-next s _ refl
 
     message_as-advances : (ttl : Option ℕ) (order : Bool) (bytes : List ℕ) (k : Kind)
         → Advances s.sending.next (send_message_as s ttl order bytes k)
     message_as-advances ttl order bytes kind.Stream = stays-next s _ refl
-    message_as-advances ttl order bytes kind.Message = message-advances ttl order bytes s.phase
+    message_as-advances ttl order bytes kind.Message = message-advances ttl order bytes (link_of s.phase)
 
-    show-advances : (room : ℕ) (phase : Phase) → Advances s.sending.next (recv_message_in s room phase)
-    show-advances room phase.Connected = stays-next s _ refl
-    show-advances room (phase.Broken why) = stays-next s _ refl
-    show-advances room phase.Closing = stays-next s _ refl
-    show-advances room phase.Closed = stays-next s _ refl
+    show-advances : (room : ℕ) (link : Link) → Advances s.sending.next (recv_message_in s room link)
+    show-advances room Stands = stays-next s _ refl
+    show-advances room (Lost why) = stays-next s _ refl
+    show-advances room Absent = stays-next s _ refl
 
     show_as-advances : (room : ℕ) (k : Kind) → Advances s.sending.next (recv_message_as s room k)
     show_as-advances room kind.Stream = stays-next s _ refl
-    show_as-advances room kind.Message = show-advances room s.phase
+    show_as-advances room kind.Message = show-advances room (link_of s.phase)
 
     packed-advances : (p : Packing) → NoneExpires s.sending.blocks.kept → packing w s.sending s.last ≡ p
         → Advances s.sending.next (packed_so w s p)
@@ -135,11 +132,10 @@ module _ {C : Type 0} (w : Ways C) where
     packed-advances (Sends block) none is = record { once = omega arith; sends = omega arith }
     packed-advances Idles none is = stays-next s _ refl
 
-    pack-advances : (phase : Phase) → NoneExpires s.sending.blocks.kept → Advances s.sending.next (pack_in w s phase)
-    pack-advances phase.Connected none = packed-advances (packing w s.sending s.last) none refl
-    pack-advances (phase.Broken why) none = stays-next s _ refl
-    pack-advances phase.Closing none = stays-next s _ refl
-    pack-advances phase.Closed none = stays-next s _ refl
+    pack-advances : (link : Link) → NoneExpires s.sending.blocks.kept → Advances s.sending.next (pack_in w s link)
+    pack-advances Stands none = packed-advances (packing w s.sending s.last) none refl
+    pack-advances (Lost why) none = stays-next s _ refl
+    pack-advances Absent none = stays-next s _ refl
 
     exp-next : (what : ExpOutcome) → (after_exp w (after_reports s) what).sending.next ≡ s.sending.next
     exp-next exp.NotDue = refl
@@ -147,11 +143,17 @@ module _ {C : Type 0} (w : Ways C) where
     exp-next exp.LosesAll = timeout-next s.sending s.rtt
     exp-next exp.KeepsAlive = refl
 
+    repeats-advances : (began again : ℕ) (next : Phase) (emission : Emission) → Advances s.sending.next (repeats s began again next emission)
+    repeats-advances began again next emission =
+        repeats-show s began again next emission (Advances s.sending.next)
+        (record { fails = stays-next s _ refl; again = stays-next s _ refl; waits = stays-next s _ refl })
+
     tick-advances : (phase : Phase) → Advances s.sending.next (tick_in w s phase)
     tick-advances phase.Connected = stays-next s (tick_in w s phase.Connected) (exp-next (exp_outcome s))
-    tick-advances (phase.Broken why) = stays-next s _ refl
+    tick-advances (phase.Connecting c again) = repeats-advances c.caller.began again _ _
+    tick-advances (phase.Meeting m again) = repeats-advances m.caller.began again _ _
     tick-advances phase.Closing = stays-next s _ refl
-    tick-advances phase.Closed = stays-next s _ refl
+    tick-advances _ = stays-next s _ refl
 
     arrive-advances : (from : Addr) (bytes : List ℕ) → Advances s.sending.next (on_read w s from (read bytes))
     arrive-advances from bytes = arrival-shows w s from (Advances s.sending.next) (read bytes) (record {
@@ -163,6 +165,9 @@ module _ {C : Type 0} (w : Ways C) where
       reported = λ stamp ranges connected sender is. stays-next s _ (nak-next s.sending s.rtt ranges);
       confirmed = λ number ack connected found. stays-next s _ refl;
       ended = λ connected. stays-next s _ refl;
+      again = λ stamp dest shake answer connected sender is same answers. stays-next s _ refl;
+      shaken = λ next peer origin answer emissions differs drops unsettled is. stays-next s _ refl;
+      linked = λ peer origin emissions unsettled is. stays-next s _ refl;
     })
 
     act-advances : (act : Act) → NoneExpires s.sending.blocks.kept → Advances s.sending.next (on_act w s act)
@@ -170,11 +175,10 @@ module _ {C : Type 0} (w : Ways C) where
     act-advances (Recv room) none = recv_as-advances room s.kind
     act-advances (SendMessage ttl order bytes) none = message_as-advances ttl order bytes s.kind
     act-advances (RecvMessage room) none = show_as-advances room s.kind
-    act-advances Pack none = pack-advances s.phase none
+    act-advances Pack none = pack-advances (link_of s.phase) none
     act-advances Tick none = tick-advances s.phase
-    act-advances Close none = stays-next s _ refl
-    act-advances Measure none = stays-next s _ refl
     act-advances (Arrive from bytes) none = arrive-advances from bytes
+    act-advances _ none = stays-next s _ refl
 
   pub step-advances : (s : State C) (event : Event) → NoneExpires s.sending.blocks.kept → Advances s.sending.next (step w s event)
   unfolding step
@@ -187,7 +191,7 @@ module _ {C : Type 0} (w : Ways C) where
 
   pub stays-endless : (s : State C) (event : Event) → IsEndless s → IsEndless (step w s event).after
   stays-endless s event endless = record {
-    stream = (step-keeps w s event).kind ∙ endless.stream;
+    stream = (step-keeps_name w s event).kind ∙ endless.stream;
     none = stream-none_expires w s event endless.stream endless.none;
   }
 
@@ -199,15 +203,11 @@ module _ {C : Type 0} (w : Ways C) where
   items-endless s [] endless = endless
   items-endless s (item ∷ items) endless = items-endless (step w s item.event).after items (stays-endless s item.event endless)
 
-  -- a stream begins so
-  opening-endless_by : (own : ℕ) (way : Way) → NoneExpires (opened_by w own way).sending.blocks.kept
-  unfolding opening
-  opening-endless_by own (PairedAt config peer now start) = tt
-
-  pub opening-endless : (own : ℕ) (way : Way) (h : History C) → h.opening ≡ opened_by w own way → h.opening.kind ≡ kind.Stream → IsEndless h.opening
-  opening-endless own way h opened stream = record {
+  -- a stream that is connected begins so
+  pub begins-endless : (h : History C) → Begins w h → h.opening.kind ≡ kind.Stream → IsEndless h.opening
+  begins-endless h begins stream = record {
     stream = stream;
-    none = subst (λ (s : State C). NoneExpires s.sending.blocks.kept) (sym opened) (opening-endless_by own way);
+    none = subst NoneExpires (sym (begins_kept w h begins)) tt;
   }
 
   -- an event emits as many datagrams as it has emissions
@@ -251,3 +251,4 @@ module _ {C : Type 0} (w : Ways C) where
   packet-below s act reply start blocks emission (AnswersAck n connected is) number flags stamp dest payload offset cut same named = absurd (cc)
   packet-below s act reply start blocks emission (SendsKeepAlive connected is) number flags stamp dest payload offset cut same named = absurd (cc)
   packet-below s act reply start blocks emission (TheEnd closing is) number flags stamp dest payload offset cut same named = absurd (cc)
+  packet-below s act reply start blocks emission (SendsHandshake to d shake sends is) number flags stamp dest payload offset cut same named = absurd (cc)

@@ -5,8 +5,8 @@ use Rattle.std.proofs.lemmas.Bool.{cases_Bool}
 use Rattle.std.proofs.lemmas.Bool.Decides.{nat_tests}
 use Rattle.std.proofs.lemmas.List.{length-drop}
 use Rattle.udt_model.specs.declared.addresses.Addr.{Addr}
-use Rattle.udt_model.specs.declared.answers.Phase.{Phase}
-use Rattle.udt_model.specs.declared.answers.Phase.TheVariants as phase
+use Rattle.udt_model.specs.Phases.{Phase, Link, Stands, Lost, Absent, link_of}
+use Rattle.udt_model.specs.Phases as phase
 use Rattle.udt_model.specs.declared.answers.Placed.{Placed}
 use Rattle.udt_model.specs.declared.answers.Placed.TheVariants as placing
 use Rattle.udt_model.specs.declared.limits.TheConstants.{GREATEST_RTT, MOST_BLOCKS, SAMPLE_WINDOW}
@@ -20,7 +20,8 @@ use Rattle.udt_model.specs.declared.sockets.ExpOutcome.TheVariants as exp
 use Rattle.udt_model.specs.declared.sockets.SentAck.{SentAck}
 use Rattle.udt_model.specs.Arrivals.{on_read}
 use Rattle.udt_model.specs.Calls.{send_in, send_as, recv_in, recv_as, send_message_in, send_message_as, recv_message_in, recv_message_as, pack_in}
-use Rattle.udt_model.specs.Events.{Act, Send, Recv, SendMessage, RecvMessage, Pack, Tick, Close, Measure, Arrive, Event, at_moment}
+use Rattle.udt_model.specs.Connections.{repeats}
+use Rattle.udt_model.specs.Events.{Act, Send, Recv, SendMessage, RecvMessage, Pack, Tick, Arrive, Event, at_moment}
 use Rattle.udt_model.specs.History.{Item, after_items}
 use Rattle.udt_model.specs.Losses.{LostRange, report, after_report, with_missing, without_missing}
 use Rattle.udt_model.specs.Rate.{Ways}
@@ -29,7 +30,7 @@ use Rattle.udt_model.specs.ReceiveHalf.{Receiving, measured, since_last, offset_
 use Rattle.udt_model.specs.ReceiveOrder.{IsInOrder}
 use Rattle.udt_model.specs.ReceiveReports.{number_after, nak_words, AckOutcome, IsEarly, IsKnown, EmitsAck, ack_outcome, after_ack_outcome, after_ack_timer, after_nak_timer, confirmed_by, after_ack2}
 use Rattle.udt_model.specs.SendReports.{sampled}
-use Rattle.udt_model.specs.State.{State}
+use Rattle.udt_model.specs.State.{State, Emission}
 use Rattle.udt_model.specs.Step.{on_act, step}
 use Rattle.udt_model.specs.Ticks.{exp_outcome, after_exp, after_reports, tick_in}
 use Rattle.udt_model.specs.Timing.{RoundTrip, after_sample, last_under, period_of}
@@ -39,6 +40,7 @@ use Rattle.udt_model.proofs.DropLemmas.{taken_in_order, shown_in_order}
 use Rattle.udt_model.proofs.HalfLemmas.{after_receive_message-keeps, after_block-keeps}
 use Rattle.udt_model.proofs.InOrder.{placed_in_order, read_in_order, reported_in_order}
 use Rattle.udt_model.proofs.MissingOffsets.{AreRisingMissing, added-rising, arrived-rising, reported-rising}
+use Rattle.udt_model.proofs.PhaseLemmas.{repeats-show}
 use Rattle.udt_model.proofs.ReceivingSteps.{receiving-shows}
 use Rattle.udt_model.proofs.TickLemmas.{ack_outcome-tells}
 
@@ -222,6 +224,13 @@ module _ {C : Type 0} (w : Ways C) where
         taken-fits s.receiving now first last range taken fits;
     tells = λ now known. nak_timer-fits _ now known (ack_timer-fits s.receiving now known fits);
     confirms = λ number. ack2-fits s.receiving number fits;
+    links = λ now peer unsettled. record {
+      capacity = fits.capacity;
+      number = fits.number;
+      order = fits.order;
+      rising = fits.rising;
+      arrivals = fits.arrivals;
+    };
   })
 
   pub items-fit : (s : State C) (items : List Item) → ReportsFit s.receiving → ReportsFit (after_items w s items).receiving
@@ -237,53 +246,48 @@ module _ {C : Type 0} (w : Ways C) where
   sampled-fits known (Full ack rtt var buffer rate capacity) fits = sample-fits known rtt fits
 
   module _ (s : State C) (fits : RoundTripFits s.rtt) where
-    send-round : (bytes : List ℕ) (phase : Phase) → RoundTripFits (send_in s bytes phase).after.rtt
-    send-round bytes phase.Connected = fits
-    send-round bytes (phase.Broken why) = fits
-    send-round bytes phase.Closing = fits
-    send-round bytes phase.Closed = fits
+    send-round : (bytes : List ℕ) (link : Link) → RoundTripFits (send_in s bytes link).after.rtt
+    send-round bytes Stands = fits
+    send-round bytes (Lost why) = fits
+    send-round bytes Absent = fits
 
-    recv-round : (room : ℕ) (phase : Phase) → RoundTripFits (recv_in s room phase).after.rtt
-    recv-round room phase.Connected = fits
-    recv-round room (phase.Broken why) = fits
-    recv-round room phase.Closing = fits
-    recv-round room phase.Closed = fits
+    recv-round : (room : ℕ) (link : Link) → RoundTripFits (recv_in s room link).after.rtt
+    recv-round room Stands = fits
+    recv-round room (Lost why) = fits
+    recv-round room Absent = fits
 
     send_as-round : (bytes : List ℕ) (k : Kind) → RoundTripFits (send_as s bytes k).after.rtt
-    send_as-round bytes kind.Stream = send-round bytes s.phase
+    send_as-round bytes kind.Stream = send-round bytes (link_of s.phase)
     send_as-round bytes kind.Message = fits
 
     recv_as-round : (room : ℕ) (k : Kind) → RoundTripFits (recv_as s room k).after.rtt
-    recv_as-round room kind.Stream = recv-round room s.phase
+    recv_as-round room kind.Stream = recv-round room (link_of s.phase)
     recv_as-round room kind.Message = fits
 
-    send_message-round : (ttl : Option ℕ) (order : Bool) (bytes : List ℕ) (phase : Phase)
-        → RoundTripFits (send_message_in s ttl order bytes phase).after.rtt
-    send_message-round ttl order bytes phase.Connected = fits
-    send_message-round ttl order bytes (phase.Broken why) = fits
-    send_message-round ttl order bytes phase.Closing = fits
-    send_message-round ttl order bytes phase.Closed = fits
+    send_message-round : (ttl : Option ℕ) (order : Bool) (bytes : List ℕ) (link : Link)
+        → RoundTripFits (send_message_in s ttl order bytes link).after.rtt
+    send_message-round ttl order bytes Stands = fits
+    send_message-round ttl order bytes (Lost why) = fits
+    send_message-round ttl order bytes Absent = fits
 
     send_message_as-round : (ttl : Option ℕ) (order : Bool) (bytes : List ℕ) (k : Kind)
         → RoundTripFits (send_message_as s ttl order bytes k).after.rtt
     send_message_as-round ttl order bytes kind.Stream = fits
-    send_message_as-round ttl order bytes kind.Message = send_message-round ttl order bytes s.phase
+    send_message_as-round ttl order bytes kind.Message = send_message-round ttl order bytes (link_of s.phase)
 
-    recv_message-round : (room : ℕ) (phase : Phase) → RoundTripFits (recv_message_in s room phase).after.rtt
-    recv_message-round room phase.Connected = fits
-    recv_message-round room (phase.Broken why) = fits
-    recv_message-round room phase.Closing = fits
-    recv_message-round room phase.Closed = fits
+    recv_message-round : (room : ℕ) (link : Link) → RoundTripFits (recv_message_in s room link).after.rtt
+    recv_message-round room Stands = fits
+    recv_message-round room (Lost why) = fits
+    recv_message-round room Absent = fits
 
     recv_message_as-round : (room : ℕ) (k : Kind) → RoundTripFits (recv_message_as s room k).after.rtt
     recv_message_as-round room kind.Stream = fits
-    recv_message_as-round room kind.Message = recv_message-round room s.phase
+    recv_message_as-round room kind.Message = recv_message-round room (link_of s.phase)
 
-    pack-round : (phase : Phase) → RoundTripFits (pack_in w s phase).after.rtt
-    pack-round phase.Connected = fits
-    pack-round (phase.Broken why) = fits
-    pack-round phase.Closing = fits
-    pack-round phase.Closed = fits
+    pack-round : (link : Link) → RoundTripFits (pack_in w s link).after.rtt
+    pack-round Stands = fits
+    pack-round (Lost why) = fits
+    pack-round Absent = fits
 
     exp-round : (what : ExpOutcome) → RoundTripFits (after_exp w (after_reports s) what).rtt
     exp-round exp.NotDue = fits
@@ -291,11 +295,16 @@ module _ {C : Type 0} (w : Ways C) where
     exp-round exp.LosesAll = fits
     exp-round exp.KeepsAlive = fits
 
+    repeats-round : (began again : ℕ) (next : Phase) (emission : Emission) → RoundTripFits (repeats s began again next emission).after.rtt
+    repeats-round began again next emission =
+        repeats-show s began again next emission (λ outcome. RoundTripFits outcome.after.rtt) (record { fails = fits; again = fits; waits = fits })
+
     tick-round : (phase : Phase) → RoundTripFits (tick_in w s phase).after.rtt
     tick-round phase.Connected = exp-round (exp_outcome s)
-    tick-round (phase.Broken why) = fits
+    tick-round (phase.Connecting c again) = repeats-round c.caller.began again _ _
+    tick-round (phase.Meeting m again) = repeats-round m.caller.began again _ _
     tick-round phase.Closing = fits
-    tick-round phase.Closed = fits
+    tick-round _ = fits
 
     read-round : (from : Addr) (bytes : List ℕ) → RoundTripFits (on_read w s from (read bytes)).after.rtt
     read-round from bytes = arrival-shows w s from (λ outcome. RoundTripFits outcome.after.rtt) (read bytes) (record {
@@ -307,6 +316,9 @@ module _ {C : Type 0} (w : Ways C) where
       reported = λ stamp ranges connected sender is. fits;
       confirmed = λ number ack connected found. sample-fits s.rtt (s.last - ack.moment) fits;
       ended = λ connected. fits;
+      again = λ stamp dest shake answer connected sender is same answers. fits;
+      shaken = λ next peer origin answer emissions differs drops unsettled is. fits;
+      linked = λ peer origin emissions unsettled is. fits;
     })
 
     act-round : (act : Act) → RoundTripFits (on_act w s act).after.rtt
@@ -314,11 +326,10 @@ module _ {C : Type 0} (w : Ways C) where
     act-round (Recv room) = recv_as-round room s.kind
     act-round (SendMessage ttl order bytes) = send_message_as-round ttl order bytes s.kind
     act-round (RecvMessage room) = recv_message_as-round room s.kind
-    act-round Pack = pack-round s.phase
+    act-round Pack = pack-round (link_of s.phase)
     act-round Tick = tick-round s.phase
-    act-round Close = fits
-    act-round Measure = fits
     act-round (Arrive from bytes) = read-round from bytes
+    act-round _ = fits
 
   pub step-round : (s : State C) (event : Event) → RoundTripFits s.rtt → RoundTripFits (step w s event).after.rtt
   unfolding step

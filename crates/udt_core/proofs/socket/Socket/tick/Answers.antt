@@ -1,18 +1,20 @@
 use Rattle.std.proofs.Common.{◌≡◌, List, ◌++◌, ◌∙◌, sym, ap, refl}
 use Rattle.std.proofs.lemmas.List.{map-append}
-use Rattle.udt_model.specs.declared.answers.Phase.TheVariants as phase
+use Rattle.udt_model.specs.Phases as phase
 use Rattle.udt_model.specs.Events.{at_moment}
 use Rattle.udt_model.specs.ReceiveReports.{ack_outcome, nak_report}
 use Rattle.udt_model.specs.State.{State, Emission}
 use Rattle.udt_model.specs.Ticks.{emitted_by_ack, nak_of, after_reports, emitted_by_reports, exp_outcome, emitted_by_exp}
 use Rattle.udt_core.specs.Emitted.{datagrams_of}
+use Rattle.udt_core.specs.Phases.{phase_of}
+use Rattle.udt_core.specs.declared.phase.Phase.{Phase as CodePhase}
 use Rattle.udt_core.proofs.TickLemmas.{exp-reports, emitted-reports, nak-reported, tick-connected, tick-connected-outs}
 use Rattle.udt_core.proofs.socket.Socket.tick.Goals as goal
 use Rattle.udt_core.proofs.socket.Socket.tick.Goals.{After-tick_exp}
 
 -- the socket is connected
 connected : (g : _) (c : After-tick_exp g) → (at_moment c.args.self.now c.args.now).phase ≡ phase.Connected
-connected g c = ap (λ (s : State g.row.C.Denot). s.phase) (sym c.at.ensures) ∙ ap (λ (s : State g.row.C.Denot). s.phase) (sym c.self.view_is) ∙ c.in-Connected.is
+connected g c = ap (λ (s : State g.row.C.Denot). s.phase) (sym c.at.ensures) ∙ ap (λ (s : State g.row.C.Denot). s.phase) (sym c.self.view_is) ∙ ap (λ (p : CodePhase). phase_of p) c.in-Connected.is
 
 -- both timers of the receiving half were looked at
 reported : (g : _) (c : After-tick_exp g) → c.tick_nak.new.self ≡ after_reports (at_moment c.args.self.now c.args.now)

@@ -1,22 +1,29 @@
-use Rattle.std.proofs.Common.{length, refl, ◌∙◌, arith, append_assoc}
-use Rattle.std.proofs.lemmas.List.{map-set, length-map}
-use Rattle.std.proofs.lemmas.Option.{slice_get-map, slice_get_read}
-use Rattle.udt_script.specs.CodeLines.{datagram_of}
-use Rattle.udt_world.specs.Views.{sight_of}
+use Rattle.udt_world.specs.Views.{act_in}
+use Rattle.udt_world.proofs.WiredLemmas.{event-endpoint, event-room, entered-wired, entered-stands}
 use Rattle.udt_world.proofs.network.Network.event.Goals as goal
 
--- the socket answered and left what the step says, and what it emitted was kept and printed
-pub returns-clause-ok : goal.returns-clause-ok
-returns-clause-ok g c =
-    let network = c.args.self.now in
-    let socket = c.index_mut-socket.result.now in
-    let read = slice_get_read network.sockets.items (length network.sockets.items) c.args.place socket refl (omega (arith, network.sockets.ok.0, c.requires)) c.index_mut-socket.ensures.value in
-    let emitted = c.in_ok-reply.ensures.outs in
-    let count = length-map network.datagrams.items datagram_of in
-    record {
-      sight = sight_of socket;
-      found = rw (slice_get-map sight_of network.sockets.items c.args.place, read) refl;
-      sockets = map-set sight_of network.sockets.items c.args.place (record socket { socket = c.happen.new.socket }) ∙ rw c.in_ok-reply.ensures.next refl;
-      datagrams = rw emitted at c.in_ok-keep_emitted.ensures.datagrams;
-      text = c.in_ok-keep_emitted.ensures.text ∙ rw (c.in_ok-print_reply.ensures.ok, c.deref.ensures.value, c.in_ok-reply.ensures.value, emitted, count, network.datagrams.ok.0, append_assoc) refl;
-    }
+-- the endpoint of the socket is there, and has room
+pub enter-requires-clause-endpoint : goal.enter-requires-clause-endpoint
+enter-requires-clause-endpoint g c =
+    let e = c.in_ok-reply.ensures.ok in
+    event-endpoint g.C.Control.ways c.args.self.now c.react.new.self c.args.place c.args.now (act_in c.args.act.now) e.sight
+    c.requires.wired c.requires.may e.found e.sockets c.in_ok-reply.ensures.kept
+
+pub enter-requires-clause-room : goal.enter-requires-clause-room
+enter-requires-clause-room g c =
+    let e = c.in_ok-reply.ensures.ok in
+    event-room g.C.Control.ways c.args.self.now c.react.new.self c.args.place c.args.now (act_in c.args.act.now) e.sight
+    c.requires.wired c.requires.may e.found e.sockets c.in_ok-reply.ensures.kept
+
+-- so they fit together once it was told
+pub returns-clause-wired : goal.returns-clause-wired
+returns-clause-wired g c =
+    let e = c.in_ok-reply.ensures.ok in
+    entered-wired g.C.Control.ways c.args.self.now c.react.new.self c.args.place c.args.now (act_in c.args.act.now) e.sight
+    c.requires.wired c.requires.may e.found e.sockets c.in_ok-reply.ensures.kept c.enter.new.self c.enter.ensures.kept c.enter.ensures.told
+
+pub returns-clause-stands : goal.returns-clause-stands
+returns-clause-stands g c =
+    let e = c.in_ok-reply.ensures.ok in
+    entered-stands g.C.Control.ways c.args.self.now c.react.new.self c.args.place c.args.now (act_in c.args.act.now) e.sight
+    c.requires.wired c.requires.may e.found e.sockets c.in_ok-reply.ensures.kept c.enter.new.self c.enter.ensures.kept c.enter.ensures.told

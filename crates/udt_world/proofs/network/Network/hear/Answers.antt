@@ -1,24 +1,33 @@
-use Rattle.std.proofs.Common.{◌≡◌, length, refl, sym, ◌∙◌, arith}
-use Rattle.std.specs.Prelude.{slice_get, Some}
-use Rattle.std.proofs.lemmas.List.{map-set}
-use Rattle.std.proofs.lemmas.Option.{same_Some, slice_get-map, slice_get_read}
+use Rattle.std.proofs.Common.{map, arith}
+use Rattle.std.proofs.lemmas.List.{length-map}
+use Rattle.udt_model.specs.Events.{Arrive}
 use Rattle.udt_script.specs.CodeLines.{datagram_of}
-use Rattle.udt_world.specs.Views.{sight_of, view_of}
+use Rattle.udt_world.proofs.PushLemmas.{item_at}
+use Rattle.udt_world.proofs.WiredLemmas.{event-endpoint, event-room, entered-wired}
 use Rattle.udt_world.proofs.network.Network.hear.Goals as goal
 
--- the socket left what the step says of the datagram, and what it emitted was kept
-pub returns : goal.returns
-returns g c = λ datagram there.
+-- the endpoint of the socket is there, and has room
+pub enter-requires-clause-endpoint : goal.enter-requires-clause-endpoint
+enter-requires-clause-endpoint g c =
     let network = c.args.self.now in
-    let socket = c.index_mut-socket.result.now in
-    let emitted = c.index-emitted.result.now in
-    let read = slice_get_read network.sockets.items (length network.sockets.items) c.args.place socket refl (omega (arith, network.sockets.ok.0, c.requires.place)) c.index_mut-socket.ensures.value in
-    let seen = slice_get_read network.datagrams.items (length network.datagrams.items) c.args.number emitted refl (omega (arith, network.datagrams.ok.0, c.requires.number)) c.index-emitted.ensures in
-    let at : slice_get (view_of network).datagrams c.args.number ≡ Some (datagram_of emitted) = rw (slice_get-map datagram_of network.datagrams.items c.args.number, seen) refl in
-    let same : datagram ≡ datagram_of emitted = same_Some _ _ (sym there ∙ at) in
-    rw same (record {
-      sight = sight_of socket;
-      found = rw (slice_get-map sight_of network.sockets.items c.args.place, read) refl;
-      sockets = map-set sight_of network.sockets.items c.args.place (record socket { socket = c.arrive.new.self }) ∙ rw (c.arrive.ensures.after, c.deref.ensures.value) refl;
-      datagrams = rw (c.arrive.ensures.outs, c.deref.ensures.value) at c.in_ok-keep.ensures;
-    })
+    let d = item_at (map datagram_of network.datagrams.items) c.args.number (omega (arith, length-map network.datagrams.items datagram_of, network.datagrams.ok.0, c.requires.number)) in
+    let e = c.in_ok-take_in.ensures.moves d.0 d.1 in
+    event-endpoint g.C.Control.ways network c.take_in.new.self c.args.place c.args.now (Arrive d.0.from d.0.bytes) e.sight
+    c.requires.wired (c.requires.may d.0 d.1) e.found e.sockets c.in_ok-take_in.ensures.kept
+
+pub enter-requires-clause-room : goal.enter-requires-clause-room
+enter-requires-clause-room g c =
+    let network = c.args.self.now in
+    let d = item_at (map datagram_of network.datagrams.items) c.args.number (omega (arith, length-map network.datagrams.items datagram_of, network.datagrams.ok.0, c.requires.number)) in
+    let e = c.in_ok-take_in.ensures.moves d.0 d.1 in
+    event-room g.C.Control.ways network c.take_in.new.self c.args.place c.args.now (Arrive d.0.from d.0.bytes) e.sight
+    c.requires.wired (c.requires.may d.0 d.1) e.found e.sockets c.in_ok-take_in.ensures.kept
+
+-- so they fit together once it was told
+pub returns-clause-wired : goal.returns-clause-wired
+returns-clause-wired g c =
+    let network = c.args.self.now in
+    let d = item_at (map datagram_of network.datagrams.items) c.args.number (omega (arith, length-map network.datagrams.items datagram_of, network.datagrams.ok.0, c.requires.number)) in
+    let e = c.in_ok-take_in.ensures.moves d.0 d.1 in
+    entered-wired g.C.Control.ways network c.take_in.new.self c.args.place c.args.now (Arrive d.0.from d.0.bytes) e.sight
+    c.requires.wired (c.requires.may d.0 d.1) e.found e.sockets c.in_ok-take_in.ensures.kept c.enter.new.self c.enter.ensures.kept c.enter.ensures.told

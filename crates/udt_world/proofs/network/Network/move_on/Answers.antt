@@ -1,18 +1,23 @@
-use Rattle.std.proofs.Common.{length, refl, ◌∙◌, arith}
-use Rattle.std.proofs.lemmas.List.{map-set}
-use Rattle.std.proofs.lemmas.Option.{slice_get-map, slice_get_read}
-use Rattle.udt_world.specs.Views.{sight_of}
+use Rattle.udt_world.specs.Views.{act_in}
+use Rattle.udt_world.proofs.WiredLemmas.{event-endpoint, event-room, entered-wired}
 use Rattle.udt_world.proofs.network.Network.move_on.Goals as goal
 
--- the socket left what the step says, and what it emitted was kept
-pub returns : goal.returns
-returns g c =
-    let network = c.args.self.now in
-    let socket = c.index_mut-socket.result.now in
-    let read = slice_get_read network.sockets.items (length network.sockets.items) c.args.place socket refl (omega (arith, network.sockets.ok.0, c.requires)) c.index_mut-socket.ensures.value in
-    record {
-      sight = sight_of socket;
-      found = rw (slice_get-map sight_of network.sockets.items c.args.place, read) refl;
-      sockets = map-set sight_of network.sockets.items c.args.place (record socket { socket = c.happen.new.socket }) ∙ rw c.in_ok-happen.ensures.next refl;
-      datagrams = rw c.in_ok-happen.ensures.outs at c.in_ok-keep.ensures;
-    }
+-- the endpoint of the socket is there, and has room
+pub enter-requires-clause-endpoint : goal.enter-requires-clause-endpoint
+enter-requires-clause-endpoint g c =
+    let e = c.in_ok-stir.ensures.moves in
+    event-endpoint g.C.Control.ways c.args.self.now c.stir.new.self c.args.place c.args.now (act_in c.args.act.now) e.sight
+    c.requires.wired c.requires.may e.found e.sockets c.in_ok-stir.ensures.kept
+
+pub enter-requires-clause-room : goal.enter-requires-clause-room
+enter-requires-clause-room g c =
+    let e = c.in_ok-stir.ensures.moves in
+    event-room g.C.Control.ways c.args.self.now c.stir.new.self c.args.place c.args.now (act_in c.args.act.now) e.sight
+    c.requires.wired c.requires.may e.found e.sockets c.in_ok-stir.ensures.kept
+
+-- so they fit together once it was told
+pub returns-clause-wired : goal.returns-clause-wired
+returns-clause-wired g c =
+    let e = c.in_ok-stir.ensures.moves in
+    entered-wired g.C.Control.ways c.args.self.now c.stir.new.self c.args.place c.args.now (act_in c.args.act.now) e.sight
+    c.requires.wired c.requires.may e.found e.sockets c.in_ok-stir.ensures.kept c.enter.new.self c.enter.ensures.kept c.enter.ensures.told

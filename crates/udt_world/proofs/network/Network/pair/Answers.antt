@@ -1,27 +1,71 @@
-use Rattle.std.proofs.Common.{◌≡◌, true, List, ◌++◌, ◌∷◌, [], length, refl, ap, ◌∙◌, sym, arith}
-use Rattle.std.proofs.Math.Seq.{take-length}
-use Rattle.udt_model.specs.Script.{may_pair}
+use Rattle.std.proofs.Common.{◌+◌, ◌≤◌, refl, ap, ◌∙◌, sym, arith}
+use Rattle.std.proofs.lemmas.List.{length-map}
+use Rattle.std.specs.Prelude.{vec_len}
+use Rattle.udt_model.specs.declared.limits.TheConstants.{MOST_SOCKETS}
+use Rattle.udt_model.specs.Network.{first_host, second_host}
 use Rattle.udt_script.specs.CodeLines.{pairing_of}
-use Rattle.udt_world.specs.declared.network.ScriptSocket.{ScriptSocket}
-use Rattle.udt_world.proofs.CallLemmas.{paired_shown, paired_text, count_same}
-use Rattle.udt_world.proofs.EventLemmas.{on_err_from}
+use Rattle.udt_world.specs.declared.network.Network.{Network}
+use Rattle.udt_world.specs.Views.{sight_of, view_of}
+use Rattle.udt_world.specs.Wiring.{new_sight, place_seen, sights_of}
+use Rattle.udt_world.proofs.NewLemmas.{added-seen, first-new, pair-does, second-new, unseen-more}
+use Rattle.udt_world.proofs.PromiseLemmas.{count-more}
 use Rattle.udt_world.proofs.network.Network.pair.Goals as goal
 
--- nothing is printed before both sockets stand
-pub returns-in_err-push-2-clause-err : goal.returns-in_err-push-2-clause-err
-returns-in_err-push-2-clause-err g c =
-    on_err_from c.from_residual-in_err-push-2.result (rw c.args.out.now.ok.0 (take-length c.args.out.now.items))
+-- the first socket is as one that is opened, under a new name
+pub add-requires-clause-new : goal.add-requires-clause-new
+add-requires-clause-new g c =
+    let p = c.args.pairing.now in
+    let network = c.endpoint_of-2.new.self in
+    let kept = c.in_ok-there.ensures.kept
+    ∙ ap (λ (m : Network _). record m { endpoints = network.endpoints }) c.in_ok-here.ensures.kept in
+    let count = ap (λ (m : Network _). vec_len m.sockets) kept in
+    let may = c.if-not-may_pair.false in
+    let room : vec_len c.args.self.now.sockets + 2 ≤ MOST_SOCKETS = c.may_pair.ensures.room may in
+    let sight = c.in_ok-named.ensures.sight ∙ ap (new_sight p.a.now first_host) c.in_ok-a.ensures in
+    first-new g.C.Control.ways network c.in_ok-there.ensures.wired c.in_ok-named.field-0 c.in_ok-here.here
+    (c.len-count.result + 1) (c.len-count.result + 2) c.in_ok-named.ensures.endpoint
+    (omega (arith, room, count)) (omega (arith, c.len-count.ensures, count)) (pairing_of p)
+    (c.in_ok-there.ensures.stands c.in_ok-here.here first_host c.in_ok-here.ensures.value) sight
+    (ap (λ (m : Network _). place_seen (sights_of m) p.a.now) kept ∙ c.may_pair.ensures.first may)
+    c.requires.first (omega (arith, c.len-count.ensures, count))
 
--- two more sockets stand at the end
+-- and the second, once the first was added
+pub add-requires-2-clause-new : goal.add-requires-2-clause-new
+add-requires-2-clause-new g c =
+    let p = c.args.pairing.now in
+    let old = c.args.self.now in
+    let mid = c.endpoint_of-2.new.self in
+    let network = c.add.new.self in
+    let kept = c.in_ok-there.ensures.kept
+    ∙ ap (λ (m : Network _). record m { endpoints = mid.endpoints }) c.in_ok-here.ensures.kept in
+    let may = c.if-not-may_pair.false in
+    let room : vec_len old.sockets + 2 ≤ MOST_SOCKETS = c.may_pair.ensures.room may in
+    let sight = c.in_ok-named.ensures.sight ∙ ap (new_sight p.a.now first_host) c.in_ok-a.ensures in
+    let seen = added-seen old network mid c.in_ok-named.field-0 _ kept c.in_ok-add.ensures.view sight in
+    let count = ap (λ (m : Network _). vec_len m.sockets) kept in
+    let more = count-more mid network c.in_ok-named.field-0 c.in_ok-add.ensures.view in
+    second-new g.C.Control.ways network c.in_ok-add.ensures.wired c.in_ok-named-2.field-0 c.in_ok-there.there
+    (c.len-count.result + 2) (c.len-count.result + 1) c.in_ok-named-2.ensures.endpoint
+    (omega (arith, room, count, more)) (omega (arith, c.len-count.ensures, count, more)) (pairing_of p)
+    (c.in_ok-add.ensures.stands c.in_ok-there.there second_host c.in_ok-there.ensures.value)
+    (c.in_ok-named-2.ensures.sight ∙ ap (new_sight p.b.now second_host) c.in_ok-b.ensures)
+    (unseen-more old network _ seen p.b.now (c.may_pair.ensures.second may) (c.may_pair.ensures.apart may))
+    c.requires.second (omega (arith, c.len-count.ensures, count, more))
+
+-- a line that makes a pair does so
 pub returns-clause-done : goal.returns-clause-done
 returns-clause-done g c = λ n shows.
-    let network = c.args.self.now in
-    let pairing = pairing_of c.args.pairing.now in
-    let may : true ≡ may_pair n pairing = sym c.if-not-may_pair.false ∙ c.may_pair.ensures.value n shows in
-    let grown = c.in_ok-push-2.ensures.items ∙ ap (λ (s : List (ScriptSocket g.row.C.Denot)). s ++ c.in_ok-b.b ∷ []) c.in_ok-push.ensures.items in
-    let count : c.len-count.result ≡ length network.sockets.items = omega (arith, c.len-count.ensures, network.sockets.ok.0) in
-    let same : c.len-count.result ≡ length n.sockets = count ∙ sym (count_same g.C.Control.ways n network shows) in
-    rw (← may) (
-      paired_shown g.C.Control.ways n network (record network { sockets = c.push-2.new.self }) pairing c.in_ok-a.a c.in_ok-b.b c.len-count.result shows count c.in_ok-a.ensures c.in_ok-b.ensures grown refl,
-      c.in_ok-print_pair.ensures.ok ∙ rw (paired_text g.C.Control.ways n pairing, same) refl,
-    )
+    let p = c.args.pairing.now in
+    let old = c.args.self.now in
+    let mid = c.endpoint_of-2.new.self in
+    let first = c.add.new.self in
+    let kept = c.in_ok-there.ensures.kept
+    ∙ ap (λ (m : Network _). record m { endpoints = mid.endpoints }) c.in_ok-here.ensures.kept in
+    pair-does g.C.Control.ways n (pairing_of p) (view_of old) (view_of first) (view_of c.add-2.new.self) c.len-count.result
+    c.args.out.now.items c.print_pair.new.out.items shows (sym (c.may_pair.ensures.may n shows) ∙ c.if-not-may_pair.false)
+    (omega (arith, c.len-count.ensures, old.sockets.ok.0, length-map old.sockets.items sight_of))
+    (added-seen old first mid c.in_ok-named.field-0 _ kept c.in_ok-add.ensures.view
+    (c.in_ok-named.ensures.sight ∙ ap (new_sight p.a.now first_host) c.in_ok-a.ensures))
+    (added-seen first c.add-2.new.self first c.in_ok-named-2.field-0 _ refl c.in_ok-add-2.ensures.view
+    (c.in_ok-named-2.ensures.sight ∙ ap (new_sight p.b.now second_host) c.in_ok-b.ensures))
+    c.in_ok-print_pair.ensures.ok

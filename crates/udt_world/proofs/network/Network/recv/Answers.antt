@@ -1,8 +1,11 @@
-use Rattle.std.proofs.Common.{length, map, refl, sym, ◌∙◌, arith}
+use Rattle.std.specs.Prelude.{slice_set}
+use Rattle.std.proofs.Common.{length, map, refl, ap, sym, ◌∙◌, arith}
 use Rattle.std.proofs.lemmas.List.{append-nil, map-set}
 use Rattle.std.proofs.lemmas.Option.{slice_get-map, slice_get_read}
+use Rattle.udt_model.specs.Events.{event, Recv}
 use Rattle.udt_script.specs.CodeLines.{datagram_of}
 use Rattle.udt_world.specs.Views.{sight_of}
+use Rattle.udt_world.proofs.AlikeLemmas.{alike-wired, quiet-same, recv-keeps}
 use Rattle.udt_world.proofs.EventLemmas.{recv_outs}
 use Rattle.udt_world.proofs.network.Network.recv.Goals as goal
 
@@ -11,13 +14,25 @@ pub returns-clause-value : goal.returns-clause-value
 returns-clause-value g c =
     let network = c.args.self.now in
     let socket = c.index_mut.result.now in
-    let read = slice_get_read network.sockets.items (length network.sockets.items) c.args.place socket refl (omega (arith, network.sockets.ok.0, c.requires)) c.index_mut.ensures.value in
+    let read = slice_get_read network.sockets.items (length network.sockets.items) c.args.place socket refl (omega (arith, network.sockets.ok.0, c.requires.place)) c.index_mut.ensures.value in
     record {
       moves = record {
         sight = sight_of socket;
+        hosts = refl;
         found = rw (slice_get-map sight_of network.sockets.items c.args.place, read) refl;
-        sockets = map-set sight_of network.sockets.items c.args.place (record socket { socket = c.recv.new.self }) ∙ rw c.recv.ensures.after refl;
+        sockets = map-set sight_of network.sockets.items c.args.place (record socket { socket = c.recv.new.self })
+            ∙ ap (λ (s : _). slice_set (map sight_of network.sockets.items) c.args.place s)
+            (quiet-same g.C.Control.ways (sight_of socket) (event c.args.now (Recv (length c.args.into.now))) c.recv.new.self _ c.recv.ensures.after c.recv.ensures.reply refl refl);
         datagrams = rw (recv_outs g.C.Control.ways socket.socket c.args.now (length c.args.into.now)) (sym (append-nil (map datagram_of network.datagrams.items)));
       };
       reply_is = c.recv.ensures.reply;
     }
+
+-- and what an endpoint may know of it stayed
+pub returns-clause-wired : goal.returns-clause-wired
+returns-clause-wired g c =
+    let network = c.args.self.now in
+    let socket = c.index_mut.result.now in
+    let read = slice_get_read network.sockets.items (length network.sockets.items) c.args.place socket refl (omega (arith, network.sockets.ok.0, c.requires.place)) c.index_mut.ensures.value in
+    alike-wired network _ c.args.place socket c.recv.new.self c.requires.wired read
+    (rw c.recv.ensures.after (recv-keeps g.C.Control.ways socket.socket c.args.now (length c.args.into.now))) refl (map-set sight_of network.sockets.items c.args.place (record socket { socket = c.recv.new.self })) refl refl refl refl

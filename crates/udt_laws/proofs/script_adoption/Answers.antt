@@ -1,0 +1,7 @@
+-- The law is proved beside the lemmas on which it stands.
+use Rattle.udt_laws.proofs.honest.ScriptPeers.{script_adoption}
+use Rattle.udt_laws.proofs.scripts.ScriptLawful.{script_lawful}
+use Rattle.udt_laws.proofs.script_adoption.Goals as goal
+
+pub returns : goal.returns
+returns g c = script_adoption g.C.Control.ways (script_lawful g.C.Control.ways)
